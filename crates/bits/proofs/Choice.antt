@@ -1,0 +1,18 @@
+-- What holds of a choice, and the tests that a branch of the code leaves.
+use mathlib.Core.Path.{_≡_, refl}
+use mathlib.Core.Bool.{Bool, true, false}
+use borrow.Author.Tests.{lt-ltb, le-ltb, le-leb, lt-leb, eq-eqb, ne-eqb}
+use Rattle.bits.specs.Choice.{pick}
+
+-- a test of the rules, from the fact that the code has
+pub ruleset tests = (lt-ltb, le-ltb, le-leb, lt-leb, eq-eqb, ne-eqb)
+
+-- two choices by one test are equal where their sides are
+pub pick-cong {ℓ} : {A : Type ℓ} (t : Bool) {a b c d : A} → (t ≡ true → a ≡ c) → (t ≡ false → b ≡ d) → pick t a b ≡ pick t c d
+pick-cong true f g = f refl
+pick-cong false f g = g refl
+
+-- what holds of both sides holds of the choice
+pub pick-elim {ℓ κ} : {A : Type ℓ} (P : A → Type κ) (t : Bool) {a b : A} → (t ≡ true → P a) → (t ≡ false → P b) → P (pick t a b)
+pick-elim P true f g = f refl
+pick-elim P false f g = g refl

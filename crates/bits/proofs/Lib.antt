@@ -1,0 +1,6 @@
+pub mod Choice
+pub mod Numbers
+pub mod Places
+pub mod Octets
+pub mod Looking
+pub mod Putting

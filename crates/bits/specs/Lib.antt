@@ -1,0 +1,4 @@
+pub mod Choice
+pub mod Bits
+pub mod Window
+pub mod Sink

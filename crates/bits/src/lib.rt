@@ -1,0 +1,120 @@
+ghost use mathlib.Core.Path.{_≡_};
+ghost use Prim.Native.Nat.{_+_, _-_, _*_, _/_, _%_, _^_, _≤_, _<_};
+ghost use lib.ListN.{length, getD, drop};
+ghost use Rattle.bits.specs.Bits.{bitsN, bitsOf, num, placeAfter, octetsBefore, octetsTo};
+ghost use Rattle.bits.specs.Window.{four, Look};
+ghost use Rattle.bits.specs.Sink.{written, InHand, Put, Sealed};
+
+// A place in a message: how many bits stand ahead of it.
+pub struct BitPlace(pub usize);
+
+// A number of whole octets.
+pub struct OctetCount(pub usize);
+
+// The place where so many octets end.
+pub fn place_after(n: OctetCount) -> BitPlace
+    requires { ⌜ n .0 < 2 ^ 60 ⌝ }
+    ensures { λ r. ⌜ r .0 ≡ placeAfter (n .0) ⌝ }
+{
+    BitPlace(8 * n.0)
+}
+
+// The whole octets ahead of a place.
+pub fn octets_before(p: BitPlace) -> OctetCount
+    ensures { λ r. ⌜ r .0 ≡ octetsBefore (p .0) ⌝ }
+{
+    OctetCount(p.0 / 8)
+}
+
+// The octets that reach a place: as many as begin ahead of it.
+pub fn octets_to(p: BitPlace) -> OctetCount
+    requires { ⌜ p .0 < 2 ^ 63 ⌝ }
+    ensures { λ r. ⌜ r .0 ≡ octetsTo (p .0) ⌝ }
+{
+    octets_before(BitPlace(p.0 + 7))
+}
+
+// An octet as a wider number, with its bound.
+fn wide(x: u8) -> u32
+    ensures { λ r. ⌜ (r ≡ x) × (r < 256) ⌝ }
+{
+    x as u32
+}
+
+// The octet at `i`, 0 past the end.
+fn octet(s: &[u8], i: usize) -> u32
+    ensures { λ r. ⌜ (r ≡ getD (now (s .entry)) i 0) × (r < 256) ⌝ }
+{
+    if i < s.len() { s[i] as u32 } else { 0 }
+}
+
+// The four octets at `i` as one number, 0 past the end. Away from the end it is one load.
+fn window(s: &[u8], i: usize) -> u32
+    requires { ⌜ i ≤ length (now s) ⌝ }
+    ensures { λ r. ⌜ r ≡ num (bitsOf (four (now (s .entry)) i)) ⌝ }
+{
+    if i + 3 < s.len() {
+        return wide(s[i]) * 16777216
+            + wide(s[i + 1]) * 65536
+            + wide(s[i + 2]) * 256
+            + wide(s[i + 3]);
+    }
+    octet(s, i) * 16777216 + octet(s, i + 1) * 65536 + octet(s, i + 2) * 256 + octet(s, i + 3)
+}
+
+// The 24 bits at a place, whatever stands past the end.
+pub fn look(s: &[u8], at: BitPlace) -> u32
+    requires { ⌜ at .0 ≤ placeAfter (length (now s)) ⌝ }
+    ensures { λ r. ⌜ Look (drop (at .0) (bitsOf (now (s .entry)))) r ⌝ }
+{
+    let i = octets_before(at).0;
+    (window(s, i) >> (8 - at.0 % 8)) % 16777216
+}
+
+// The `w` bits that stand `o` bits into 24.
+pub fn part(x: u32, o: u32, w: u32) -> u32
+    requires { ⌜ (x < 16777216) × (1 ≤ o + w) × (o + w ≤ 24) ⌝ }
+    ensures { λ r. ⌜ (r ≡ x / 2 ^ (24 - (o + w)) % 2 ^ w) × (r < 2 ^ w) ⌝ }
+{
+    (x >> (24 - (o + w))) & ((1u32 << w) - 1)
+}
+
+// Where a row of bits that is being written has come to: whole octets, and `n` bits in hand that spell `acc`.
+pub struct Sink {
+    pub octets: OctetCount,
+    pub n: u32,
+    pub acc: u32,
+}
+
+// Writes the `w` bits that spell `v`.
+pub fn put(buf: &mut [u8], s: Sink, w: u32, v: u32) -> Sink
+    requires { ⌜ InHand (s .n) (s .acc) ⌝ }
+    requires { ⌜ (w ≤ 24) × (v < 2 ^ w) × (placeAfter (s .octets .0) + s .n + w ≤ placeAfter (length (now buf))) ⌝ }
+    ensures { λ r. ⌜ Put (written (now (buf .entry)) (s .octets .0) (s .n) (s .acc)) (bitsN w v) (placeAfter (s .octets .0) + s .n + w) (now (buf .entry)) (now (buf .exit)) (r .octets .0) (r .n) (r .acc) ⌝ }
+{
+    let mut at = s.octets.0;
+    let mut n = s.n + w;
+    let mut acc = (s.acc << w) + v;
+    while n >= 8 {
+        n -= 8;
+        buf[at] = (acc >> n) as u8;
+        acc = acc & ((1u32 << n) - 1);
+        at += 1;
+    }
+    Sink {
+        octets: OctetCount(at),
+        n,
+        acc,
+    }
+}
+
+// Writes zeros to the octet's end, and an octet 0. It answers how many octets there are.
+pub fn seal(buf: &mut [u8], s: Sink) -> OctetCount
+    requires { ⌜ InHand (s .n) (s .acc) ⌝ }
+    requires { ⌜ octetsTo (placeAfter (s .octets .0) + s .n) + 1 ≤ length (now buf) ⌝ }
+    ensures { λ r. ⌜ Sealed (written (now (buf .entry)) (s .octets .0) (s .n) (s .acc)) (placeAfter (s .octets .0) + s .n) (now (buf .entry)) (now (buf .exit)) (r .0) ⌝ }
+{
+    let n = s.n;
+    let t = put(buf, s, (8 - n) % 8 + 8, 0);
+    t.octets
+}
