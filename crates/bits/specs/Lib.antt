@@ -1,4 +1,5 @@
 pub mod Choice
 pub mod Bits
+pub mod Outcome
 pub mod Window
 pub mod Sink
