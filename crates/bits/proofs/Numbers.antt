@@ -102,6 +102,12 @@ field-front o w p q h =
     let h₂ : w ≤ length (drop o p) = rw (length-drop o p) (omega arith) in
     rw (drop-append-le o p q h₁, take-append-le w (drop o p) q h₂)
 
+-- a field does not depend on what stands past its end
+pub field-take : (l : List Bool) (at w k : ℕ) → at + w ≤ k → k ≤ length l → field l at w ≡ field (take k l) at w
+field-take l at w k h m =
+    let n : at + w ≤ length (take k l) = rw (length-take-le k l m) h in
+    ap (λ (x : List Bool). field x at w) (sym (take-append-drop k l)) ∙ field-front at w (take k l) (drop k l) n
+
 -- what stands between a and c
 slot : (a b c : List Bool) → num (a ++ b ++ c) / 2 ^ length c % 2 ^ length b ≡ num b
 slot a b c = rw (num-append (a ++ b) c, high (num (a ++ b)) (length c) (num-lt c), num-append a b, low (num a) (length b) (num-lt b))

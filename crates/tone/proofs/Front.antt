@@ -1,0 +1,189 @@
+-- The front of a message is read exactly: the command, the song type and the title.
+use Prim.Native.Nat.{ℕ, zero, suc, _+_, _-_, _*_, _/_, _%_, _^_, _≤_, _<_}
+use native.Mathlib.Omega.{arith}
+use mathlib.Core.Path.{_≡_, refl, sym, ap, ap₂, subst, _∙_}
+use mathlib.Core.Bool.{Bool, true, false, _||_}
+use mathlib.Core.List.{List, [], _∷_, _++_, append-assoc, append-nil}
+use mathlib.Core.Logic.{_⊎_, inl, inr, ⊎-elim}
+use lib.ListN.{length, getD, drop, take, length-append, length-drop, length-take, take-append-drop}
+use lib.Seq.{take-at, drop-at, length-take-le}
+use lib.Dec.{ltb, eqb, lit<}
+use lib.Pow.{pow-pos}
+use borrow.Author.Tests.{eq-eqb, ne-eqb, eqb-true, eqb-false}
+use Rattle.bits.specs.Choice.{pick}
+use Rattle.bits.specs.Bits.{num, bitsN, bitsOf, field, Octets}
+use Rattle.bits.proofs.Choice.{pick-elim}
+use Rattle.bits.proofs.Numbers.{length-bits, bits-append}
+use Rattle.bits.proofs.Octets.{bitsOf-append, octets-append, octets-take, octets-drop}
+use Rattle.tone.specs.Tone.{perCharacter, characters, Titled}
+use Rattle.tone.specs.Writing.{programming, unicodePart, sound, commandLength, filledPart, commandBits, titleBits}
+use Rattle.tone.specs.Reading.{Reader, _>>=_, _>>_, return, element, anyOf, part, fillerBit, lengthOctet, whetherUnicode, command, songType, allowedCharacter, character, text, title}
+use Rattle.tone.proofs.Exact.{Exact, Fine, exact-as, return-exact, element-exact, then-exact, fixed-exact}
+
+or-true : (a b : Bool) → (a || b) ≡ true → (a ≡ true) ⊎ (b ≡ true)
+or-true true b h = inl refl
+or-true false b h = inr h
+
+-- an octet that is 2 or 3
+two-or-three : (n : ℕ) → (eqb n 2 || eqb n 3) ≡ true → (n ≡ 3 → ⊥) → n ≡ 2
+two-or-three n h k = ⊎-elim (λ w. eqb-true n 2 w) (λ w. absurd (k (eqb-true n 3 w))) (or-true (eqb n 2) (eqb n 3) h)
+
+-- a song type that is 1 or 2
+pub one-or-two : (n : ℕ) → (eqb n 1 || eqb n 2) ≡ true → (1 ≤ n) × (n ≤ 2)
+one-or-two n h = ⊎-elim (λ w. let e = eqb-true n 1 w in (omega arith, omega arith)) (λ w. let e = eqb-true n 2 w in (omega arith, omega arith)) (or-true (eqb n 1) (eqb n 2) h)
+
+-- ---- the command
+
+length-three : (u : Bool) → commandLength u ≡ 3 → u ≡ true
+length-three true h = refl
+length-three false h = let z : ⊥ = omega arith in absurd z
+
+length-two : (u : Bool) → commandLength u ≡ 2 → u ≡ false
+length-two false h = refl
+length-two true h = let z : ⊥ = omega arith in absurd z
+
+unicode-exact : (n : ℕ) → (eqb n 2 || eqb n 3) ≡ true → Exact (whetherUnicode n) (λ u. commandLength u ≡ n) (λ _ u. pick u (filledPart unicodePart) [])
+unfolding whetherUnicode
+unicode-exact n hn =
+    pick-elim (λ (r : Reader Bool). Exact r (λ u. commandLength u ≡ n) (λ _ u. pick u (filledPart unicodePart) [])) (eqb n 3)
+    (λ h. let e : n ≡ 3 = eqb-true n 3 h in
+    exact-as (fixed-exact 7 unicodePart 3 (lit< tt) (fixed-exact 1 0 8 (lit< tt) (return-exact true)))
+    (λ u k. rw (k, e) refl) (λ u k. length-three u (k ∙ e))
+    (λ at u k. rw (k, append-nil (bitsN 1 0)) refl))
+    (λ h. let e : n ≡ 2 = two-or-three n hn (eqb-false n 3 h) in
+    exact-as (return-exact false) (λ u k. rw (k, e) refl) (λ u k. length-two u (k ∙ e)) (λ at u k. rw k refl))
+
+commandLength-fine : (u : Bool) → Fine 8 (λ n. eqb n 2 || eqb n 3) (commandLength u)
+commandLength-fine true = (lit< tt, refl)
+commandLength-fine false = (lit< tt, refl)
+
+pub command-exact : Exact command (λ _. Unit {0}) (λ _ u. commandBits u)
+unfolding command commandBits
+command-exact =
+    exact-as
+    (then-exact commandLength {GC = λ _. Unit {0}} (element-exact 8 (λ n. eqb n 2 || eqb n 3) 3 2 (commandLength-fine false))
+    (λ n h. fixed-exact 7 programming 3 (lit< tt) (fixed-exact 1 0 8 (lit< tt)
+    (then-exact (λ (u : Bool). u) {GC = λ u. Unit {0} × (commandLength u ≡ n)} (unicode-exact n (h .1))
+    (λ u k. fixed-exact 7 sound 3 (lit< tt) (exact-as (return-exact u) (λ c e. ((tt, rw e k), e)) (λ c e. e .1) (λ at c e. refl)))
+    (λ u k. k .1))))
+    (λ u _. commandLength-fine u))
+    (λ u k. k) (λ u k. k)
+    (λ at u k. ap (λ (y : List Bool). bitsN 8 (commandLength u) ++ y)
+    (rw (append-nil (bitsN 7 sound)) (sym (append-assoc (bitsN 7 programming) (bitsN 1 0) (pick u (filledPart unicodePart) [] ++ bitsN 7 sound)))))
+
+-- ---- the title
+
+-- the octets of one character
+pub record Character (unicode : Bool) (c : List ℕ) : Type 0 where
+  pub octets : Octets c
+  pub size : length c ≡ perCharacter unicode
+
+-- the number that they are
+abbrev value : Bool → List ℕ → ℕ
+value true c = getD c 0 0 * 256 + getD c 1 0
+value false c = getD c 0 0
+
+one-octet : (c : List ℕ) → length c ≡ 1 → c ≡ getD c 0 0 ∷ []
+one-octet [] h = let z : ⊥ = omega arith in absurd z
+one-octet (x ∷ []) h = refl
+one-octet (x ∷ y ∷ c) h = let z : ⊥ = omega arith in absurd z
+
+two-octets : (c : List ℕ) → length c ≡ 2 → c ≡ getD c 0 0 ∷ getD c 1 0 ∷ []
+two-octets [] h = let z : ⊥ = omega arith in absurd z
+two-octets (x ∷ []) h = let z : ⊥ = omega arith in absurd z
+two-octets (x ∷ y ∷ []) h = refl
+two-octets (x ∷ y ∷ u ∷ c) h = let z : ⊥ = omega arith in absurd z
+
+octet-at : (c : List ℕ) (i : ℕ) → Octets c → getD c i 0 < 256
+octet-at [] i h = omega arith
+octet-at (x ∷ c) zero h = h .0
+octet-at (x ∷ c) (suc i) h = octet-at c i (h .1)
+
+pub character-exact : (unicode : Bool) → Exact (character unicode) (Character unicode) (λ _ c. bitsOf c)
+unfolding character
+character-exact false =
+    exact-as
+    (then-exact (value false) {GC = Character false} (element-exact 8 allowedCharacter 0 0 (lit< tt, refl))
+    (λ v h. exact-as (return-exact (v ∷ [])) (λ c e. rw e (record { octets = (h .0, tt); size = refl }, refl)) (λ c k. one-octet c (k .0 .size) ∙ ap (λ (x : ℕ). x ∷ []) (k .1)) (λ at c e. refl))
+    (λ c k. (octet-at c 0 (k .octets), refl)))
+    (λ c k. k) (λ c k. k)
+    (λ at c k. sym (ap bitsOf (one-octet c (k .size))))
+character-exact true =
+    exact-as
+    (then-exact (value true) {GC = Character true} (element-exact 16 allowedCharacter 0 0 (lit< tt, refl))
+    (λ v h. exact-as (return-exact (v / 256 ∷ v % 256 ∷ []))
+    (λ c e. rw e (record { octets = (omega (arith, h .0), (omega arith, tt)); size = refl }, omega arith))
+    (λ c k.
+    let h₀ = octet-at c 0 (k .0 .octets) in
+    let h₁ = octet-at c 1 (k .0 .octets) in
+    two-octets c (k .0 .size) ∙ ap₂ (λ (x y : ℕ). x ∷ y ∷ []) (omega (arith, k .1)) (omega (arith, k .1)))
+    (λ at c e. refl))
+    (λ c k. let h₀ = octet-at c 0 (k .octets) in let h₁ = octet-at c 1 (k .octets) in (omega arith, refl)))
+    (λ c k. k) (λ c k. k)
+    (λ at c k.
+    let h₀ = octet-at c 0 (k .octets) in
+    let h₁ = octet-at c 1 (k .octets) in
+    append-nil (bitsN 16 (getD c 0 0 * 256 + getD c 1 0)) ∙ bits-append 8 (getD c 0 0) 8 (getD c 1 0) h₀ h₁
+    ∙ ap (λ (y : List Bool). bitsN 8 (getD c 0 0) ++ y) (sym (append-nil (bitsN 8 (getD c 1 0)))) ∙ sym (ap bitsOf (two-octets c (k .size))))
+
+-- the octets of so many characters
+pub record Text (unicode : Bool) (n : ℕ) (t : List ℕ) : Type 0 where
+  pub octets : Octets t
+  pub size : length t ≡ perCharacter unicode * n
+
+no-text : (unicode : Bool) (t : List ℕ) → length t ≡ perCharacter unicode * 0 → t ≡ []
+no-text unicode [] h = refl
+no-text true (x ∷ t) h = let z : ⊥ = omega arith in absurd z
+no-text false (x ∷ t) h = let z : ⊥ = omega arith in absurd z
+
+zero-text : (unicode : Bool) → Text unicode 0 []
+zero-text true = record { octets = tt; size = refl }
+zero-text false = record { octets = tt; size = refl }
+
+text-size : (unicode : Bool) (n : ℕ) → perCharacter unicode * suc n ≡ perCharacter unicode + perCharacter unicode * n
+text-size true n = omega arith
+text-size false n = omega arith
+
+pub text-exact : (unicode : Bool) (n : ℕ) → Exact (text unicode n) (Text unicode n) (λ _ t. bitsOf t)
+unfolding text
+text-exact unicode zero = exact-as (return-exact []) (λ t e. rw e (zero-text unicode)) (λ t k. no-text unicode t (k .size)) (λ at t e. rw e refl)
+text-exact unicode (suc n) =
+    let s = text-size unicode n in
+    let k = perCharacter unicode in
+    exact-as
+    (then-exact (take k) {GC = Text unicode (suc n)} (character-exact unicode)
+    (λ c h. then-exact (drop k) {GC = λ t. Text unicode (suc n) t × (take k t ≡ c)} (text-exact unicode n)
+    (λ r g. exact-as (return-exact (c ++ r))
+    (λ t e. rw e ((record { octets = octets-append c r (h .octets) (g .octets); size = length-append c r ∙ ap₂ (λ (x y : ℕ). x + y) (h .size) (g .size) ∙ sym s }, take-at c r k (h .size)), drop-at c r k (h .size)))
+    (λ t f. sym (take-append-drop k t) ∙ ap₂ (λ (x y : List ℕ). x ++ y) (f .0 .1) (f .1))
+    (λ at t e. refl))
+    (λ t f. record { octets = octets-drop k t (f .0 .octets); size = length-drop k t ∙ omega (arith, f .0 .size) }))
+    (λ t f. record { octets = octets-take k t (f .octets); size = length-take-le k t (omega (arith, f .size)) }))
+    (λ t f. f) (λ t f. f)
+    (λ at t f. ap (λ (y : List Bool). bitsOf (take k t) ++ y) (append-nil (bitsOf (drop k t))) ∙ sym (bitsOf-append (take k t) (drop k t)) ∙ ap bitsOf (take-append-drop k t))
+
+text-characters : (unicode : Bool) (n : ℕ) (t : List ℕ) → length t ≡ perCharacter unicode * n → characters unicode t ≡ n
+text-characters true n t h = rw h (omega arith)
+text-characters false n t h = rw h (omega arith)
+
+pub title-exact : (song : ℕ) (unicode : Bool) → (eqb song 1 || eqb song 2) ≡ true → Exact (title song unicode) (Titled song unicode) (λ _ t. titleBits song unicode t)
+unfolding title titleBits
+title-exact song unicode hs = go (eqb song 1) refl
+  where
+    go : (b : Bool) → eqb song 1 ≡ b → Exact (pick b (anyOf 4 >>= text unicode) (return [])) (Titled song unicode) (λ _ t. pick b (bitsN 4 (characters unicode t) ++ bitsOf t) [])
+    go true h =
+        let e : song ≡ 1 = eqb-true song 1 h in
+        then-exact (characters unicode) {GC = Titled song unicode} (element-exact 4 (λ _. true) 0 0 (lit< tt, refl))
+        (λ n g. exact-as (text-exact unicode n)
+        (λ t k. let q = text-characters unicode n t (k .size) in
+        (record { octets = k .octets; whole = rw q (sym (k .size)); short = omega (arith, q, g .0); none = λ z. let y : ⊥ = omega arith in absurd y }, q))
+        (λ t k. record { octets = k .0 .octets; size = sym (k .0 .whole) ∙ ap (λ (x : ℕ). perCharacter unicode * x) (k .1) })
+        (λ at t k. refl))
+        (λ t k. (omega (arith, k .short), refl))
+    go false h =
+        let e : song ≡ 2 = ⊎-elim (λ w. absurd (eqb-false song 1 h (eqb-true song 1 w))) (λ w. eqb-true song 2 w) (or-true (eqb song 1) (eqb song 2) hs) in
+        exact-as (return-exact []) (λ t q. rw q (empty song unicode)) (λ t k. k .none e) (λ at t q. refl)
+      where
+        empty : (song : ℕ) (unicode : Bool) → Titled song unicode []
+        empty song true = record { octets = tt; whole = refl; short = omega arith; none = λ _. refl }
+        empty song false = record { octets = tt; whole = refl; short = omega arith; none = λ _. refl }

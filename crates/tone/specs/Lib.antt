@@ -1,0 +1,4 @@
+pub mod Table
+pub mod Tone
+pub mod Writing
+pub mod Reading
