@@ -1,0 +1,4 @@
+pub mod Duration
+pub mod Sounding
+pub mod Playing
+pub mod Listing
