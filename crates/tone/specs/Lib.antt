@@ -2,3 +2,4 @@ pub mod Table
 pub mod Tone
 pub mod Writing
 pub mod Reading
+pub mod Answers

@@ -8,7 +8,7 @@ use Rattle.bits.specs.Choice.{pick}
 use Rattle.bits.specs.Bits.{field, bitsOf, fillerTo, placeAfter}
 use Rattle.bits.specs.Outcome.{Outcome, accepted, refused}
 use Rattle.tone.specs.Table.{entry, width, allowed, isInstruction}
-use Rattle.tone.specs.Tone.{Pattern, Tone, specifier, pattern, noneKnown, recallable, learn}
+use Rattle.tone.specs.Tone.{Pattern, Tone, Front, specifier, pattern, noneKnown, recallable, learn}
 use Rattle.tone.specs.Writing.{programming, unicodePart, sound, mostOctets}
 
 -- what reading gives: a value and the place behind it, or a refusal: its number, where the faulty element begins and where it ends
@@ -102,11 +102,20 @@ text unicode (suc n) = do
 unfoldable pub title : ℕ → Bool → Reader (List ℕ)
 title song unicode = pick (eqb song 1) (anyOf 4 >>= text unicode) (return [])
 
--- ---- the patterns
-
 -- how many patterns follow: at least one
 abbrev pub patternCount : Reader ℕ
 patternCount = element 8 (leb 1) 5
+
+-- the command, the song type, the title and the pattern count
+unfoldable pub front : Reader Front
+front = do
+  unicode ← command
+  song ← songType
+  octets ← title song unicode
+  n ← patternCount
+  return (record { song = song; unicode = unicode; title = octets; count = n })
+
+-- ---- the patterns
 
 -- a header: its id is due, and what it recalls is known
 unfoldable pub headerDue : List Bool → Reader ℕ
@@ -149,14 +158,11 @@ endOctet = element 8 (eqb 0) 9
 -- a tone, through its own end octet; what follows that is not looked at
 unfoldable pub wholeTone : Reader Tone
 wholeTone = do
-  unicode ← command
-  song ← songType
-  octets ← title song unicode
-  n ← patternCount
-  ps ← patternsDue n noneKnown
+  f ← front
+  ps ← patternsDue (f .count) noneKnown
   fillerRun
   endOctet
-  return (record { song = song; unicode = unicode; title = octets; patterns = ps })
+  return (record { song = f .song; unicode = f .unicode; title = f .title; patterns = ps })
 
 -- nothing follows the end
 abbrev pub nothingMore : ℕ → Got Tone → Outcome Tone

@@ -14,11 +14,11 @@ use Rattle.bits.specs.Bits.{num, bitsN, bitsOf, field, fillerTo}
 use Rattle.bits.proofs.Choice.{pick-elim}
 use Rattle.bits.proofs.Numbers.{length-bits, zero-bits}
 use Rattle.tone.specs.Table.{entry, kind, payload, width, noteOf, durationOf, allowed, isInstruction, InTable, Instruction}
-use Rattle.tone.specs.Tone.{Pattern, Tone, specifier, loopOf, partOf, header, pattern, cells, noneKnown, recallable, learn, Titled, Instructions, Sound, Sequence, Formed}
-use Rattle.tone.specs.Writing.{commandBits, titleBits, entryBits, tableBits, songBits, endBits}
-use Rattle.tone.specs.Reading.{Got, got, bad, Reader, _>>=_, _>>_, return, element, songType, patternCount, headerDue, instructionDue, bodyDue, patternsDue, fillerRun, endOctet, command, title, wholeTone}
+use Rattle.tone.specs.Tone.{Pattern, Tone, Front, frontOf, specifier, loopOf, partOf, header, pattern, cells, noneKnown, recallable, learn, Instructions, Sound, Sequence, Formed}
+use Rattle.tone.specs.Writing.{entryBits, tableBits, frontBits, songBits, endBits}
+use Rattle.tone.specs.Reading.{Got, got, bad, Reader, _>>=_, _>>_, return, element, headerDue, instructionDue, bodyDue, patternsDue, fillerRun, endOctet, wholeTone}
 use Rattle.tone.proofs.Exact.{Exact, Fine, exact-as, return-exact, element-exact, then-exact, fixed-exact}
-use Rattle.tone.proofs.Front.{one-or-two, command-exact, title-exact}
+use Rattle.tone.proofs.Fronts.{front-exact}
 
 and-true : (a b : Bool) → (a && b) ≡ true → (a ≡ true) × (b ≡ true)
 and-true true b h = (refl, h)
@@ -257,45 +257,20 @@ ahead x y at =
     ap (λ (n : ℕ). x ++ (y ++ endBits n)) (add-assoc at (length x) (length y) ∙ ap (λ (n : ℕ). at + n) (sym (length-append x y)))
     ∙ sym (append-assoc x y (endBits (at + length (x ++ y))))
 
--- what stands from the title on
-abbrev fromTitle : ℕ → Tone → List Bool
-fromTitle at t = let b = titleBits (t .song) (t .unicode) (t .title) ++ (bitsN 8 (length (t .patterns)) ++ tableBits (cells (t .patterns))) in b ++ endBits (at + length b)
-
 pub whole-exact : Exact wholeTone Formed bitsFrom
 unfolding wholeTone songBits
 whole-exact =
     exact-as
-    (then-exact (λ (t : Tone). t .unicode) {GC = Formed} {bC = λ at t. bitsN 3 (t .song) ++ fromTitle (at + length (bitsN 3 (t .song))) t} command-exact
-    (λ u h₁. then-exact (λ (t : Tone). t .song) {GC = λ t. Formed t × (t .unicode ≡ u)} {bC = fromTitle} (element-exact 3 (λ n. eqb n 1 || eqb n 2) 4 1 (lit< tt, refl))
-    (λ s h₂. exact-as (then-exact (λ (t : Tone). t .title) {GC = λ t. (Formed t × (t .unicode ≡ u)) × (t .song ≡ s)} (title-exact s u (h₂ .1))
-    (λ o h₃. then-exact (λ (t : Tone). length (t .patterns)) {GC = λ t. ((Formed t × (t .unicode ≡ u)) × (t .song ≡ s)) × (t .title ≡ o)} (element-exact 8 (leb 1) 5 1 (lit< tt, refl))
-    (λ n h₄. then-exact (λ (t : Tone). t .patterns) {GC = λ t. (((Formed t × (t .unicode ≡ u)) × (t .song ≡ s)) × (t .title ≡ o)) × (length (t .patterns) ≡ n)} (patterns-exact n noneKnown)
-    (λ ps h₅. exact-as (ending-exact (record { song = s; unicode = u; title = o; patterns = ps }))
-    (λ t e. rw e (((((record { basicOrTemporary = one-or-two s (h₂ .1); titled = h₃; some = rw (h₅ .size) (leb-true 1 n (h₄ .1)); most = rw (h₅ .size) (omega (arith, h₄ .0)); sequence = h₅ .sequence }, refl), refl), refl), h₅ .size), refl))
-    (λ t f. made t (f .0 .0 .0 .0 .1) (f .0 .0 .0 .1) (f .0 .0 .1) (f .1))
+    (then-exact frontOf {GC = Formed} front-exact
+    (λ f h. then-exact (λ (t : Tone). t .patterns) {GC = λ t. Formed t × (frontOf t ≡ f)} (patterns-exact (f .count) noneKnown)
+    (λ ps g. exact-as (ending-exact (record { song = f .song; unicode = f .unicode; title = f .title; patterns = ps }))
+    (λ t e. rw e ((record { front = rw (g .size) h; sequence = g .sequence }, front-same f (g .size)), refl))
+    (λ t k. λ i. record { song = k .0 .1 i .song; unicode = k .0 .1 i .unicode; title = k .0 .1 i .title; patterns = k .1 i })
     (λ at t e. refl))
-    (λ t f. record { sequence = f .0 .0 .0 .0 .sequence; size = f .1 }))
-    (λ t f. (omega (arith, f .0 .0 .0 .most), le-leb 1 (length (t .patterns)) (f .0 .0 .0 .some))))
-    (λ t f. rw (← f .1, ← f .0 .1) (f .0 .0 .titled)))
-    (λ t f. f) (λ t f. f)
-    (λ at t f. rw (← f .1, ← f .0 .1) (
-    let x = titleBits (t .song) (t .unicode) (t .title) in
-    ap (λ (y : List Bool). x ++ y) (ahead (bitsN 8 (length (t .patterns))) (tableBits (cells (t .patterns))) (at + length x))
-    ∙ ahead x (bitsN 8 (length (t .patterns)) ++ tableBits (cells (t .patterns))) at)))
-    (λ t f. (omega (arith, f .0 .basicOrTemporary .1), song-fine (t .song) (f .0 .basicOrTemporary .0) (f .0 .basicOrTemporary .1))))
-    (λ t f. tt))
-    (λ t f. f) (λ t f. f)
-    (λ at t f.
-    let c = commandBits (t .unicode) in
-    let s = bitsN 3 (t .song) in
-    let x = titleBits (t .song) (t .unicode) (t .title) ++ (bitsN 8 (length (t .patterns)) ++ tableBits (cells (t .patterns))) in
-    ap (λ (y : List Bool). c ++ y) (ahead s x (at + length c)) ∙ ahead c (s ++ x) at)
+    (λ t k. record { sequence = k .0 .sequence; size = ap (λ (x : Front). x .count) (k .1) }))
+    (λ t k. k .front))
+    (λ t k. k) (λ t k. k)
+    (λ at t k. ahead (frontBits (frontOf t)) (tableBits (cells (t .patterns))) at)
   where
-    made : (t : Tone) {s : ℕ} {u : Bool} {o : List ℕ} {ps : List Pattern} → t .unicode ≡ u → t .song ≡ s → t .title ≡ o → t .patterns ≡ ps → t ≡ record { song = s; unicode = u; title = o; patterns = ps }
-    made t a b c d = λ i. record { song = b i; unicode = a i; title = c i; patterns = d i }
-
-    song-fine : (n : ℕ) → 1 ≤ n → n ≤ 2 → (eqb n 1 || eqb n 2) ≡ true
-    song-fine zero a b = let z : ⊥ = omega arith in absurd z
-    song-fine (suc zero) a b = refl
-    song-fine (suc (suc zero)) a b = refl
-    song-fine (suc (suc (suc n))) a b = let z : ⊥ = omega arith in absurd z
+    front-same : (f : Front) {n : ℕ} → n ≡ f .count → record { song = f .song; unicode = f .unicode; title = f .title; count = n } ≡ f
+    front-same f e = λ i. record { song = f .song; unicode = f .unicode; title = f .title; count = e i }

@@ -7,17 +7,17 @@ use mathlib.Core.List.{List, [], _∷_, _++_, append-assoc, append-nil}
 use mathlib.Core.Logic.{_⊎_, inl, inr, ⊎-elim}
 use lib.ListN.{length, getD, drop, take, length-append, length-drop, length-take, take-append-drop}
 use lib.Seq.{take-at, drop-at, length-take-le}
-use lib.Dec.{ltb, eqb, lit<}
+use lib.Dec.{leb, ltb, eqb, lit<}
 use lib.Pow.{pow-pos}
-use borrow.Author.Tests.{eq-eqb, ne-eqb, eqb-true, eqb-false}
+use borrow.Author.Tests.{eq-eqb, ne-eqb, eqb-true, eqb-false, leb-true, le-leb}
 use Rattle.bits.specs.Choice.{pick}
 use Rattle.bits.specs.Bits.{num, bitsN, bitsOf, field, Octets}
 use Rattle.bits.proofs.Choice.{pick-elim}
 use Rattle.bits.proofs.Numbers.{length-bits, bits-append}
 use Rattle.bits.proofs.Octets.{bitsOf-append, octets-append, octets-take, octets-drop}
-use Rattle.tone.specs.Tone.{perCharacter, characters, Titled}
-use Rattle.tone.specs.Writing.{programming, unicodePart, sound, commandLength, filledPart, commandBits, titleBits}
-use Rattle.tone.specs.Reading.{Reader, _>>=_, _>>_, return, element, anyOf, part, fillerBit, lengthOctet, whetherUnicode, command, songType, allowedCharacter, character, text, title}
+use Rattle.tone.specs.Tone.{Front, perCharacter, characters, Titled, FrontFormed}
+use Rattle.tone.specs.Writing.{programming, unicodePart, sound, commandLength, filledPart, commandBits, titleBits, frontBits}
+use Rattle.tone.specs.Reading.{Reader, _>>=_, _>>_, return, element, anyOf, part, fillerBit, lengthOctet, whetherUnicode, command, songType, allowedCharacter, character, text, title, patternCount, front}
 use Rattle.tone.proofs.Exact.{Exact, Fine, exact-as, return-exact, element-exact, then-exact, fixed-exact}
 
 or-true : (a b : Bool) → (a || b) ≡ true → (a ≡ true) ⊎ (b ≡ true)
@@ -187,3 +187,32 @@ title-exact song unicode hs = go (eqb song 1) refl
         empty : (song : ℕ) (unicode : Bool) → Titled song unicode []
         empty song true = record { octets = tt; whole = refl; short = omega arith; none = λ _. refl }
         empty song false = record { octets = tt; whole = refl; short = omega arith; none = λ _. refl }
+
+-- ---- the whole front
+
+song-fine : (n : ℕ) → 1 ≤ n → n ≤ 2 → (eqb n 1 || eqb n 2) ≡ true
+song-fine zero a b = let z : ⊥ = omega arith in absurd z
+song-fine (suc zero) a b = refl
+song-fine (suc (suc zero)) a b = refl
+song-fine (suc (suc (suc n))) a b = let z : ⊥ = omega arith in absurd z
+
+pub front-exact : Exact front FrontFormed (λ _ f. frontBits f)
+unfolding front frontBits
+front-exact =
+    exact-as
+    (then-exact (λ (f : Front). f .unicode) {GC = FrontFormed} {bC = λ _ f. bitsN 3 (f .song) ++ (titleBits (f .song) (f .unicode) (f .title) ++ bitsN 8 (f .count))} command-exact
+    (λ u h₁. then-exact (λ (f : Front). f .song) {GC = λ f. FrontFormed f × (f .unicode ≡ u)} {bC = λ _ f. titleBits (f .song) (f .unicode) (f .title) ++ bitsN 8 (f .count)}
+    (element-exact 3 (λ n. eqb n 1 || eqb n 2) 4 1 (lit< tt, refl))
+    (λ s h₂. exact-as (then-exact (λ (f : Front). f .title) {GC = λ f. (FrontFormed f × (f .unicode ≡ u)) × (f .song ≡ s)} (title-exact s u (h₂ .1))
+    (λ o h₃. then-exact (λ (f : Front). f .count) {GC = λ f. ((FrontFormed f × (f .unicode ≡ u)) × (f .song ≡ s)) × (f .title ≡ o)} (element-exact 8 (leb 1) 5 1 (lit< tt, refl))
+    (λ n h₄. exact-as (return-exact (record { song = s; unicode = u; title = o; count = n }))
+    (λ f e. rw e ((((record { basicOrTemporary = one-or-two s (h₂ .1); titled = h₃; some = leb-true 1 n (h₄ .1); most = omega (arith, h₄ .0) }, refl), refl), refl), refl))
+    (λ f k. λ i. record { song = k .0 .0 .1 i; unicode = k .0 .0 .0 .1 i; title = k .0 .1 i; count = k .1 i })
+    (λ at f e. refl))
+    (λ f k. (omega (arith, k .0 .0 .0 .most), le-leb 1 (f .count) (k .0 .0 .0 .some))))
+    (λ f k. rw (← k .1, ← k .0 .1) (k .0 .0 .titled)))
+    (λ f k. k) (λ f k. k)
+    (λ at f k. rw (← k .1, ← k .0 .1) (ap (λ (y : List Bool). titleBits (f .song) (f .unicode) (f .title) ++ y) (append-nil (bitsN 8 (f .count))))))
+    (λ f k. (omega (arith, k .0 .basicOrTemporary .1), song-fine (f .song) (k .0 .basicOrTemporary .0) (k .0 .basicOrTemporary .1))))
+    (λ f k. tt))
+    (λ f k. k) (λ f k. k) (λ at f k. refl)
