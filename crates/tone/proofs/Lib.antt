@@ -4,6 +4,3 @@ pub mod Rows
 pub mod Demand2
 pub mod Refusals
 pub mod Tables
-pub mod Elements
-pub mod Steps
-pub mod Walks

@@ -16,8 +16,8 @@ use Rattle.bits.proofs.Numbers.{length-bits, zero-bits}
 use Rattle.tone.specs.Table.{entry, kind, payload, width, noteOf, durationOf, allowed, isInstruction, InTable, Instruction}
 use Rattle.tone.specs.Tone.{Pattern, Tone, Front, frontOf, specifier, loopOf, partOf, header, pattern, cells, noneKnown, recallable, learn, Instructions, Sound, Sequence, Formed}
 use Rattle.tone.specs.Writing.{entryBits, tableBits, frontBits, songBits, endBits}
-use Rattle.tone.specs.Reading.{Got, got, bad, Reader, _>>=_, _>>_, return, element, headerDue, instructionDue, bodyDue, patternsDue, fillerRun, endOctet, wholeTone}
-use Rattle.tone.proofs.Exact.{Exact, Fine, exact-as, return-exact, element-exact, then-exact, fixed-exact}
+use Rattle.tone.specs.Reading.{Got, got, bad, Reader, _>>=_, _>>_, return, element, headerDue, instructionDue, bodyDue, patternsDue, fillerRun, endOctet, ending, wholeTone}
+use Rattle.tone.proofs.Exact.{Exact, Fine, exact-as, return-exact, element-exact, then-exact, then-assoc, fixed-exact}
 use Rattle.tone.proofs.Fronts.{front-exact}
 
 and-true : (a b : Bool) → (a && b) ≡ true → (a ≡ true) × (b ≡ true)
@@ -236,14 +236,16 @@ filler-exact = record {
         exact-as (element-exact (fillerTo at) (eqb 0) 8 0 (pow-pos (fillerTo at), refl))
         (λ v k. sym (eqb-true 0 v (k .1))) (λ v k. rw k (pow-pos (fillerTo at), refl)) (λ _ v k. refl)
 
-pub ending-exact : {A : Type 0} (a : A) → Exact (fillerRun >> (endOctet >> return a)) (λ c. c ≡ a) (λ at c. endBits at)
+pub ending-exact : {A : Type 0} (a : A) → Exact (ending >> return a) (λ c. c ≡ a) (λ at c. endBits at)
+unfolding ending
 ending-exact {A} a =
-    exact-as
+    subst (λ (r : Reader A). Exact r (λ c. c ≡ a) (λ at c. endBits at)) (then-assoc fillerRun (λ _. endOctet) (λ _. return a))
+    (exact-as
     (then-exact (λ (c : A). 0) {GC = λ c. c ≡ a} filler-exact
     (λ v h. exact-as (fixed-exact 8 0 9 (lit< tt) (return-exact a)) (λ c k. (k, sym h)) (λ c k. k .0) (λ at c k. refl))
     (λ c k. refl))
     (λ c k. k) (λ c k. k)
-    (λ at c k. rw (append-nil (bitsN 8 0), zero-bits (fillerTo at), zero-bits 8) (replicate-append-replicate (fillerTo at) 8 false))
+    (λ at c k. rw (append-nil (bitsN 8 0), zero-bits (fillerTo at), zero-bits 8) (replicate-append-replicate (fillerTo at) 8 false)))
 
 -- ---- the whole
 

@@ -2,4 +2,3 @@ pub mod Table
 pub mod Tone
 pub mod Writing
 pub mod Reading
-pub mod Answers

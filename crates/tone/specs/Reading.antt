@@ -62,19 +62,28 @@ fillerBit = element 1 (eqb 0) 8
 abbrev pub lengthOctet : Reader ℕ
 lengthOctet = element 8 (λ n. eqb n 2 || eqb n 3) 3
 
+-- a command part and the filler bit behind it
+unfoldable pub filled : ℕ → Reader ℕ
+filled code = part code >> fillerBit
+
 -- the UNICODE part where the length says so, and whether it is there
 unfoldable pub whetherUnicode : ℕ → Reader Bool
-whetherUnicode n = pick (eqb n 3) (part unicodePart >> (fillerBit >> return true)) (return false)
+whetherUnicode n = pick (eqb n 3) (filled unicodePart >> return true) (return false)
+
+-- the sound part, with no filler behind it
+unfoldable pub soundPart : Bool → Reader Bool
+soundPart unicode = part sound >> return unicode
+
+-- the parts that a command length of n announces
+unfoldable pub parts : ℕ → Reader Bool
+parts n = do
+  filled programming
+  unicode ← whetherUnicode n
+  soundPart unicode
 
 -- the command up to the sound part
 unfoldable pub command : Reader Bool
-command = do
-  n ← lengthOctet
-  part programming
-  fillerBit
-  unicode ← whetherUnicode n
-  part sound
-  return unicode
+command = lengthOctet >>= parts
 
 -- the song type: basic or temporary
 abbrev pub songType : Reader ℕ
@@ -106,14 +115,25 @@ title song unicode = pick (eqb song 1) (anyOf 4 >>= text unicode) (return [])
 abbrev pub patternCount : Reader ℕ
 patternCount = element 8 (leb 1) 5
 
--- the command, the song type, the title and the pattern count
-unfoldable pub front : Reader Front
-front = do
-  unicode ← command
-  song ← songType
-  octets ← title song unicode
+-- the pattern count, which ends the front
+unfoldable pub counted : ℕ → Bool → List ℕ → Reader Front
+counted song unicode octets = do
   n ← patternCount
   return (record { song = song; unicode = unicode; title = octets; count = n })
+
+-- the title, and what follows it
+unfoldable pub titled : ℕ → Bool → Reader Front
+titled song unicode = title song unicode >>= counted song unicode
+
+-- the song type, and what follows it
+unfoldable pub typed : Bool → Reader Front
+typed unicode = do
+  song ← songType
+  titled song unicode
+
+-- the command, the song type, the title and the pattern count
+unfoldable pub front : Reader Front
+front = command >>= typed
 
 -- ---- the patterns
 
@@ -155,13 +175,16 @@ fillerRun l at = element (fillerTo at) (eqb 0) 8 l at
 abbrev pub endOctet : Reader ℕ
 endOctet = element 8 (eqb 0) 9
 
+-- filler and the end octet
+unfoldable pub ending : Reader ℕ
+ending = fillerRun >> endOctet
+
 -- a tone, through its own end octet; what follows that is not looked at
 unfoldable pub wholeTone : Reader Tone
 wholeTone = do
   f ← front
   ps ← patternsDue (f .count) noneKnown
-  fillerRun
-  endOctet
+  ending
   return (record { song = f .song; unicode = f .unicode; title = f .title; patterns = ps })
 
 -- nothing follows the end

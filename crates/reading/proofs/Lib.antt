@@ -1,0 +1,4 @@
+pub mod Elements
+pub mod Steps
+pub mod Walks
+pub mod Openings

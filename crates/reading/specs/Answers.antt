@@ -1,0 +1,60 @@
+-- What the code answers of an element that was due.
+use Prim.Native.Nat.{ℕ, _+_, _*_, _^_, _≤_, _<_}
+use mathlib.Core.Bool.{Bool, true, false}
+use mathlib.Core.List.{List, [], _∷_}
+use lib.ListN.{length}
+use lib.Dec.{eqb}
+use Rattle.bits.specs.Choice.{pick}
+use Rattle.bits.specs.Bits.{placeAfter}
+use Rattle.bits.specs.declared.BitPlace.{BitPlace}
+use Rattle.bits.specs.Outcome.{Outcome, accepted, refused}
+use Rattle.reading.specs.declared.Step.{Step}
+use Rattle.reading.specs.declared.Step.the-variants.{Good, Bad}
+use Rattle.reading.specs.declared.Command.{Command}
+use Rattle.reading.specs.declared.Command.the-variants.{Announced, Withheld}
+use Rattle.reading.specs.declared.Opening.{Opening}
+use Rattle.reading.specs.declared.Opening.the-variants.{Opened, Closed}
+use Rattle.tone.specs.Table.{kind}
+use Rattle.tone.specs.Tone.{Pattern, Front, cells}
+use Rattle.tone.specs.Reading.{Got, got, bad}
+
+-- a place within a message, whose bits a place can count
+pub record Within (m : List ℕ) (at : ℕ) : Type 0 where
+  pub inside : at ≤ placeAfter (length m)
+  pub counted : length m < 2 ^ 60
+
+-- a number as a bit place
+abbrev pub place : ℕ → BitPlace
+place p = record { 0 = p }
+
+-- what was read, as the number that f makes of it, or the refusal
+abbrev pub stepAs : {A : Type 0} → (A → ℕ) → Got A → Step
+stepAs f (got a p) = Good (f a) (place p)
+stepAs f (bad n p e) = Bad n (place p)
+
+-- a number that was read, or the refusal
+abbrev pub stepOf : Got ℕ → Step
+stepOf g = stepAs (λ v. v) g
+
+-- 1 for a note or pause, 0 for any other instruction
+abbrev pub noteIn : ℕ → ℕ
+noteIn e = pick (eqb (kind e) 1) 1 0
+
+-- how many notes and pauses a body has
+abbrev pub notes : List ℕ → ℕ
+notes [] = 0
+notes (e ∷ b) = noteIn e + notes b
+
+-- how many entries patterns have in the tone table
+abbrev pub entries : List Pattern → ℕ
+entries ps = length (cells ps)
+
+-- whether UNICODE is announced, or the refusal
+abbrev pub commandOf : Got Bool → Command
+commandOf (got u p) = Announced u (place p)
+commandOf (bad n p e) = Withheld n (place p)
+
+-- the front as the code answers it, or the refusal
+abbrev pub openingOf : Got Front → Opening
+openingOf (got f p) = Opened (f .song) (f .unicode) (length (f .title)) (f .count) (place p)
+openingOf (bad n p e) = Closed n (place p)
