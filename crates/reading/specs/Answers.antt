@@ -1,11 +1,12 @@
 -- What the code answers of an element that was due.
 use Prim.Native.Nat.{ℕ, _+_, _*_, _^_, _≤_, _<_}
 use mathlib.Core.Bool.{Bool, true, false}
-use mathlib.Core.List.{List, [], _∷_}
-use lib.ListN.{length}
+use mathlib.Core.Path.{_≡_}
+use mathlib.Core.List.{List, [], _∷_, _++_}
+use lib.ListN.{length, drop}
 use lib.Dec.{eqb}
 use Rattle.bits.specs.Choice.{pick}
-use Rattle.bits.specs.Bits.{placeAfter}
+use Rattle.bits.specs.Bits.{bitsOf, Octets, placeAfter}
 use Rattle.bits.specs.declared.BitPlace.{BitPlace}
 use Rattle.bits.specs.Outcome.{Outcome, accepted, refused}
 use Rattle.reading.specs.declared.Step.{Step}
@@ -15,7 +16,11 @@ use Rattle.reading.specs.declared.Command.the-variants.{Announced, Withh
 use Rattle.reading.specs.declared.Opening.{Opening}
 use Rattle.reading.specs.declared.Opening.the-variants.{Opened, Closed}
 use Rattle.tone.specs.Table.{kind}
-use Rattle.tone.specs.Tone.{Pattern, Front, cells}
+use Rattle.tone.specs.Table.{InTable}
+use Rattle.tone.specs.Tone.{Pattern, Tone, Front, frontOf, cells}
+use Rattle.tone.specs.Writing.{entryBits, tableBits, frontBits}
+use Rattle.reading.specs.declared.Judged.{Judged}
+use Rattle.reading.specs.declared.Judged.the-variants.{Sound, Faulty}
 use Rattle.tone.specs.Reading.{Got, got, bad}
 
 -- a place within a message, whose bits a place can count
@@ -58,3 +63,41 @@ commandOf (bad n p e) = Withheld n (place p)
 abbrev pub openingOf : Got Front → Opening
 openingOf (got f p) = Opened (f .song) (f .unicode) (length (f .title)) (f .count) (place p)
 openingOf (bad n p e) = Closed n (place p)
+
+-- ---- a whole message
+
+-- a tone that was judged, or the refusal: song type, UNICODE or not, the title's octets, the patterns, the entries, and the place of the first pattern
+abbrev pub judgedOf : Outcome Tone → Judged
+judgedOf (accepted t) =
+    Sound (t .song) (t .unicode) (length (t .title)) (length (t .patterns)) (entries (t .patterns)) (place (length (frontBits (frontOf t))))
+judgedOf (refused n p) = Faulty n (place p)
+
+-- ---- what stands at a place of a message that was judged
+
+-- the entry e stands at a place, and the bits r behind it
+pub record EntryAt (m : List ℕ) (at e : ℕ) (r : List Bool) : Type 0 where
+  pub inTable : InTable e
+  pub here : drop at (bitsOf m) ≡ entryBits e ++ r
+
+-- some entry does
+pub record SomeEntry (m : List ℕ) (at : ℕ) : Type 0 where
+  pub entry : ℕ
+  pub behind : List Bool
+  pub stands : EntryAt m at entry behind
+
+-- each is an entry of the table
+abbrev pub Entries : List ℕ → Type 0
+Entries [] = Unit {0}
+Entries (e ∷ t) = InTable e × Entries t
+
+-- the entries t stand at a place, one after the other
+pub record TableAt (m : List ℕ) (at : ℕ) (t : List ℕ) : Type 0 where
+  pub each : Entries t
+  pub behind : List Bool
+  pub here : drop at (bitsOf m) ≡ tableBits t ++ behind
+
+-- the octets o stand at a place, one after the other
+pub record OctetsAt (m : List ℕ) (at : ℕ) (o : List ℕ) : Type 0 where
+  pub each : Octets o
+  pub behind : List Bool
+  pub here : drop at (bitsOf m) ≡ bitsOf o ++ behind

@@ -7,8 +7,8 @@ ghost use Rattle.bits.specs.Bits.{bitsOf, placeAfter};
 ghost use Rattle.tone.specs.Table.{width as widthOf, allowed as allowedOf};
 ghost use Rattle.tone.specs.Tone.{perCharacter, noneKnown, learn};
 ghost use Rattle.tone.specs.Reading.{element, anyOf, filled, soundPart, parts as partsDue, command, text as textDue, title as titleDue, titled as titledDue, front};
-ghost use Rattle.tone.specs.Reading.{headerDue, instructionDue, bodyDue, patternsDue, ending as endingDue};
-ghost use Rattle.reading.specs.Answers.{Within, stepAs, stepOf, commandOf, noteIn, notes as notesOf, entries as entriesOf, openingOf};
+ghost use Rattle.tone.specs.Reading.{headerDue, instructionDue, bodyDue, patternsDue, ending as endingDue, rest as restDue, readTone};
+ghost use Rattle.reading.specs.Answers.{Within, stepAs, stepOf, commandOf, noteIn, notes as notesOf, entries as entriesOf, openingOf, judgedOf};
 use bits::BitPlace;
 use bits::OctetCount;
 
@@ -36,6 +36,38 @@ pub enum Opening {
     Closed {
         number: u32,
         at: BitPlace,
+    },
+}
+
+// A message that was judged: song type, UNICODE or not, the title's octets, patterns, table entries, and the place of the
+// first pattern; or the refusal.
+pub enum Judged {
+    Sound {
+        song: u32,
+        unicode: bool,
+        octets: u32,
+        patterns: u32,
+        entries: u32,
+        at: BitPlace,
+    },
+    Faulty {
+        number: u32,
+        at: BitPlace,
+    },
+}
+
+// What reading a message answers.
+pub enum Reading {
+    Read {
+        song: u32,
+        unicode: bool,
+        characters: u32,
+        patterns: u32,
+        entries: u32,
+    },
+    Refused {
+        number: u32,
+        place: BitPlace,
     },
 }
 
@@ -469,5 +501,68 @@ pub fn ending(msg: &[u8], at: BitPlace) -> Step
     match due(msg, at, filler, 0, 8) {
         Step::Bad { number, at: fault } => Step::Bad { number, at: fault },
         Step::Good { value: _, next } => due(msg, next, 8, 0, 9),
+    }
+}
+
+// ---- a whole message
+
+// Patterns, filler and the end octet. The number is how many entries there are in the tone table.
+fn rest(msg: &[u8], at: BitPlace, n: u32) -> Step
+    requires { ⌜ Within (now msg) (at .0) ⌝ }
+    requires { ⌜ n ≤ 255 ⌝ }
+    ensures { λ r. ⌜ r ≡ stepAs entriesOf (restDue n (bitsOf (now (msg .entry))) (at .0)) ⌝ }
+{
+    match patterns(msg, at, n) {
+        Step::Bad { number, at: fault } => Step::Bad { number, at: fault },
+        Step::Good {
+            value,
+            next: behind,
+        } => match ending(msg, behind) {
+            Step::Bad { number, at: fault } => Step::Bad { number, at: fault },
+            Step::Good { value: _, next } => Step::Good { value, next },
+        },
+    }
+}
+
+// Judges a whole message, and changes nothing.
+pub fn judge(msg: &[u8]) -> Judged
+    ensures { λ r. ⌜ r ≡ judgedOf (readTone (now (msg .entry))) ⌝ }
+{
+    if 4096 < msg.len() {
+        return Judged::Faulty {
+            number: 1,
+            at: BitPlace(0),
+        };
+    }
+    match open(msg, BitPlace(0)) {
+        Opening::Closed { number, at: fault } => Judged::Faulty { number, at: fault },
+        Opening::Opened {
+            song,
+            unicode,
+            octets,
+            count,
+            next: at,
+        } => match rest(msg, at, count) {
+            Step::Bad { number, at: fault } => Judged::Faulty { number, at: fault },
+            Step::Good {
+                value: entries,
+                next: end,
+            } => {
+                if end.0 != bits::place_after(OctetCount(msg.len())).0 {
+                    return Judged::Faulty {
+                        number: 10,
+                        at: end,
+                    };
+                }
+                Judged::Sound {
+                    song,
+                    unicode,
+                    octets,
+                    patterns: count,
+                    entries,
+                    at,
+                }
+            }
+        },
     }
 }

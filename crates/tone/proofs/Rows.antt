@@ -16,7 +16,7 @@ use Rattle.bits.proofs.Numbers.{length-bits, zero-bits}
 use Rattle.tone.specs.Table.{entry, kind, payload, width, noteOf, durationOf, allowed, isInstruction, InTable, Instruction}
 use Rattle.tone.specs.Tone.{Pattern, Tone, Front, frontOf, specifier, loopOf, partOf, header, pattern, cells, noneKnown, recallable, learn, Instructions, Sound, Sequence, Formed}
 use Rattle.tone.specs.Writing.{entryBits, tableBits, frontBits, songBits, endBits}
-use Rattle.tone.specs.Reading.{Got, got, bad, Reader, _>>=_, _>>_, return, element, headerDue, instructionDue, bodyDue, patternsDue, fillerRun, endOctet, ending, wholeTone}
+use Rattle.tone.specs.Reading.{Got, got, bad, Reader, _>>=_, _>>_, return, element, headerDue, instructionDue, bodyDue, patternsDue, fillerRun, endOctet, ending, rest, wholeTone}
 use Rattle.tone.proofs.Exact.{Exact, Fine, exact-as, return-exact, element-exact, then-exact, then-assoc, fixed-exact}
 use Rattle.tone.proofs.Fronts.{front-exact}
 
@@ -259,17 +259,25 @@ ahead x y at =
     ap (λ (n : ℕ). x ++ (y ++ endBits n)) (add-assoc at (length x) (length y) ∙ ap (λ (n : ℕ). at + n) (sym (length-append x y)))
     ∙ sym (append-assoc x y (endBits (at + length (x ++ y))))
 
+pub rest-exact : (n : ℕ) → Exact (rest n) (Row n noneKnown) (λ at ps. let b = tableBits (cells ps) in b ++ endBits (at + length b))
+unfolding rest
+rest-exact n =
+    then-exact (λ (ps : List Pattern). ps) {GC = Row n noneKnown} (patterns-exact n noneKnown)
+    (λ ps h. exact-as (ending-exact ps) (λ qs e. rw e (h, refl)) (λ qs k. k .1) (λ at qs e. refl))
+    (λ ps h. h)
+
 pub whole-exact : Exact wholeTone Formed bitsFrom
 unfolding wholeTone songBits
 whole-exact =
     exact-as
-    (then-exact frontOf {GC = Formed} front-exact
-    (λ f h. then-exact (λ (t : Tone). t .patterns) {GC = λ t. Formed t × (frontOf t ≡ f)} (patterns-exact (f .count) noneKnown)
-    (λ ps g. exact-as (ending-exact (record { song = f .song; unicode = f .unicode; title = f .title; patterns = ps }))
+    (then-exact frontOf {GC = Formed} {bC = λ at t. let b = tableBits (cells (t .patterns)) in b ++ endBits (at + length b)} front-exact
+    (λ f h. exact-as (then-exact (λ (t : Tone). t .patterns) {GC = λ t. Formed t × (frontOf t ≡ f)} (rest-exact (f .count))
+    (λ ps g. exact-as (return-exact (record { song = f .song; unicode = f .unicode; title = f .title; patterns = ps }))
     (λ t e. rw e ((record { front = rw (g .size) h; sequence = g .sequence }, front-same f (g .size)), refl))
     (λ t k. λ i. record { song = k .0 .1 i .song; unicode = k .0 .1 i .unicode; title = k .0 .1 i .title; patterns = k .1 i })
     (λ at t e. refl))
     (λ t k. record { sequence = k .0 .sequence; size = ap (λ (x : Front). x .count) (k .1) }))
+    (λ t k. k) (λ t k. k) (λ at t k. append-nil _))
     (λ t k. k .front))
     (λ t k. k) (λ t k. k)
     (λ at t k. ahead (frontBits (frontOf t)) (tableBits (cells (t .patterns))) at)

@@ -179,12 +179,18 @@ endOctet = element 8 (eqb 0) 9
 unfoldable pub ending : Reader ℕ
 ending = fillerRun >> endOctet
 
+-- so many patterns, and the end
+unfoldable pub rest : ℕ → Reader (List Pattern)
+rest n = do
+  ps ← patternsDue n noneKnown
+  ending
+  return ps
+
 -- a tone, through its own end octet; what follows that is not looked at
 unfoldable pub wholeTone : Reader Tone
 wholeTone = do
   f ← front
-  ps ← patternsDue (f .count) noneKnown
-  ending
+  ps ← rest (f .count)
   return (record { song = f .song; unicode = f .unicode; title = f .title; patterns = ps })
 
 -- nothing follows the end
