@@ -3,3 +3,4 @@ pub mod Steps
 pub mod Walks
 pub mod Openings
 pub mod Judging
+pub mod Filling

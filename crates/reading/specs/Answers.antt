@@ -85,6 +85,11 @@ pub record SomeEntry (m : List ℕ) (at : ℕ) : Type 0 where
   pub behind : List Bool
   pub stands : EntryAt m at entry behind
 
+-- the entry e was taken up, and the place behind it
+pub record Passed (at e cell next : ℕ) : Type 0 where
+  pub taken : cell ≡ e
+  pub behind : next ≡ at + length (entryBits e)
+
 -- each is an entry of the table
 abbrev pub Entries : List ℕ → Type 0
 Entries [] = Unit {0}

@@ -6,6 +6,7 @@ use mathlib.Core.List.{List, [], _∷_, _++_}
 use lib.ListN.{length, drop}
 use lib.Dec.{leb}
 use Rattle.bits.specs.Choice.{pick}
+use Rattle.bits.specs.Lent.{over}
 use Rattle.bits.specs.Outcome.{Outcome, accepted, refused}
 use Rattle.tone.specs.Tone.{Tone, cells, characters}
 use Rattle.tone.specs.Reading.{readTone}
@@ -43,9 +44,20 @@ abbrev pub readAnswer : Outcome Tone → Reading
 readAnswer (accepted t) = Read (t .song) (t .unicode) (characters (t .unicode) (t .title)) (length (t .patterns)) (entries (t .patterns))
 readAnswer (refused n p) = Refused n (place p)
 
--- what is written stands first, and the rest is as it was
-abbrev pub over : List ℕ → List ℕ → List ℕ
-over new old = new ++ drop (length new) old
+-- the table and the title of a message that is accepted
+abbrev pub tableIn : Outcome Tone → List ℕ
+tableIn (accepted t) = cells (t .patterns)
+tableIn (refused n p) = []
+
+abbrev pub titleIn : Outcome Tone → List ℕ
+titleIn (accepted t) = t .title
+titleIn (refused n p) = []
+
+abbrev pub tableOf : List ℕ → List ℕ
+tableOf m = tableIn (readTone m)
+
+abbrev pub titleOf : List ℕ → List ℕ
+titleOf m = titleIn (readTone m)
 
 -- the lent table after the call
 abbrev pub tableAfter : Outcome Tone → List ℕ → List ℕ

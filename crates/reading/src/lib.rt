@@ -1,14 +1,18 @@
 ghost use mathlib.Core.Path.{_≡_};
-ghost use Prim.Native.Nat.{_+_, _*_, _^_, _≤_, _<_};
+ghost use Prim.Native.Nat.{ℕ, _+_, _*_, _^_, _≤_, _<_};
 ghost use lib.ListN.{length};
 ghost use lib.Dec.{eqb};
+ghost use Rattle.bits.specs.Lent.{over};
 ghost use Rattle.bits.specs.Choice.{pick};
 ghost use Rattle.bits.specs.Bits.{bitsOf, placeAfter};
 ghost use Rattle.tone.specs.Table.{width as widthOf, allowed as allowedOf};
 ghost use Rattle.tone.specs.Tone.{perCharacter, noneKnown, learn};
 ghost use Rattle.tone.specs.Reading.{element, anyOf, filled, soundPart, parts as partsDue, command, text as textDue, title as titleDue, titled as titledDue, front};
 ghost use Rattle.tone.specs.Reading.{headerDue, instructionDue, bodyDue, patternsDue, ending as endingDue, rest as restDue, readTone};
-ghost use Rattle.reading.specs.Answers.{Within, stepAs, stepOf, commandOf, noteIn, notes as notesOf, entries as entriesOf, openingOf, judgedOf};
+ghost use Rattle.reading.specs.Answers.{Within, stepAs, stepOf, commandOf, noteIn, notes as notesOf, entries as entriesOf, openingOf, judgedOf, SomeEntry, EntryAt, Passed, TableAt, OctetsAt};
+ghost use mathlib.Core.Bool.{Bool};
+ghost use mathlib.Core.List.{List};
+ghost use Rattle.reading.specs.Promise.{tableOf, titleOf, ReadPromise};
 use bits::BitPlace;
 use bits::OctetCount;
 
@@ -37,6 +41,12 @@ pub enum Opening {
         number: u32,
         at: BitPlace,
     },
+}
+
+// An entry that stands at a place, and the place behind it.
+pub struct Cell {
+    pub cell: u32,
+    pub next: BitPlace,
 }
 
 // A message that was judged: song type, UNICODE or not, the title's octets, patterns, table entries, and the place of the
@@ -564,5 +574,53 @@ pub fn judge(msg: &[u8]) -> Judged
                 }
             }
         },
+    }
+}
+
+// ---- filling, once a message is judged
+
+// The entry at a place where one stands.
+pub fn entry_at(msg: &[u8], at: BitPlace) -> Cell
+    requires { ⌜ Within (now msg) (at .0) ⌝ }
+    requires { ⌜ SomeEntry (now msg) (at .0) ⌝ }
+    ensures { λ r. ⌜ ((e : ℕ) (b : List Bool) → EntryAt (now (msg .entry)) (at .0) e b → Passed (at .0) e (r .cell) (r .next .0)) ⌝ }
+{
+    let x = bits::look(msg, at);
+    let kind = x / 2097152;
+    let w = width(kind);
+    Cell {
+        cell: kind * 65536 + bits::part(x, 3, w),
+        next: BitPlace(at.0 + 3 + w as usize),
+    }
+}
+
+// Writes the `n` entries that stand at a place to the table.
+fn fill_table(msg: &[u8], at: BitPlace, n: usize, table: &mut [u32])
+    requires { ⌜ Within (now msg) (at .0) ⌝ }
+    requires { ⌜ (n ≤ length (now table)) × (n ≡ length (tableOf (now msg))) × TableAt (now msg) (at .0) (tableOf (now msg)) ⌝ }
+    ensures { λ _. ⌜ now (table .exit) ≡ over (tableOf (now (msg .entry))) (now (table .entry)) ⌝ }
+{
+    let mut place = at;
+    let mut i: usize = 0;
+    while i < n {
+        let c = entry_at(msg, place);
+        table[i] = c.cell;
+        place = c.next;
+        i += 1;
+    }
+}
+
+// Writes the `n` octets that stand at a place to the title.
+fn fill_title(msg: &[u8], at: BitPlace, n: usize, title: &mut [u8])
+    requires { ⌜ Within (now msg) (at .0) ⌝ }
+    requires { ⌜ (n ≤ length (now title)) × (n ≡ length (titleOf (now msg))) × OctetsAt (now msg) (at .0) (titleOf (now msg)) ⌝ }
+    ensures { λ _. ⌜ now (title .exit) ≡ over (titleOf (now (msg .entry))) (now (title .entry)) ⌝ }
+{
+    let mut place = at;
+    let mut i: usize = 0;
+    while i < n {
+        title[i] = bits::part(bits::look(msg, place), 0, 8) as u8;
+        place = BitPlace(place.0 + 8);
+        i += 1;
     }
 }

@@ -43,6 +43,10 @@ width-most (suc (suc (suc (suc (suc (suc k)))))) = omega arith
 pub payload-lt : (k p : ℕ) → p < 2 ^ width k → p < 65536
 payload-lt k p h = lt-of-lt-of-le h (pow-mono {j = 16} (omega (arith, width-most k)))
 
+pub length-entryBits : (e : ℕ) → length (entryBits e) ≡ 3 + width (kind e)
+unfolding entryBits
+length-entryBits e = rw (length-append (bitsN 3 (kind e)) (bitsN (width (kind e)) (payload e)), length-bits 3 (kind e), length-bits (width (kind e)) (payload e))
+
 -- an entry's parts
 pub parts : (k p : ℕ) → p < 65536 → (kind (entry k p) ≡ k) × (payload (entry k p) ≡ p)
 parts k p h = (omega arith, omega arith)
