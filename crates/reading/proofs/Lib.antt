@@ -4,3 +4,4 @@ pub mod Walks
 pub mod Openings
 pub mod Judging
 pub mod Filling
+pub mod Told

@@ -389,7 +389,7 @@ fn character_bits(unicode: bool) -> u32
 
 // The octets of a title's character.
 fn character_octets(unicode: bool) -> u32
-    ensures { λ r. ⌜ (r ≡ perCharacter unicode) × (r ≤ 2) ⌝ }
+    ensures { λ r. ⌜ (r ≡ perCharacter unicode) × (r ≤ 2) × (1 ≤ r) ⌝ }
 {
     if unicode { 2 } else { 1 }
 }
@@ -622,5 +622,55 @@ fn fill_title(msg: &[u8], at: BitPlace, n: usize, title: &mut [u8])
         title[i] = bits::part(bits::look(msg, place), 0, 8) as u8;
         place = BitPlace(place.0 + 8);
         i += 1;
+    }
+}
+
+// Where a title of so many octets starts, in a front that ends at a place: it stands ahead of the pattern count.
+fn title_place(end: BitPlace, octets: u32) -> BitPlace
+    requires { ⌜ (8 + 8 * octets ≤ end .0) × (octets < 2 ^ 32) ⌝ }
+    ensures { λ r. ⌜ r .0 + 8 * octets + 8 ≡ end .0 ⌝ }
+{
+    BitPlace(end.0 - 8 - bits::place_after(OctetCount(octets as usize)).0)
+}
+
+// Reads a tone message into a lent table and a lent title.
+pub fn read(msg: &[u8], table: &mut [u32], title: &mut [u8]) -> Reading
+    ensures { λ r. ⌜ ReadPromise (now (msg .entry)) (now (table .entry)) (now (title .entry)) (now (table .exit)) (now (title .exit)) r ⌝ }
+{
+    match judge(msg) {
+        Judged::Faulty { number, at: fault } => Reading::Refused {
+            number,
+            place: fault,
+        },
+        Judged::Sound {
+            song,
+            unicode,
+            octets,
+            patterns,
+            entries,
+            at,
+        } => {
+            if title.len() < octets as usize {
+                return Reading::Refused {
+                    number: 11,
+                    place: BitPlace(0),
+                };
+            }
+            if table.len() < entries as usize {
+                return Reading::Refused {
+                    number: 11,
+                    place: BitPlace(0),
+                };
+            }
+            fill_title(msg, title_place(at, octets), octets as usize, title);
+            fill_table(msg, at, entries as usize, table);
+            Reading::Read {
+                song,
+                unicode,
+                characters: octets / character_octets(unicode),
+                patterns,
+                entries,
+            }
+        }
     }
 }
