@@ -1,10 +1,10 @@
--- `reading::fill_title` meets its contract. Each turn takes up one octet.
-use Rattle.reading.proofs.fill_title.Statement.{statement}
-use Rattle.reading.proofs.fill_title.Tie as tie
+-- `reader::fill_title` meets its contract. Each turn takes up one octet.
+use Rattle.reader.proofs.fill_title.Statement.{statement}
+use Rattle.reader.proofs.fill_title.Tie as tie
 use borrow.Author.Needs.{needs}
 use Prim.Native.Nat.{_-_}
-use Rattle.reading.specs.Promise.{titleOf}
-use Rattle.reading.proofs.Filling.{TitleFill, titles}
+use Rattle.reader.specs.Judging.{titleOf}
+use Rattle.reader.proofs.Filling.{TitleFill, titles}
 
 abbrev Inv-loop : tie.InvT-loop
 Inv-loop msg n title₀ place₀ i₀ title place i = TitleFill msg (titleOf msg) n title₀ title (place .0) i

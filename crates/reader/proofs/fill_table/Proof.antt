@@ -1,10 +1,10 @@
--- `reading::fill_table` meets its contract. Each turn takes up one entry.
-use Rattle.reading.proofs.fill_table.Statement.{statement}
-use Rattle.reading.proofs.fill_table.Tie as tie
+-- `reader::fill_table` meets its contract. Each turn takes up one entry.
+use Rattle.reader.proofs.fill_table.Statement.{statement}
+use Rattle.reader.proofs.fill_table.Tie as tie
 use borrow.Author.Needs.{needs}
 use Prim.Native.Nat.{_-_}
-use Rattle.reading.specs.Promise.{tableOf}
-use Rattle.reading.proofs.Filling.{TableFill, tables}
+use Rattle.reader.specs.Judging.{tableOf}
+use Rattle.reader.proofs.Filling.{TableFill, tables}
 
 abbrev Inv-loop : tie.InvT-loop
 Inv-loop msg n table₀ place₀ i₀ table place i = TableFill msg (tableOf msg) n table₀ table (place .0) i

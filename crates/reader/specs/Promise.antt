@@ -10,9 +10,9 @@ use Rattle.bits.specs.Lent.{over}
 use Rattle.bits.specs.Outcome.{Outcome, accepted, refused}
 use Rattle.tone.specs.Tone.{Tone, cells, characters}
 use Rattle.tone.specs.Reading.{readTone}
-use Rattle.reading.specs.declared.Reading.{Reading}
-use Rattle.reading.specs.declared.Reading.the-variants.{Read, Refused}
+use Rattle.reader.specs.declared.Reading.{Reading}
+use Rattle.reader.specs.declared.Reading.the-variants.{Read, Refused}
 use Rattle.reading.specs.Answers.{place, entries}
 
 -- 11 where the title or the table does not fit
 abbrev pub roomed : ℕ → ℕ → Outcome Tone → Outcome Tone
@@ -43,21 +43,6 @@ numbers (Refused n p) = record { refusal = n; place = p .0; song = 0; unicode = 
 abbrev pub readAnswer : Outcome Tone → Reading
 readAnswer (accepted t) = Read (t .song) (t .unicode) (characters (t .unicode) (t .title)) (length (t .patterns)) (entries (t .patterns))
 readAnswer (refused n p) = Refused n (place p)
-
--- the table and the title of a message that is accepted
-abbrev pub tableIn : Outcome Tone → List ℕ
-tableIn (accepted t) = cells (t .patterns)
-tableIn (refused n p) = []
-
-abbrev pub titleIn : Outcome Tone → List ℕ
-titleIn (accepted t) = t .title
-titleIn (refused n p) = []
-
-abbrev pub tableOf : List ℕ → List ℕ
-tableOf m = tableIn (readTone m)
-
-abbrev pub titleOf : List ℕ → List ℕ
-titleOf m = titleIn (readTone m)
 
 -- the lent table after the call
 abbrev pub tableAfter : Outcome Tone → List ℕ → List ℕ

@@ -1,8 +1,8 @@
--- `reading::judge` meets its contract.
+-- `reader::judge` meets its contract.
 use borrow.Author.Needs.{needs}
-use Rattle.reading.proofs.judge.Statement.{statement}
-use Rattle.reading.proofs.judge.Tie as tie
-use Rattle.reading.proofs.Judging.{judgements}
+use Rattle.reader.proofs.judge.Statement.{statement}
+use Rattle.reader.proofs.judge.Tie as tie
+use Rattle.reader.proofs.Judgements.{judgements}
 
 returns : tie.Need-returns
 returns c = search (judgements, needs)

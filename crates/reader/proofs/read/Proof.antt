@@ -1,8 +1,8 @@
--- `reading::read` meets its contract.
+-- `reader::read` meets its contract.
 use borrow.Author.Needs.{needs}
-use Rattle.reading.proofs.read.Statement.{statement}
-use Rattle.reading.proofs.read.Tie as tie
-use Rattle.reading.proofs.Told.{readings}
+use Rattle.reader.proofs.read.Statement.{statement}
+use Rattle.reader.proofs.read.Tie as tie
+use Rattle.reader.proofs.Told.{readings}
 
 judge-requires : tie.Need-judge-requires
 judge-requires c κs = search needs

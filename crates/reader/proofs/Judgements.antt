@@ -1,4 +1,4 @@
--- What each return of `rest` and `judge` shows.
+-- What each return of `judge` shows.
 use Prim.Native.Nat.{ℕ, zero, suc, _+_, _-_, _*_, _/_, _%_, _^_, _≤_, _<_}
 use native.Mathlib.Omega.{arith}
 use native.Mathlib.Nat.{zero-add}
@@ -17,42 +17,16 @@ use Rattle.tone.specs.Writing.{frontBits, mostOctets}
 use Rattle.tone.specs.Reading.{Got, got, bad, front, patternsDue, ending, rest, wholeTone, readTone}
 use Rattle.tone.proofs.Fronts.{front-exact}
 use Rattle.tone.proofs.Rows.{patterns-exact, rest-exact}
 use Rattle.reading.specs.declared.Step.{Step}
 use Rattle.reading.specs.declared.Step.the-variants.{Good, Bad}
 use Rattle.reading.specs.declared.Opening.{Opening}
 use Rattle.reading.specs.declared.Opening.the-variants.{Opened, Closed}
-use Rattle.reading.specs.declared.Judged.{Judged}
-use Rattle.reading.specs.declared.Judged.the-variants.{Sound, Faulty}
-use Rattle.reading.specs.Answers.{Within, place, stepAs, stepOf, entries, openingOf, judgedOf}
+use Rattle.reader.specs.declared.Judged.{Judged}
+use Rattle.reader.specs.declared.Judged.the-variants.{Sound, Faulty}
+use Rattle.reading.specs.Answers.{Within, place, stepAs, entries, openingOf}
+use Rattle.reader.specs.Judging.{judgedOf}
 use Rattle.reading.proofs.Steps.{step-there, step-good, step-bad}
 use Rattle.reading.proofs.Walks.{stays}
-
--- ---- the patterns and the end
-
-module _ (m : List ℕ) (at n : ℕ) {s : Step} (q : s ≡ stepAs entries (patternsDue n noneKnown (bitsOf m) at)) where
-  pub rest-bad : {k : ℕ} {f : BitPlace} → s ≡ Bad k f → Bad k f ≡ stepAs entries (rest n (bitsOf m) at)
-  unfolding rest
-  rest-bad g = let b = step-bad entries (patternsDue n noneKnown (bitsOf m) at) (sym g ∙ q) in rw (b .1)
-
-  module _ {v : ℕ} {f : BitPlace} (g : s ≡ Good v f) where
-    there : (ps : List Pattern) × (patternsDue n noneKnown (bitsOf m) at ≡ got ps (f .0)) × (v ≡ entries ps)
-    there = step-good entries (patternsDue n noneKnown (bitsOf m) at) (sym g ∙ q)
-
-    pub rest-within : Within m at → Within m (f .0)
-    rest-within i = record { inside = stays (patterns-exact n noneKnown) m at (i .inside) (there .1); counted = i .counted }
-
-    module _ {t : Step} (q′ : t ≡ stepOf (ending (bitsOf m) (f .0))) where
-      pub rest-ending-bad : {k : ℕ} {f′ : BitPlace} → t ≡ Bad k f′ → Bad k f′ ≡ stepAs entries (rest n (bitsOf m) at)
-      unfolding rest
-      rest-ending-bad g′ = let b = step-bad (λ v. v) (ending (bitsOf m) (f .0)) (sym g′ ∙ q′) in rw (there .1, b .1)
-
-      pub rest-good : {u : ℕ} {f′ : BitPlace} → t ≡ Good u f′ → Good v f′ ≡ stepAs entries (rest n (bitsOf m) at)
-      unfolding rest
-      rest-good {u} {f′} g′ =
-          let b = step-there (ending (bitsOf m) (f .0)) (sym g′ ∙ q′) in
-          rw (there .1, b) (ap (λ (x : ℕ). Good x f′) (there .2))
-
-pub ruleset rests = (rest-bad, rest-within, rest-ending-bad, rest-good)
 
 -- ---- the whole message
 

@@ -23,12 +23,13 @@ use Rattle.tone.specs.Writing.{commandBits, titleBits, tableBits, frontBits, so
 use Rattle.tone.specs.Reading.{wholeTone, got, readTone}
 use Rattle.tone.proofs.Rows.{header-small}
 use Rattle.tone.proofs.Demand2.{Says, read-says, core-reads}
-use Rattle.reading.specs.declared.Judged.{Judged}
-use Rattle.reading.specs.declared.Judged.the-variants.{Sound, Faulty}
-use Rattle.reading.specs.declared.Reading.{Reading}
-use Rattle.reading.specs.declared.Reading.the-variants.{Read, Refused}
-use Rattle.reading.specs.Answers.{Within, place, entries, judgedOf, Entries, TableAt, OctetsAt}
-use Rattle.reading.specs.Promise.{roomed, readInto, numbers, readAnswer, tableIn, titleIn, tableOf, titleOf, tableAfter, titleAfter, ReadPromise}
+use Rattle.reader.specs.declared.Judged.{Judged}
+use Rattle.reader.specs.declared.Judged.the-variants.{Sound, Faulty}
+use Rattle.reader.specs.declared.Reading.{Reading}
+use Rattle.reader.specs.declared.Reading.the-variants.{Read, Refused}
+use Rattle.reading.specs.Answers.{Within, place, entries}
+use Rattle.reader.specs.Judging.{judgedOf, Entries, TableAt, OctetsAt, tableOf, titleOf}
+use Rattle.reader.specs.Promise.{roomed, readInto, numbers, readAnswer, tableAfter, titleAfter, ReadPromise}
 
 -- ---- what stands where in a message that was accepted
 
