@@ -41,7 +41,7 @@ instructions-drop zero b h = h
 instructions-drop (suc i) [] h = tt
 instructions-drop (suc i) (e ∷ b) h = instructions-drop i b (h .1)
 
-carried-instructions : (ed : Edit) → carriesNew ed ≡ true → Instructions (carried ed)
+pub carried-instructions : (ed : Edit) → carriesNew ed ≡ true → Instructions (carried ed)
 carried-instructions (Replace e) h = (new-instruction e h, tt)
 carried-instructions (Insert e) h = (new-instruction e h, tt)
 carried-instructions Delete h = tt
@@ -111,4 +111,5 @@ changed-formed ed k i t f new there some fit =
     let n = length-after ed i b (fit .inside) in
     record {
       front = rw (front-same ed k i t) (f .front);
-      sequence = sequence-set noneKnown (t .patterns) k (bodyAfter ed i b) (f .sequence) there some (rw n (fit .least)) (rw n (fit .most)) (body-instructions ed i b new (s .each)) }
+      sequence = sequence-set noneKnown (t .patterns) k (bodyAfter ed i b) (f .sequence) there some (rw n (fit .least)) (rw n (fit .most)) (body-instructions ed i b new (s .each));
+    }
