@@ -1,2 +1,5 @@
 pub mod Bodies
 pub mod Demand3
+pub mod Pieces
+pub mod Skips
+pub mod Copies

@@ -1,2 +1,3 @@
 pub mod Change
 pub mod Editing
+pub mod Places

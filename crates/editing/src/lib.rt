@@ -1,8 +1,150 @@
 ghost use mathlib.Core.Path.{_≡_};
+ghost use mathlib.Core.Bool.{Bool, true, false};
+ghost use mathlib.Core.List.{List, [], _∷_, _++_};
+ghost use Prim.Native.Nat.{ℕ, _+_, _-_, _*_, _^_, _≤_, _<_};
+ghost use lib.ListN.{length, take, drop};
+ghost use Rattle.bits.specs.Bits.{bitsN, bitsOf, placeAfter};
+ghost use Rattle.bits.specs.Lent.{over};
+ghost use Rattle.bits.specs.Sink.{written, InHand, Put};
+ghost use Rattle.tone.specs.Table.{width as widthOf, allowed as allowedOf};
+ghost use Rattle.tone.specs.Writing.{tableBits};
+ghost use Rattle.reading.specs.Answers.{Within};
+ghost use Rattle.reader.specs.Judging.{TableAt};
+ghost use Rattle.editing.specs.Change.{isNew as isNewOf, carriesNew, carried, removed as removedOf};
+ghost use Rattle.editing.specs.Places.{SomeTable, Puts};
+use bits::BitPlace;
+use bits::OctetCount;
+use bits::Sink;
 
 // What an edit does at an instruction: replace it, insert before it, or delete it. The new instruction is one table entry.
 pub enum Edit {
     Replace(u32),
     Insert(u32),
     Delete,
+}
+
+// ---- the new instruction
+
+// Is the entry an instruction of kind 1 to 5 whose code is in the table?
+fn is_new(cell: u32) -> bool
+    ensures { λ r. ⌜ r ≡ isNewOf cell ⌝ }
+{
+    let kind = cell / 65536;
+    let payload = cell % 65536;
+    if kind < 1 {
+        return false;
+    }
+    if 5 < kind {
+        return false;
+    }
+    if payload < 1u32 << reading::width(kind) {
+        return reading::allowed(kind, payload);
+    }
+    false
+}
+
+// Does the edit carry such an instruction, where it carries one?
+fn carries_new(edit: Edit) -> bool
+    ensures { λ r. ⌜ r ≡ carriesNew edit ⌝ }
+{
+    match edit {
+        Edit::Replace(cell) => is_new(cell),
+        Edit::Insert(cell) => is_new(cell),
+        Edit::Delete => true,
+    }
+}
+
+// The bits that an edit puts: how many, and the number that they spell.
+pub struct Piece {
+    pub width: u32,
+    pub value: u32,
+}
+
+// The bits of an instruction.
+fn piece_of(cell: u32) -> Piece
+    requires { ⌜ isNewOf cell ≡ true ⌝ }
+    ensures { λ r. ⌜ Puts (cell ∷ []) (r .width) (r .value) ⌝ }
+{
+    let kind = cell / 65536;
+    let w = reading::width(kind);
+    Piece {
+        width: 3 + w,
+        value: (kind << w) + cell % 65536,
+    }
+}
+
+// The bits that an edit puts: those of its instruction, or none.
+fn carried_piece(edit: Edit) -> Piece
+    requires { ⌜ carriesNew edit ≡ true ⌝ }
+    ensures { λ r. ⌜ Puts (carried edit) (r .width) (r .value) ⌝ }
+{
+    match edit {
+        Edit::Replace(cell) => piece_of(cell),
+        Edit::Insert(cell) => piece_of(cell),
+        Edit::Delete => Piece { width: 0, value: 0 },
+    }
+}
+
+// How many instructions an edit takes away.
+fn removed(edit: Edit) -> usize
+    ensures { λ r. ⌜ (r ≡ removedOf edit) × (r ≤ 1) ⌝ }
+{
+    match edit {
+        Edit::Replace(_) => 1,
+        Edit::Insert(_) => 0,
+        Edit::Delete => 1,
+    }
+}
+
+// ---- places
+
+// The place behind `n` entries that stand at a place.
+fn skip(msg: &[u8], at: BitPlace, n: usize) -> BitPlace
+    requires { ⌜ Within (now msg) (at .0) ⌝ }
+    requires { ⌜ SomeTable (now msg) (at .0) n ⌝ }
+    ensures { λ r. ⌜ ((t : List ℕ) → TableAt (now (msg .entry)) (at .0) t → n ≤ length t → r .0 ≡ at .0 + length (tableBits (take n t))) ⌝ }
+{
+    let mut place = at;
+    let mut i: usize = 0;
+    while i < n {
+        let c = reading::entry_at(msg, place);
+        place = c.next;
+        i += 1;
+    }
+    place
+}
+
+// ---- copying
+
+// Copies the first `n` octets.
+fn copy_octets(from: &[u8], n: usize, to: &mut [u8])
+    requires { ⌜ (n ≤ length (now from)) × (n ≤ length (now to)) ⌝ }
+    ensures { λ _. ⌜ now (to .exit) ≡ over (take n (now (from .entry))) (now (to .entry)) ⌝ }
+{
+    let mut i: usize = 0;
+    while i < n {
+        to[i] = from[i];
+        i += 1;
+    }
+}
+
+// Puts the `n` bits that stand at a place.
+fn copy_bits(msg: &[u8], at: BitPlace, n: usize, out: &mut [u8], sink: Sink) -> Sink
+    requires { ⌜ InHand (sink .n) (sink .acc) ⌝ }
+    requires { ⌜ (at .0 + n ≤ placeAfter (length (now msg))) × (length (now msg) < 2 ^ 60) × (placeAfter (sink .octets .0) + sink .n + n ≤ placeAfter (length (now out))) ⌝ }
+    ensures { λ r. ⌜ Put (written (now (out .entry)) (sink .octets .0) (sink .n) (sink .acc)) (take n (drop (at .0) (bitsOf (now (msg .entry))))) (placeAfter (sink .octets .0) + sink .n + n) (now (out .entry)) (now (out .exit)) (r .octets .0) (r .n) (r .acc) ⌝ }
+{
+    let mut s = sink;
+    let mut place = at.0;
+    let mut left = n;
+    while 24 <= left {
+        s = bits::put(out, s, 24, bits::look(msg, BitPlace(place)));
+        place += 24;
+        left -= 24;
+    }
+    if left == 0 {
+        return s;
+    }
+    let x = bits::look(msg, BitPlace(place));
+    bits::put(out, s, left as u32, bits::part(x, 0, left as u32))
 }
