@@ -3,3 +3,4 @@ pub mod Demand3
 pub mod Pieces
 pub mod Skips
 pub mod Copies
+pub mod Heads

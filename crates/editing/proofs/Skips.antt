@@ -12,7 +12,7 @@ use Rattle.bits.specs.Bits.{bitsOf}
 use Rattle.tone.specs.Writing.{entryBits, tableBits}
 use Rattle.tone.proofs.Rows.{length-entryBits, tableBits-append}
 use Rattle.reading.specs.Answers.{Within, EntryAt, SomeEntry, Passed}
-use Rattle.reading.proofs.Standing.{onward-from, entry-room}
+use Rattle.reading.proofs.Standing.{onward-from, room, entry-room}
 use Rattle.reader.specs.Judging.{Entries, TableAt}
 use Rattle.editing.specs.Places.{SomeTable}
 
@@ -26,6 +26,28 @@ rest-at m at e t s = record {
   each = s .each .1;
   behind = s .behind;
   here = onward-from (bitsOf m) at (entryBits e) (tableBits t ++ s .behind) (s .here ∙ append-assoc (entryBits e) (tableBits t) (s .behind));
+}
+
+-- what stands behind the front of a table
+entries-behind : (s t : List ℕ) → Entries (s ++ t) → Entries t
+entries-behind [] t h = h
+entries-behind (e ∷ s) t h = entries-behind s t (h .1)
+
+pub table-behind : (m : List ℕ) (at : ℕ) (s t : List ℕ) → TableAt m at (s ++ t) → TableAt m (at + length (tableBits s)) t
+table-behind m at s t k = record {
+  each = entries-behind s t (k .each);
+  behind = k .behind;
+  here = onward-from (bitsOf m) at (tableBits s) (tableBits t ++ k .behind) (split);
+}
+  where
+    split : drop at (bitsOf m) ≡ tableBits s ++ (tableBits t ++ k .behind)
+    split = k .here ∙ (rw (tableBits-append s t) (append-assoc (tableBits s) (tableBits t) (k .behind)))
+
+-- and its place is within the message
+pub table-within : (m : List ℕ) (at : ℕ) (s t : List ℕ) → Within m at → TableAt m at (s ++ t) → Within m (at + length (tableBits s))
+table-within m at s t w k = record {
+  inside = room m at (tableBits s) (tableBits t ++ k .behind) (w .inside) (k .here ∙ (rw (tableBits-append s t) (append-assoc (tableBits s) (tableBits t) (k .behind))));
+  counted = w .counted;
 }
 
 next-of : (t : List ℕ) (i : ℕ) → i < length t → drop i t ≡ getD t i 0 ∷ drop (suc i) t

@@ -11,7 +11,8 @@ ghost use Rattle.tone.specs.Writing.{tableBits};
 ghost use Rattle.reading.specs.Answers.{Within};
 ghost use Rattle.reader.specs.Judging.{TableAt};
 ghost use Rattle.editing.specs.Change.{isNew as isNewOf, carriesNew, carried, removed as removedOf};
-ghost use Rattle.editing.specs.Places.{SomeTable, Puts};
+ghost use Rattle.tone.specs.Tone.{Tone};
+ghost use Rattle.editing.specs.Places.{SomeTable, Puts, toneOf, Accepted, HeadAt, SpotAt};
 use bits::BitPlace;
 use bits::OctetCount;
 use bits::Sink;
@@ -112,6 +113,42 @@ fn skip(msg: &[u8], at: BitPlace, n: usize) -> BitPlace
         i += 1;
     }
     place
+}
+
+// The header of a pattern: its place, its entry, the place behind it, and how many entries stand ahead of it.
+pub struct Head {
+    pub at: BitPlace,
+    pub cell: u32,
+    pub next: BitPlace,
+    pub ahead: usize,
+}
+
+// The header of pattern `k` of an accepted message whose first pattern stands at a place.
+fn find_header(msg: &[u8], first: BitPlace, k: usize) -> Head
+    requires { ⌜ Within (now msg) (first .0) ⌝ }
+    requires { ⌜ Accepted (now msg) (first .0) ⌝ }
+    requires { ⌜ k < length (toneOf (now msg) .patterns) ⌝ }
+    ensures { λ r. ⌜ HeadAt (toneOf (now (msg .entry))) k (r .at .0) (r .cell) (r .next .0) (r .ahead) ⌝ }
+{
+    let mut place = first;
+    let mut ahead: usize = 0;
+    let mut j: usize = 0;
+    while j < k {
+        let c = reading::entry_at(msg, place);
+        let n = (c.cell % 256) as usize;
+        let next = c.next;
+        place = skip(msg, next, n);
+        ahead += 1 + n;
+        j += 1;
+    }
+    let c = reading::entry_at(msg, place);
+    let next = c.next;
+    Head {
+        at: place,
+        cell: c.cell,
+        next,
+        ahead,
+    }
 }
 
 // ---- copying
