@@ -4,3 +4,4 @@ pub mod Pieces
 pub mod Skips
 pub mod Copies
 pub mod Heads
+pub mod Builds

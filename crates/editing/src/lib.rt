@@ -3,7 +3,7 @@ ghost use mathlib.Core.Bool.{Bool, true, false};
 ghost use mathlib.Core.List.{List, [], _∷_, _++_};
 ghost use Prim.Native.Nat.{ℕ, _+_, _-_, _*_, _^_, _≤_, _<_};
 ghost use lib.ListN.{length, take, drop};
-ghost use Rattle.bits.specs.Bits.{bitsN, bitsOf, placeAfter};
+ghost use Rattle.bits.specs.Bits.{bitsN, bitsOf, placeAfter, octetsTo};
 ghost use Rattle.bits.specs.Lent.{over};
 ghost use Rattle.bits.specs.Sink.{written, InHand, Put};
 ghost use Rattle.tone.specs.Table.{width as widthOf, allowed as allowedOf};
@@ -12,7 +12,7 @@ ghost use Rattle.reading.specs.Answers.{Within};
 ghost use Rattle.reader.specs.Judging.{TableAt};
 ghost use Rattle.editing.specs.Change.{isNew as isNewOf, carriesNew, carried, removed as removedOf};
 ghost use Rattle.tone.specs.Tone.{Tone};
-ghost use Rattle.editing.specs.Places.{SomeTable, Puts, toneOf, Accepted, HeadAt, SpotAt};
+ghost use Rattle.editing.specs.Places.{SomeTable, Puts, toneOf, Accepted, HeadAt, SpotIn, Begun, Built, headed, reached, pieced, joined};
 use bits::BitPlace;
 use bits::OctetCount;
 use bits::Sink;
@@ -151,6 +151,25 @@ fn find_header(msg: &[u8], first: BitPlace, k: usize) -> Head
     }
 }
 
+// Where an instruction stands, where what is left behind it does, and where the patterns end.
+pub struct Spot {
+    pub at: BitPlace,
+    pub behind: BitPlace,
+    pub end: BitPlace,
+}
+
+// The places behind `i` entries, behind `r` more and behind `n` more.
+fn find_spot(msg: &[u8], next: BitPlace, i: usize, r: usize, n: usize) -> Spot
+    requires { ⌜ Within (now msg) (next .0) ⌝ }
+    requires { ⌜ SomeTable (now msg) (next .0) (i + r + n) ⌝ }
+    ensures { λ s. ⌜ ((t : List ℕ) → TableAt (now (msg .entry)) (next .0) t → i + r + n ≤ length t → SpotIn t (next .0) i r n (s .at .0) (s .behind .0) (s .end .0)) ⌝ }
+{
+    let at = skip(msg, next, i);
+    let behind = skip(msg, at, r);
+    let end = skip(msg, behind, n);
+    Spot { at, behind, end }
+}
+
 // ---- copying
 
 // Copies the first `n` octets.
@@ -184,4 +203,72 @@ fn copy_bits(msg: &[u8], at: BitPlace, n: usize, out: &mut [u8], sink: Sink) -> 
     }
     let x = bits::look(msg, BitPlace(place));
     bits::put(out, s, left as u32, bits::part(x, 0, left as u32))
+}
+
+// Copies the first `n` bits of a message to the start of a buffer.
+fn copy_front(msg: &[u8], n: usize, out: &mut [u8]) -> Sink
+    requires { ⌜ (n ≤ placeAfter (length (now msg))) × (length (now msg) < 2 ^ 60) × (n ≤ placeAfter (length (now out))) ⌝ }
+    ensures { λ r. ⌜ Begun (take n (bitsOf (now (msg .entry)))) (now (out .exit)) (r .octets .0) (r .n) (r .acc) ⌝ }
+{
+    let whole = bits::octets_before(BitPlace(n));
+    copy_octets(msg, whole.0, out);
+    let at = bits::place_after(whole);
+    let s = Sink {
+        octets: whole,
+        n: 0,
+        acc: 0,
+    };
+    copy_bits(msg, at, n - at.0, out, s)
+}
+
+// ---- building a message anew
+
+// The bits ahead of a header, and the header.
+fn put_header(msg: &[u8], head: usize, cell: u32, out: &mut [u8]) -> Sink
+    requires { ⌜ (head ≤ placeAfter (length (now msg))) × (length (now msg) < 2 ^ 60) × (cell < 2 ^ 17) × (head + 17 ≤ placeAfter (length (now out))) ⌝ }
+    ensures { λ r. ⌜ Begun (headed (bitsOf (now (msg .entry))) head cell) (now (out .exit)) (r .octets .0) (r .n) (r .acc) ⌝ }
+{
+    let s = copy_front(msg, head, out);
+    bits::put(out, s, 17, cell)
+}
+
+// Then the bits up to a place.
+fn put_ahead(msg: &[u8], head: usize, cell: u32, at: usize, out: &mut [u8]) -> Sink
+    requires { ⌜ (head + 17 ≤ at) × (at ≤ placeAfter (length (now msg))) × (length (now msg) < 2 ^ 60) × (cell < 2 ^ 17) × (at ≤ placeAfter (length (now out))) ⌝ }
+    ensures { λ r. ⌜ Begun (reached (bitsOf (now (msg .entry))) head cell at) (now (out .exit)) (r .octets .0) (r .n) (r .acc) ⌝ }
+{
+    let s = put_header(msg, head, cell, out);
+    let behind = head + 17;
+    copy_bits(msg, BitPlace(behind), at - behind, out, s)
+}
+
+// Then a piece.
+fn put_piece(msg: &[u8], head: usize, cell: u32, at: usize, piece: Piece, out: &mut [u8]) -> Sink
+    requires { ⌜ (head + 17 ≤ at) × (at ≤ placeAfter (length (now msg))) × (length (now msg) < 2 ^ 60) × (cell < 2 ^ 17) × (at + piece .width ≤ placeAfter (length (now out))) ⌝ }
+    requires { ⌜ (piece .width ≤ 17) × (piece .value < 2 ^ piece .width) ⌝ }
+    ensures { λ r. ⌜ Begun (pieced (bitsOf (now (msg .entry))) head cell at (piece .width) (piece .value)) (now (out .exit)) (r .octets .0) (r .n) (r .acc) ⌝ }
+{
+    let s = put_ahead(msg, head, cell, at, out);
+    bits::put(out, s, piece.width, piece.value)
+}
+
+// Then the bits behind it up to the patterns' end, filler and the end octet.
+fn build(
+    msg: &[u8],
+    header: BitPlace,
+    cell: u32,
+    spot: Spot,
+    piece: Piece,
+    out: &mut [u8],
+) -> OctetCount
+    requires { ⌜ (header .0 + 17 ≤ spot .at .0) × (spot .at .0 ≤ placeAfter (length (now msg))) × (length (now msg) < 2 ^ 60) × (cell < 2 ^ 17) ⌝ }
+    requires { ⌜ (piece .width ≤ 17) × (piece .value < 2 ^ piece .width) × (spot .behind .0 ≤ spot .end .0) × (spot .end .0 ≤ placeAfter (length (now msg))) ⌝ }
+    requires { ⌜ octetsTo (spot .at .0 + piece .width + (spot .end .0 - spot .behind .0)) + 1 ≤ length (now out) ⌝ }
+    ensures { λ r. ⌜ Built (joined (bitsOf (now (msg .entry))) (header .0) cell (spot .at .0) (piece .width) (piece .value) (spot .behind .0) (spot .end .0)) (now (out .exit)) (r .0) ⌝ }
+{
+    let s = put_piece(msg, header.0, cell, spot.at.0, piece, out);
+    let behind = spot.behind;
+    let n = spot.end.0 - behind.0;
+    let t = copy_bits(msg, behind, n, out, s);
+    bits::seal(out, t)
 }
