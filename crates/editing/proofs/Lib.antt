@@ -5,3 +5,4 @@ pub mod Skips
 pub mod Copies
 pub mod Heads
 pub mod Builds
+pub mod Rebuilt
