@@ -6,3 +6,4 @@ pub mod Copies
 pub mod Heads
 pub mod Builds
 pub mod Rebuilt
+pub mod Changes

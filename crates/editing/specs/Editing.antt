@@ -2,7 +2,7 @@
 use Prim.Native.Nat.{ℕ, _+_, _-_, _*_}
 use mathlib.Core.Bool.{Bool, true, false}
 use mathlib.Core.List.{List, [], _∷_, _++_}
-use lib.ListN.{length, take, replicate}
+use lib.ListN.{length, take, drop, replicate}
 use lib.Dec.{leb, eqb}
 use Rattle.bits.specs.Choice.{pick}
 use Rattle.bits.specs.Lent.{over}
@@ -65,6 +65,10 @@ editMessage buf used ed k i cells =
     (andThen (readTone (take used buf)) (λ t.
     withList cells (andThen (editTone ed k i t) (inBuffer (length buf)))))
     (refused 1 0)
+
+-- zeros from one octet up to another
+abbrev pub cleared : ℕ → ℕ → List ℕ → List ℕ
+cleared from to buf = take from buf ++ (replicate (to - from) 0 ++ drop (from + (to - from)) buf)
 
 -- the buffer after the edit: the new message, zeros up to the old length, and the rest as it was
 abbrev pub bufferAfter : Outcome Edited → ℕ → List ℕ → List ℕ

@@ -13,6 +13,8 @@ ghost use Rattle.reader.specs.Judging.{TableAt};
 ghost use Rattle.editing.specs.Change.{isNew as isNewOf, carriesNew, carried, removed as removedOf};
 ghost use Rattle.tone.specs.Tone.{Tone};
 ghost use Rattle.editing.specs.Places.{SomeTable, Puts, toneOf, Accepted, HeadAt, SpotIn, Begun, Built, headed, reached, pieced, joined};
+ghost use lib.IntN.{pos, _-ℤ_};
+ghost use Rattle.editing.specs.Editing.{cleared};
 use bits::BitPlace;
 use bits::OctetCount;
 use bits::Sink;
@@ -271,4 +273,26 @@ fn build(
     let n = spot.end.0 - behind.0;
     let t = copy_bits(msg, behind, n, out, s);
     bits::seal(out, t)
+}
+
+// ---- the edit
+
+// The change in octets: the new length minus the old.
+fn change(new: OctetCount, old: OctetCount) -> i32
+    requires { ⌜ (new .0 ≤ 4096) × (old .0 ≤ 4096) ⌝ }
+    ensures { λ r. ⌜ r ≡ pos (new .0) -ℤ pos (old .0) ⌝ }
+{
+    new.0 as i32 - old.0 as i32
+}
+
+// Zeros from one place of a buffer up to another.
+fn clear(buf: &mut [u8], from: usize, to: usize)
+    requires { ⌜ to ≤ length (now buf) ⌝ }
+    ensures { λ _. ⌜ now (buf .exit) ≡ cleared from to (now (buf .entry)) ⌝ }
+{
+    let mut i = from;
+    while i < to {
+        buf[i] = 0;
+        i += 1;
+    }
 }
