@@ -74,10 +74,14 @@ module _ {from to : ℕ} {old new : List ℕ} {i : ℕ} (c : Clearing from to ol
       let n : i + 1 - from ≡ (i - from) + 1 = omega arith in
       let e : from + ((i - from) + 1) ≡ suc i = omega arith in
       record {
-        least = omega arith; most = omega arith; room = c .room; long = length-set new i 0 ∙ c .long;
+        least = omega arith;
+        most = omega arith;
+        room = c .room;
+        long = length-set new i 0 ∙ c .long;
         done = ap (λ (x : List ℕ). set x i 0) (shape h) ∙ set-at (take from old ++ replicate (i - from) 0) (getD old i 0) (drop (suc i) old) 0 i (ahead h)
-          ∙ (rw (n, e) (append-assoc (take from old) (replicate (i - from) 0) (0 ∷ drop (suc i) old) ∙ ap (λ (x : List ℕ). take from old ++ x)
-            (sym (append-assoc (replicate (i - from) 0) (0 ∷ []) (drop (suc i) old)) ∙ ap (λ (x : List ℕ). x ++ drop (suc i) old) (replicate-append-replicate (i - from) 1 0)))) }
+            ∙ (rw (n, e) (append-assoc (take from old) (replicate (i - from) 0) (0 ∷ drop (suc i) old) ∙ ap (λ (x : List ℕ). take from old ++ x)
+            (sym (append-assoc (replicate (i - from) 0) (0 ∷ []) (drop (suc i) old)) ∙ ap (λ (x : List ℕ). x ++ drop (suc i) old) (replicate-append-replicate (i - from) 1 0))));
+      }
 
   pub clear-ends : to ≤ i → new ≡ cleared from to old
   clear-ends h =
@@ -95,6 +99,6 @@ cleared-over o buf n used e h =
     let z : List ℕ = replicate (used - n) 0 in
     let l : length (o ++ z) ≡ n + (used - n) = length-append o z ∙ ap₂ (λ (x y : ℕ). x + y) e (length-replicate (used - n) 0) in
     let d : drop (n + (used - n)) (over o buf) ≡ drop (n + (used - n)) buf =
-      sym (drop-drop (used - n) n (over o buf)) ∙ ap (drop (used - n)) (drop-at o (drop (length o) buf) n e ∙ ap (λ (x : ℕ). drop x buf) e) ∙ drop-drop (used - n) n buf in
+    sym (drop-drop (used - n) n (over o buf)) ∙ ap (drop (used - n)) (drop-at o (drop (length o) buf) n e ∙ ap (λ (x : ℕ). drop x buf) e) ∙ drop-drop (used - n) n buf in
     ap₂ (λ (x y : List ℕ). x ++ (z ++ y)) (take-at o (drop (length o) buf) n e) (d ∙ ap (λ (x : ℕ). drop x buf) (sym l))
     ∙ sym (append-assoc o z (drop (length (o ++ z)) buf))

@@ -7,3 +7,4 @@ pub mod Heads
 pub mod Builds
 pub mod Rebuilt
 pub mod Changes
+pub mod Planning

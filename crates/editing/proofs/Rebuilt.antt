@@ -45,9 +45,9 @@ module _ (a h b₁ b₂ b₃ rest : List Bool) (l : List Bool) (e : l ≡ a ++ (
       let z₂ : en - bh ≡ length b₃ = omega arith in
       let z₃ : bh ≡ length a + 17 + length b₁ + length b₂ = omega arith in
       let t₁ : take (at - (head + 17)) (drop (head + 17) l) ≡ b₁ =
-        ap₂ (λ (x : ℕ) (y : List Bool). take x y) z₁ (ap (λ (x : ℕ). drop (x + 17) l) eh ∙ behind-head) ∙ take-at b₁ (b₂ ++ (b₃ ++ rest)) (length b₁) refl in
+      ap₂ (λ (x : ℕ) (y : List Bool). take x y) z₁ (ap (λ (x : ℕ). drop (x + 17) l) eh ∙ behind-head) ∙ take-at b₁ (b₂ ++ (b₃ ++ rest)) (length b₁) refl in
       let t₂ : take (en - bh) (drop bh l) ≡ b₃ =
-        ap₂ (λ (x : ℕ) (y : List Bool). take x y) z₂ (ap (λ (x : ℕ). drop x l) z₃ ∙ behind-piece) ∙ take-at b₃ rest (length b₃) refl in
+      ap₂ (λ (x : ℕ) (y : List Bool). take x y) z₂ (ap (λ (x : ℕ). drop x l) z₃ ∙ behind-piece) ∙ take-at b₃ rest (length b₃) refl in
       ap₂ (λ (x y : List Bool). x ++ y) (ap (λ (x : List Bool). x ++ bitsN w v) (ap₂ (λ (x y : List Bool). x ++ y) (ap (λ (x : List Bool). x ++ bitsN 17 cell) t₀) t₁)) t₂
 
 -- ---- headers
@@ -70,10 +70,13 @@ header-after p b = omega arith
 module _ (m : List ℕ) (t : Tone) (d : Told m t) (ed : Edit) (k i : ℕ) (there : k < length (t .patterns)) (inside : i + removed ed ≤ length (patternAt (t .patterns) k .body)) where
   abbrev ps : List Pattern
   ps = t .patterns
+
   abbrev p : Pattern
   p = patternAt (t .patterns) k
+
   abbrev b : List ℕ
   b = patternAt (t .patterns) k .body
+
   abbrev x : List ℕ
   x = cells (drop (suc k) (t .patterns))
 
@@ -96,22 +99,22 @@ module _ (m : List ℕ) (t : Tone) (d : Told m t) (ed : Edit) (k i : ℕ) (there
   bits-of-cells q s₁ s₂ s₃ e =
       ap tableBits (cells-append (take k ps) (q ∷ drop (suc k) ps)) ∙ tableBits-append (cells (take k ps)) (header q ∷ (q .body ++ x))
       ∙ ap (λ (y : List Bool). tableBits (cells (take k ps)) ++ (entryBits (header q) ++ y))
-        (tableBits-append (q .body) x ∙ ap (λ (y : List Bool). y ++ tableBits x) (ap tableBits e ∙ tableBits-append s₁ (s₂ ++ s₃) ∙ ap (λ (y : List Bool). tableBits s₁ ++ y) (tableBits-append s₂ s₃))
-        ∙ append-assoc (tableBits s₁) (tableBits s₂ ++ tableBits s₃) (tableBits x) ∙ ap (λ (y : List Bool). tableBits s₁ ++ y) (append-assoc (tableBits s₂) (tableBits s₃) (tableBits x)))
+      (tableBits-append (q .body) x ∙ ap (λ (y : List Bool). y ++ tableBits x) (ap tableBits e ∙ tableBits-append s₁ (s₂ ++ s₃) ∙ ap (λ (y : List Bool). tableBits s₁ ++ y) (tableBits-append s₂ s₃))
+      ∙ append-assoc (tableBits s₁) (tableBits s₂ ++ tableBits s₃) (tableBits x) ∙ ap (λ (y : List Bool). tableBits s₁ ++ y) (append-assoc (tableBits s₂) (tableBits s₃) (tableBits x)))
 
   message-bits : bitsOf m ≡ ahead ++ (entryBits (header p) ++ (tableBits (take i b) ++ (tableBits (take (removed ed) (drop i b)) ++ (behind ++ d .behind))))
   message-bits =
       d .bits ∙ ap (λ (y : List Bool). frontBits (frontOf t) ++ (y ++ d .behind))
-        (ap (λ (y : List Pattern). tableBits (cells y)) (split-at ps k (record { id = 0; loop = 0; body = [] }) there)
-        ∙ bits-of-cells p (take i b) (take (removed ed) (drop i b)) (drop (i + removed ed) b) body-split)
+      (ap (λ (y : List Pattern). tableBits (cells y)) (split-at ps k (record { id = 0; loop = 0; body = [] }) there)
+      ∙ bits-of-cells p (take i b) (take (removed ed) (drop i b)) (drop (i + removed ed) b) body-split)
       ∙ simp append-assoc
 
   changed-bits : songBits (changed ed k i t) ≡ ahead ++ (entryBits (header (withBody p (bodyAfter ed i b))) ++ (tableBits (take i b) ++ (tableBits (carried ed) ++ behind)))
   unfolding songBits
   changed-bits =
       ap₂ (λ (y z : List Bool). y ++ z) (ap frontBits (front-same ed k i t))
-        (ap (λ (y : List Pattern). tableBits (cells y)) (set-split ps k (withBody p (bodyAfter ed i b)) there)
-        ∙ bits-of-cells (withBody p (bodyAfter ed i b)) (take i b) (carried ed) (drop (i + removed ed) b) refl)
+      (ap (λ (y : List Pattern). tableBits (cells y)) (set-split ps k (withBody p (bodyAfter ed i b)) there)
+      ∙ bits-of-cells (withBody p (bodyAfter ed i b)) (take i b) (carried ed) (drop (i + removed ed) b) refl)
       ∙ simp append-assoc
 
   -- the places of the code are those of the tone

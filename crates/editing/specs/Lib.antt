@@ -1,3 +1,4 @@
 pub mod Change
 pub mod Editing
 pub mod Places
+pub mod Plan

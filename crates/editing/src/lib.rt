@@ -10,11 +10,12 @@ ghost use Rattle.tone.specs.Table.{width as widthOf, allowed as allowedOf};
 ghost use Rattle.tone.specs.Writing.{tableBits};
 ghost use Rattle.reading.specs.Answers.{Within};
 ghost use Rattle.reader.specs.Judging.{TableAt};
-ghost use Rattle.editing.specs.Change.{isNew as isNewOf, carriesNew, carried, removed as removedOf};
+ghost use Rattle.editing.specs.Change.{isNew as isNewOf, carriesNew, carried, removed as removedOf, inBody};
 ghost use Rattle.tone.specs.Tone.{Tone};
 ghost use Rattle.editing.specs.Places.{SomeTable, Puts, toneOf, Accepted, HeadAt, SpotIn, Begun, Built, headed, reached, pieced, joined};
 ghost use lib.IntN.{pos, _-ℤ_};
 ghost use Rattle.editing.specs.Editing.{cleared};
+ghost use Rattle.editing.specs.Plan.{overdoneOf, groundOf, Known, Plans};
 use bits::BitPlace;
 use bits::OctetCount;
 use bits::Sink;
@@ -273,6 +274,112 @@ fn build(
     let n = spot.end.0 - behind.0;
     let t = copy_bits(msg, behind, n, out, s);
     bits::seal(out, t)
+}
+
+// ---- the plan
+
+// How many instructions an edit puts.
+fn added(edit: Edit) -> u32
+    ensures { λ r. ⌜ (r ≡ length (carried edit)) × (r ≤ 1) ⌝ }
+{
+    match edit {
+        Edit::Replace(_) => 1,
+        Edit::Insert(_) => 1,
+        Edit::Delete => 0,
+    }
+}
+
+// Is the position that of one of `n` instructions? Insert at the count appends.
+fn in_body(edit: Edit, i: usize, n: usize) -> bool
+    ensures { λ r. ⌜ r ≡ inBody edit i n ⌝ }
+{
+    match edit {
+        Edit::Replace(_) => i < n,
+        Edit::Insert(_) => i <= n,
+        Edit::Delete => i < n,
+    }
+}
+
+// Deleting a part's only instruction is 13, inserting into a part of 255 is 14.
+fn overdone(edit: Edit, n: usize) -> u32
+    ensures { λ r. ⌜ r ≡ overdoneOf edit n ⌝ }
+{
+    match edit {
+        Edit::Replace(_) => 0,
+        Edit::Insert(_) => {
+            if n == 255 {
+                return 14;
+            }
+            0
+        }
+        Edit::Delete => {
+            if n == 1 {
+                return 13;
+            }
+            0
+        }
+    }
+}
+
+// The ground against an edit at position `i` of `n` instructions, 0 for none. A recall has none of its own.
+fn ground(edit: Edit, i: usize, n: usize) -> u32
+    ensures { λ r. ⌜ r ≡ groundOf edit i n ⌝ }
+{
+    if n < 1 {
+        return 12;
+    }
+    if in_body(edit, i, n) {
+        return overdone(edit, n);
+    }
+    12
+}
+
+// Why an edit is refused, or what is put where.
+pub enum Plan {
+    Halt(u32),
+    Go {
+        header: BitPlace,
+        cell: u32,
+        spot: Spot,
+        piece: Piece,
+    },
+}
+
+// The plan of an edit of an accepted message of so many patterns and entries, whose first pattern stands at a place.
+fn plan_edit(
+    msg: &[u8],
+    first: BitPlace,
+    patterns: usize,
+    entries: usize,
+    edit: Edit,
+    k: usize,
+    i: usize,
+) -> Plan
+    requires { ⌜ Within (now msg) (first .0) ⌝ }
+    requires { ⌜ Known (now msg) (first .0) patterns entries ⌝ }
+    ensures { λ r. ⌜ Plans (now (msg .entry)) edit k i r ⌝ }
+{
+    if !carries_new(edit) {
+        return Plan::Halt(6);
+    }
+    if patterns <= k {
+        return Plan::Halt(12);
+    }
+    let h = find_header(msg, first, k);
+    let fault = ground(edit, i, (h.cell % 256) as usize);
+    if fault != 0 {
+        return Plan::Halt(fault);
+    }
+    let r = removed(edit);
+    let header = h.at;
+    let next = h.next;
+    let spot = find_spot(msg, next, i, r, entries - h.ahead - 1 - i - r);
+    Plan::Go {
+        header,
+        cell: h.cell + added(edit) - r as u32,
+        spot,
+        piece: carried_piece(edit),
+    }
 }
 
 // ---- the edit
