@@ -1,4 +1,6 @@
 pub mod Duration
 pub mod Sounding
+pub mod Ranges
 pub mod Playing
+pub mod Counting
 pub mod Listing
