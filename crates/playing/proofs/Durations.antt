@@ -42,11 +42,15 @@ pub slowest : (tempo : ℕ) → tempo < 32 → 25 ≤ beats tempo
 unfolding beats
 slowest tempo h = leb-true 25 (beats tempo) (at-each (λ k. leb 25 (beats k)) 32 refl tempo h)
 
+-- a full note is the longest plain one
+pub plain-most : (d : ℕ) → plainUnits d ≤ 384
+plain-most d = div-le-self 384 (2 ^ d)
+
 -- no note has more units than a full one, double dotted
 pub units-most : (d s : ℕ) → units d s ≤ 672
 unfolding units
 units-most d s =
-    let h : plainUnits d ≤ 384 = div-le-self 384 (2 ^ d) in
+    let h = plain-most d in
     pick-elim (λ (n : ℕ). n ≤ 672) (eqb s 1) (λ _. omega arith) (λ _.
     pick-elim (λ (n : ℕ). n ≤ 672) (eqb s 2) (λ _. omega arith) (λ _.
     pick-elim (λ (n : ℕ). n ≤ 672) (eqb s 3) (λ _. omega arith) (λ _. omega arith)))
