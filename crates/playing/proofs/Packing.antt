@@ -1,12 +1,12 @@
 -- The two forms of an entry determine each other.
-use Prim.Native.Nat.{ℕ, zero, suc, _+_, _*_, _/_, _%_, _≤_}
+use Prim.Native.Nat.{ℕ, zero, suc, _+_, _*_, _/_, _%_, _≤_, _<_}
 use native.Mathlib.Omega.{arith}
 use mathlib.Core.Path.{_≡_, refl, sym, ap, ap₂, _∙_}
 use mathlib.Core.List.{List, [], _∷_, _++_}
-use lib.ListN.{length, getD, drop}
-use lib.Seq.{getD-drop}
+use lib.ListN.{length, getD, drop, set, length-append, length-drop}
+use lib.Seq.{getD-drop, drop-cons, set-at, append-snoc}
 use Rattle.playing.specs.declared.Entry.{Entry}
-use Rattle.playing.specs.Sounding.{packed, numbers, unpacked, entriesOf}
+use Rattle.playing.specs.Sounding.{packed, numbers, unpacked, entryAt, entriesOf}
 use Rattle.playing.specs.Ranges.{Bounded, AllBounded}
 
 -- a packed entry within bounds is small
@@ -66,10 +66,24 @@ length-entries zero l = refl
 length-entries (suc n) l = ap suc (length-entries n (drop 2 l))
 
 -- one entry more
-pub entries-more : (n : ℕ) (l : List ℕ) → entriesOf (suc n) l ≡ entriesOf n l ++ (unpacked (getD l (n * 2) 0) (getD l (n * 2 + 1) 0) ∷ [])
+pub entries-more : (n : ℕ) (l : List ℕ) → entriesOf (suc n) l ≡ entriesOf n l ++ (entryAt l n ∷ [])
 entries-more zero l = refl
 entries-more (suc n) l =
     let e : 2 + n * 2 ≡ suc n * 2 = omega arith in
     let e′ : 2 + (n * 2 + 1) ≡ suc n * 2 + 1 = omega arith in
-    ap (λ (r : List Entry). unpacked (getD l 0 0) (getD l 1 0) ∷ r)
-    (entries-more n (drop 2 l) ∙ (rw (getD-drop 2 l (n * 2) 0, getD-drop 2 l (n * 2 + 1) 0, e, e′)))
+    ap (λ (r : List Entry). entryAt l 0 ∷ r) (entries-more n (drop 2 l) ∙ (rw (getD-drop 2 l (n * 2) 0, getD-drop 2 l (n * 2 + 1) 0, e, e′)))
+
+-- rows of which the first n are filled
+abbrev pub filled : List ℕ → List Entry → ℕ → List Entry
+filled l rows n = entriesOf n l ++ drop n rows
+
+pub filled-length : (l : List ℕ) (rows : List Entry) (n : ℕ) → n ≤ length rows → length (filled l rows n) ≡ length rows
+filled-length l rows n h = length-append (entriesOf n l) (drop n rows) ∙ (rw (length-entries n l, length-drop n rows) (omega arith))
+
+-- one row more is filled
+pub filled-next : (l : List ℕ) (rows : List Entry) (n : ℕ) → n < length rows → set (filled l rows n) n (entryAt l n) ≡ filled l rows (suc n)
+filled-next l rows n h =
+    ap (λ (r : List Entry). set (entriesOf n l ++ r) n (entryAt l n)) (drop-cons rows n (entryAt l n) h)
+    ∙ set-at (entriesOf n l) (getD rows n (entryAt l n)) (drop (suc n) rows) (entryAt l n) n (length-entries n l)
+    ∙ sym (append-snoc (entriesOf n l) (entryAt l n) (drop (suc n) rows))
+    ∙ ap (λ (r : List Entry). r ++ drop (suc n) rows) (sym (entries-more n l))

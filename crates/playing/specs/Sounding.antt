@@ -51,7 +51,11 @@ unpacked first second = record {
   microseconds = second;
 }
 
--- so many entries from a list in two-number form
+-- the entry at a position of a list in two-number form
+abbrev pub entryAt : List ℕ → ℕ → Entry
+entryAt l i = unpacked (getD l (i * 2) 0) (getD l (i * 2 + 1) 0)
+
+-- its first n entries
 abbrev pub entriesOf : ℕ → List ℕ → List Entry
 entriesOf zero l = []
-entriesOf (suc n) l = unpacked (getD l 0 0) (getD l 1 0) ∷ entriesOf n (drop 2 l)
+entriesOf (suc n) l = entryAt l 0 ∷ entriesOf n (drop 2 l)

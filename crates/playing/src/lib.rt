@@ -1,10 +1,10 @@
 ghost use mathlib.Core.Path.{_≡_};
 ghost use mathlib.Core.List.{_++_};
 ghost use Prim.Native.Nat.{_+_, _*_, _≤_, _<_};
-ghost use lib.ListN.{length, getD, drop};
+ghost use lib.ListN.{length, drop};
 ghost use Rattle.tone.specs.Table.{durationOf};
 ghost use Rattle.playing.specs.Duration.{beats as beatsOf, units as unitsOf, microseconds as microsecondsOf};
-ghost use Rattle.playing.specs.Sounding.{atStart, applied as appliedTo, sounded as soundedBy, packed as packedOf, unpacked, entriesOf};
+ghost use Rattle.playing.specs.Sounding.{atStart, applied as appliedTo, sounded as soundedBy, packed as packedOf, unpacked, entryAt, entriesOf};
 ghost use Rattle.playing.specs.Ranges.{InRange, Bounded};
 
 // The four settings, as codes.
@@ -175,7 +175,20 @@ fn entry_of(first: u32, second: u32) -> Entry
 // The entry at a position of a list in two-number form.
 fn entry_at(list: &[u32], i: usize) -> Entry
     requires { ⌜ i * 2 + 1 < length (now list) ⌝ }
-    ensures { λ r. ⌜ r ≡ unpacked (getD (now (list .entry)) (i * 2) 0) (getD (now (list .entry)) (i * 2 + 1) 0) ⌝ }
+    ensures { λ r. ⌜ r ≡ entryAt (now (list .entry)) i ⌝ }
 {
     entry_of(list[i * 2], list[i * 2 + 1])
+}
+
+// Fills the first `n` rows from a list in two-number form. The other rows stay.
+fn fill_rows(list: &[u32], n: usize, rows: &mut [Entry])
+    requires { ⌜ (n * 2 ≤ length (now list)) × (n ≤ length (now rows)) ⌝ }
+    ensures { λ _. ⌜ now (rows .exit) ≡ entriesOf n (now (list .entry)) ++ drop n (now (rows .entry)) ⌝ }
+{
+    let mut i = 0;
+    while i < n {
+        let e = entry_at(list, i);
+        rows[i] = e;
+        i += 1;
+    }
 }
