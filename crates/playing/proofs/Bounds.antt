@@ -7,7 +7,7 @@ use mathlib.Core.Bool.{Bool, true, false}
 use mathlib.Core.List.{List, [], _∷_, _++_}
 use lib.ListN.{length, getD, set}
 use lib.Dec.{eqb, leb}
-use borrow.Author.Tests.{eqb-true, eqb-false, leb-true, lt-leb}
+use borrow.Author.Tests.{eqb-true, leb-true, lt-leb}
 use Rattle.bits.proofs.Choice.{pick-elim}
 use Rattle.tone.specs.Table.{kind, payload, width, allowed, noteOf, durationOf, specifierOf, Instruction}
 use Rattle.tone.specs.Tone.{Pattern, Tone, Formed, header, learn, Instructions, Sound, Sequence, noneKnown}
@@ -18,7 +18,7 @@ use Rattle.playing.specs.Ranges.{InRange, Bounded, AllBounded}
 use Rattle.playing.specs.Playing.{Played, step, pass, passes, passesOf, Remembered, unknown, known, recalled, noBodies, isRecall, Listing, bodyOf, remember, patternPlayed, play, playingList}
 use Rattle.playing.specs.Counting.{notes, entryCount}
 use Rattle.playing.specs.Listing.{anyTooLong}
-use Rattle.playing.proofs.Below.{both}
+use Rattle.playing.proofs.Below.{both, at-each}
 use Rattle.playing.proofs.Durations.{duration-most}
 use Rattle.playing.proofs.Counts.{list-count}
 
@@ -61,7 +61,7 @@ notes-most (e ∷ b) = let h = notes-most b in pick-elim (λ (n : ℕ). n + note
 
 passes-most : (loop : ℕ) → loop < 16 → passesOf loop ≤ 15
 unfolding passesOf
-passes-most loop h = pick-elim (λ (n : ℕ). n ≤ 15) (eqb loop 15) (λ _. omega arith) (λ e. let d = eqb-false loop 15 e in omega arith)
+passes-most loop h = leb-true (passesOf loop) 15 (at-each (λ k. leb (passesOf k) 15) 16 refl loop h)
 
 count-most : (bodies : List Remembered) → Bodies bodies → (seen : List Bool) (ps : List Pattern) → Sequence seen ps → entryCount bodies ps ≤ 3825 * length ps
 count-most bodies h seen [] k = omega arith

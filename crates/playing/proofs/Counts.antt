@@ -39,7 +39,7 @@ passes-count (suc n) s b =
 
 pub pattern-count : (s : Settings) (bodies : List Remembered) (p : Pattern) → length (patternPlayed s bodies p .entries) ≡ notes (bodyOf bodies p) * passesOf (p .loop)
 unfolding patternPlayed
-pattern-count s bodies p = passes-count (passesOf (p .loop)) s (bodyOf bodies p)
+pattern-count s bodies p = passes-count (passesOf (p .loop)) _ (bodyOf bodies p)
 
 -- the count is the notes times the passes, summed up to the first loop 15
 pub list-count : (s : Settings) (bodies : List Remembered) (n : ℕ) (ps : List Pattern) → length (play s bodies n ps .entries) ≡ entryCount bodies ps

@@ -134,14 +134,13 @@ fn microseconds(units: u32, beats: u32) -> u32
     units * 625000 / beats
 }
 
-// The entry that a note or pause adds, from its payload.
-fn sounded(s: Settings, payload: u32) -> Entry
+// The entry that a note or pause adds, from its payload. The caller keeps the beats of the tempo at hand.
+fn sounded(s: Settings, beats: u32, payload: u32) -> Entry
     requires { ⌜ InRange s ⌝ }
-    requires { ⌜ durationOf payload ≤ 5 ⌝ }
+    requires { ⌜ (beats ≡ beatsOf (s .tempo)) × (durationOf payload ≤ 5) ⌝ }
     ensures { λ r. ⌜ r ≡ soundedBy s payload ⌝ }
 {
     let units = units(payload / 4 % 8, payload % 4);
-    let beats = beats(s.tempo);
     Entry {
         note: payload / 32,
         scale: s.scale,
