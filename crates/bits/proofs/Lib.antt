@@ -4,3 +4,4 @@ pub mod Places
 pub mod Octets
 pub mod Looking
 pub mod Putting
+pub mod Filled

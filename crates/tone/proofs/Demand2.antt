@@ -18,7 +18,7 @@ use Rattle.bits.proofs.Octets.{length-bitsOf, bitsOf-append, bits-octets, octet
 use Rattle.tone.specs.Tone.{Tone, Formed}
 use Rattle.tone.specs.Writing.{songBits, endBits, toneBits, toneLength, toneOctets, mostOctets, WellFormed}
 use Rattle.tone.specs.Reading.{Got, got, bad, wholeTone, nothingMore, readTone}
-use Rattle.tone.proofs.Patterns.{bitsFrom, whole-exact}
+use Rattle.tone.proofs.Rows.{bitsFrom, whole-exact}
 
 -- ---- a tone's bits and octets
 

@@ -2,7 +2,7 @@
 use Prim.Native.Nat.{ℕ, zero, suc, _+_, _-_, _*_, _/_, _%_, _^_, _≤_, _<_}
 use native.Mathlib.Omega.{arith}
 use native.Mathlib.Nat.{add-assoc, add-zero}
-use mathlib.Core.Path.{_≡_, refl, sym, ap, ap₂, subst, _∙_}
+use mathlib.Core.Path.{_≡_, refl, sym, ap, ap₂, subst, fun-ext, _∙_}
 use mathlib.Core.Bool.{Bool, true, false}
 use mathlib.Core.List.{List, [], _∷_, _++_, append-assoc, append-nil}
 use lib.ListN.{length, drop, take, length-append, length-drop, length-take, take-append-drop}
@@ -13,7 +13,7 @@ use Rattle.bits.specs.Choice.{pick}
 use Rattle.bits.specs.Bits.{num, bitsN, field}
 use Rattle.bits.proofs.Choice.{pick-elim}
 use Rattle.bits.proofs.Numbers.{length-bits, num-bits, field-lt, field-bits, field-take}
-use Rattle.tone.specs.Reading.{Got, got, bad, Reader, onward, _>>=_, _>>_, return, element}
+use Rattle.tone.specs.Reading.{Got, got, bad, Reader, onward, _>>=_, _>>_, return, element, anyOf}
 
 -- a value was read: it is good, and its bits stand between the two places
 pub record Accepted {A : Type 0} (Good : A → Type 0) (bits : ℕ → A → List Bool) (l : List Bool) (at : ℕ) (a : A) (p : ℕ) : Type 0 where
@@ -90,6 +90,13 @@ module _ (w : ℕ) (fine : ℕ → Bool) (number : ℕ) where
   unfolding element
   element-bad l at h f = rw (le-ltb (length l) (at + w) h, f)
 
+  -- what is read stays within the bits
+  pub element-inside : (l : List Bool) (at : ℕ) {a p : ℕ} → element w fine number l at ≡ got a p → p ≤ length l
+  element-inside l at {a} {p} q = let s : Said l at (got a p) = subst (Said l at) q (said l at) in rw (s .2) (s .0)
+
+  pub element-small : (l : List Bool) (at : ℕ) {a p : ℕ} → element w fine number l at ≡ got a p → a < 2 ^ w
+  element-small l at {a} {p} q = let s : Said l at (got a p) = subst (Said l at) q (said l at) in rw (s .1) (field-lt l at w (s .0))
+
   pub element-exact : (v₀ : ℕ) → Fine w fine v₀ → Exact (element w fine number) (Fine w fine) (λ _ v. bitsN w v)
   unfolding field
   element-exact v₀ h₀ = record { some = (v₀, h₀); sound = sound; complete = complete; refusal = refusal }
@@ -129,6 +136,26 @@ module _ (w : ℕ) (fine : ℕ → Bool) (number : ℕ) where
           same : (l l′ : List Bool) (at : ℕ) → at + w ≤ length l′ → at + w ≤ length l → take (at + w) l′ ≡ take (at + w) l → field l′ at w ≡ field l at w
           same l l′ at h h′ e =
               field-take l′ at w (at + w) (omega arith) h ∙ ap (λ (x : List Bool). field x at w) e ∙ sym (field-take l at w (at + w) (omega arith) h′)
+
+-- an element that was read whole, and then judged
+module _ (w : ℕ) (fine : ℕ → Bool) (number : ℕ) (l : List Bool) (at : ℕ) where
+  pub judged-cut : {n p e : ℕ} → anyOf w l at ≡ bad n p e → element w fine number l at ≡ bad n p e
+  unfolding element
+  judged-cut {n} {p} {e} q = go (ltb (length l) (at + w)) (field l at w) (at + w) (pick (fine (field l at w)) (got (field l at w) (at + w)) (bad number at (at + w))) q
+    where
+      go : (t : Bool) (x y : ℕ) (z : Got ℕ) → pick t (bad 2 at (at + w)) (got x y) ≡ bad n p e → pick t (bad 2 at (at + w)) z ≡ bad n p e
+      go true x y z h = h
+      go false x y z h = let z : _≡_ {A = ℕ} 0 1 = cc in absurd (omega arith)
+
+  module _ {v p : ℕ} (q : anyOf w l at ≡ got v p) where
+    all : Said w (λ _. true) 0 l at (got v p)
+    all = subst (Said w (λ _. true) 0 l at) q (said w (λ _. true) 0 l at)
+
+    pub judged-good : fine v ≡ true → element w fine number l at ≡ got v p
+    judged-good h = element-good w fine number l at (all .0) (rw (← all .1) h) ∙ ap₂ (λ (x y : ℕ). got x y) (sym (all .1)) (sym (all .2))
+
+    pub judged-bad : fine v ≡ false → element w fine number l at ≡ bad number at (at + w)
+    judged-bad h = element-bad w fine number l at (all .0) (rw (← all .1) h)
 
 -- ---- the same reader, its values and bits said another way
 
@@ -273,3 +300,12 @@ fixed-exact {C} {s} {G} {b} w code number h x =
     (λ c k. (h, eq-eqb code code refl)))
     (λ c k. k) (λ c k. k)
     (λ at c k. rw (length-bits w code) refl)
+
+-- ---- readers in a row, bracketed the other way
+
+pub then-assoc : {A B C : Type 0} (r : Reader A) (f : A → Reader B) (g : B → Reader C) → (r >>= (λ a. f a >>= g)) ≡ ((r >>= f) >>= g)
+then-assoc {A} {B} {C} r f g = fun-ext (λ l. fun-ext (λ at. go l (r l at)))
+  where
+    go : (l : List Bool) (x : Got A) → onward x (λ a p. (f a >>= g) l p) bad ≡ onward (onward x (λ a p. f a l p) bad) (λ b p. g b l p) bad
+    go l (got a p) = refl
+    go l (bad n p e) = refl

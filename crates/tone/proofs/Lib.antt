@@ -1,6 +1,6 @@
 pub mod Exact
-pub mod Front
-pub mod Patterns
+pub mod Fronts
+pub mod Rows
 pub mod Demand2
 pub mod Refusals
 pub mod Tables

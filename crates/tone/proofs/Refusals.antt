@@ -14,7 +14,7 @@ use Rattle.bits.proofs.Octets.{length-bitsOf}
 use Rattle.tone.specs.Tone.{Tone, Formed}
 use Rattle.tone.specs.Writing.{toneBits, toneLength, toneOctets, mostOctets, WellFormed}
 use Rattle.tone.specs.Reading.{got, bad, wholeTone, readTone}
-use Rattle.tone.proofs.Patterns.{whole-exact}
+use Rattle.tone.proofs.Rows.{whole-exact}
 use Rattle.tone.proofs.Demand2.{Says, Cut, Followed, read-says, bits-from-start, core-reads, written-is-accepted, length-toneBits, length-toneOctets}
 
 -- a refusal of the core: its place, the end of the faulty element, and what both say of other messages

@@ -10,7 +10,7 @@ use borrow.Author.Tests.{eq-eqb, ne-eqb}
 use Rattle.bits.specs.Choice.{pick}
 use Rattle.tone.specs.Table.{kind, Instruction}
 use Rattle.tone.specs.Tone.{Pattern, header, pattern, cells, Gathered, gatherOne, gather, patternsOf, learn, Instructions, Sound, Sequence}
-use Rattle.tone.proofs.Patterns.{header-small, pattern-header}
+use Rattle.tone.proofs.Rows.{header-small, pattern-header}
 
 -- instructions ahead of a table stay loose
 gather-body : (b t : List ℕ) → Instructions b → gather (b ++ t) ≡ record { loose = b ++ gather t .loose; patterns = gather t .patterns }

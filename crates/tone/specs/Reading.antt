@@ -8,7 +8,7 @@ use Rattle.bits.specs.Choice.{pick}
 use Rattle.bits.specs.Bits.{field, bitsOf, fillerTo, placeAfter}
 use Rattle.bits.specs.Outcome.{Outcome, accepted, refused}
 use Rattle.tone.specs.Table.{entry, width, allowed, isInstruction}
-use Rattle.tone.specs.Tone.{Pattern, Tone, specifier, pattern, noneKnown, recallable, learn}
+use Rattle.tone.specs.Tone.{Pattern, Tone, Front, specifier, pattern, noneKnown, recallable, learn}
 use Rattle.tone.specs.Writing.{programming, unicodePart, sound, mostOctets}
 
 -- what reading gives: a value and the place behind it, or a refusal: its number, where the faulty element begins and where it ends
@@ -62,19 +62,28 @@ fillerBit = element 1 (eqb 0) 8
 abbrev pub lengthOctet : Reader ℕ
 lengthOctet = element 8 (λ n. eqb n 2 || eqb n 3) 3
 
+-- a command part and the filler bit behind it
+unfoldable pub filled : ℕ → Reader ℕ
+filled code = part code >> fillerBit
+
 -- the UNICODE part where the length says so, and whether it is there
 unfoldable pub whetherUnicode : ℕ → Reader Bool
-whetherUnicode n = pick (eqb n 3) (part unicodePart >> (fillerBit >> return true)) (return false)
+whetherUnicode n = pick (eqb n 3) (filled unicodePart >> return true) (return false)
+
+-- the sound part, with no filler behind it
+unfoldable pub soundPart : Bool → Reader Bool
+soundPart unicode = part sound >> return unicode
+
+-- the parts that a command length of n announces
+unfoldable pub parts : ℕ → Reader Bool
+parts n = do
+  filled programming
+  unicode ← whetherUnicode n
+  soundPart unicode
 
 -- the command up to the sound part
 unfoldable pub command : Reader Bool
-command = do
-  n ← lengthOctet
-  part programming
-  fillerBit
-  unicode ← whetherUnicode n
-  part sound
-  return unicode
+command = lengthOctet >>= parts
 
 -- the song type: basic or temporary
 abbrev pub songType : Reader ℕ
@@ -102,11 +111,31 @@ text unicode (suc n) = do
 unfoldable pub title : ℕ → Bool → Reader (List ℕ)
 title song unicode = pick (eqb song 1) (anyOf 4 >>= text unicode) (return [])
 
--- ---- the patterns
-
 -- how many patterns follow: at least one
 abbrev pub patternCount : Reader ℕ
 patternCount = element 8 (leb 1) 5
+
+-- the pattern count, which ends the front
+unfoldable pub counted : ℕ → Bool → List ℕ → Reader Front
+counted song unicode octets = do
+  n ← patternCount
+  return (record { song = song; unicode = unicode; title = octets; count = n })
+
+-- the title, and what follows it
+unfoldable pub titled : ℕ → Bool → Reader Front
+titled song unicode = title song unicode >>= counted song unicode
+
+-- the song type, and what follows it
+unfoldable pub typed : Bool → Reader Front
+typed unicode = do
+  song ← songType
+  titled song unicode
+
+-- the command, the song type, the title and the pattern count
+unfoldable pub front : Reader Front
+front = command >>= typed
+
+-- ---- the patterns
 
 -- a header: its id is due, and what it recalls is known
 unfoldable pub headerDue : List Bool → Reader ℕ
@@ -146,17 +175,23 @@ fillerRun l at = element (fillerTo at) (eqb 0) 8 l at
 abbrev pub endOctet : Reader ℕ
 endOctet = element 8 (eqb 0) 9
 
+-- filler and the end octet
+unfoldable pub ending : Reader ℕ
+ending = fillerRun >> endOctet
+
+-- so many patterns, and the end
+unfoldable pub rest : ℕ → Reader (List Pattern)
+rest n = do
+  ps ← patternsDue n noneKnown
+  ending
+  return ps
+
 -- a tone, through its own end octet; what follows that is not looked at
 unfoldable pub wholeTone : Reader Tone
 wholeTone = do
-  unicode ← command
-  song ← songType
-  octets ← title song unicode
-  n ← patternCount
-  ps ← patternsDue n noneKnown
-  fillerRun
-  endOctet
-  return (record { song = song; unicode = unicode; title = octets; patterns = ps })
+  f ← front
+  ps ← rest (f .count)
+  return (record { song = f .song; unicode = f .unicode; title = f .title; patterns = ps })
 
 -- nothing follows the end
 abbrev pub nothingMore : ℕ → Got Tone → Outcome Tone

@@ -22,6 +22,17 @@ pub record Tone : Type 0 where
   pub title : List ℕ
   pub patterns : List Pattern
 
+-- what stands ahead of the patterns: the song type, UNICODE or not, the title, and how many patterns follow
+pub record Front : Type 0 where
+  pub song : ℕ
+  pub unicode : Bool
+  pub title : List ℕ
+  pub count : ℕ
+
+-- a tone's front
+abbrev pub frontOf : Tone → Front
+frontOf t = record { song = t .song; unicode = t .unicode; title = t .title; count = length (t .patterns) }
+
 -- ---- headers, and the table
 
 -- a header's specifier: how many instructions follow, 0 for a recall
@@ -118,10 +129,14 @@ abbrev pub Sequence : List Bool → List Pattern → Type 0
 Sequence known [] = Unit {0}
 Sequence known (p ∷ ps) = Sound p × (recallable known (header p) ≡ true) × Sequence (learn known (header p)) ps
 
+-- a front of a basic or temporary song, its title, and 1 to 255 patterns
+pub record FrontFormed (f : Front) : Type 0 where
+  pub basicOrTemporary : (1 ≤ f .song) × (f .song ≤ 2)
+  pub titled : Titled (f .song) (f .unicode) (f .title)
+  pub some : 1 ≤ f .count
+  pub most : f .count ≤ 255
+
 -- a tone that document 01 allows, but for the bound on its octets
 pub record Formed (t : Tone) : Type 0 where
-  pub basicOrTemporary : (1 ≤ t .song) × (t .song ≤ 2)
-  pub titled : Titled (t .song) (t .unicode) (t .title)
-  pub some : 1 ≤ length (t .patterns)
-  pub most : length (t .patterns) ≤ 255
+  pub front : FrontFormed (frontOf t)
   pub sequence : Sequence noneKnown (t .patterns)

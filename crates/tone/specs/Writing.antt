@@ -7,7 +7,7 @@ use lib.Dec.{eqb}
 use Rattle.bits.specs.Choice.{pick}
 use Rattle.bits.specs.Bits.{bitsN, bitsOf, octets, octetsTo, fillerTo}
 use Rattle.tone.specs.Table.{kind, payload, width}
-use Rattle.tone.specs.Tone.{Tone, Formed, cells, characters}
+use Rattle.tone.specs.Tone.{Tone, Front, frontOf, Formed, cells, characters}
 
 -- ringing-tone programming, UNICODE and sound: the command parts of 000, table 3.7-1
 abbrev pub programming : ℕ
@@ -44,14 +44,13 @@ abbrev pub tableBits : List ℕ → List Bool
 tableBits [] = []
 tableBits (e ∷ t) = entryBits e ++ tableBits t
 
+-- the command, the song type, the title and the pattern count
+unfoldable pub frontBits : Front → List Bool
+frontBits f = commandBits (f .unicode) ++ (bitsN 3 (f .song) ++ (titleBits (f .song) (f .unicode) (f .title) ++ bitsN 8 (f .count)))
+
 -- all that stands ahead of the filler
 unfoldable pub songBits : Tone → List Bool
-songBits t =
-    commandBits (t .unicode)
-    ++ (bitsN 3 (t .song)
-    ++ (titleBits (t .song) (t .unicode) (t .title)
-    ++ (bitsN 8 (length (t .patterns))
-    ++ tableBits (cells (t .patterns)))))
+songBits t = frontBits (frontOf t) ++ tableBits (cells (t .patterns))
 
 -- from a place on, filler to an octet's boundary and the end octet 00
 abbrev pub endBits : ℕ → List Bool

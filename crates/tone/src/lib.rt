@@ -1,1 +1,1 @@
-ghost use mathlib.Core.Path.{_≡_};
+// The rules of tones, and what follows from them, stand in specs/ and proofs/. The crates above this one have the code.

@@ -1,24 +1,25 @@
 -- The front of a message is read exactly: the command, the song type and the title.
 use Prim.Native.Nat.{ℕ, zero, suc, _+_, _-_, _*_, _/_, _%_, _^_, _≤_, _<_}
 use native.Mathlib.Omega.{arith}
+use native.Mathlib.Nat.{add-assoc}
 use mathlib.Core.Path.{_≡_, refl, sym, ap, ap₂, subst, _∙_}
 use mathlib.Core.Bool.{Bool, true, false, _||_}
 use mathlib.Core.List.{List, [], _∷_, _++_, append-assoc, append-nil}
 use mathlib.Core.Logic.{_⊎_, inl, inr, ⊎-elim}
 use lib.ListN.{length, getD, drop, take, length-append, length-drop, length-take, take-append-drop}
 use lib.Seq.{take-at, drop-at, length-take-le}
-use lib.Dec.{ltb, eqb, lit<}
+use lib.Dec.{leb, ltb, eqb, lit<}
 use lib.Pow.{pow-pos}
-use borrow.Author.Tests.{eq-eqb, ne-eqb, eqb-true, eqb-false}
+use borrow.Author.Tests.{eq-eqb, ne-eqb, eqb-true, eqb-false, leb-true, le-leb}
 use Rattle.bits.specs.Choice.{pick}
 use Rattle.bits.specs.Bits.{num, bitsN, bitsOf, field, Octets}
 use Rattle.bits.proofs.Choice.{pick-elim}
 use Rattle.bits.proofs.Numbers.{length-bits, bits-append}
 use Rattle.bits.proofs.Octets.{bitsOf-append, octets-append, octets-take, octets-drop}
-use Rattle.tone.specs.Tone.{perCharacter, characters, Titled}
-use Rattle.tone.specs.Writing.{programming, unicodePart, sound, commandLength, filledPart, commandBits, titleBits}
-use Rattle.tone.specs.Reading.{Reader, _>>=_, _>>_, return, element, anyOf, part, fillerBit, lengthOctet, whetherUnicode, command, songType, allowedCharacter, character, text, title}
-use Rattle.tone.proofs.Exact.{Exact, Fine, exact-as, return-exact, element-exact, then-exact, fixed-exact}
+use Rattle.tone.specs.Tone.{Front, perCharacter, characters, Titled, FrontFormed}
+use Rattle.tone.specs.Writing.{programming, unicodePart, sound, commandLength, filledPart, commandBits, titleBits, frontBits}
+use Rattle.tone.specs.Reading.{Reader, _>>=_, _>>_, return, element, anyOf, part, fillerBit, lengthOctet, filled, whetherUnicode, soundPart, parts, command, songType, allowedCharacter, character, text, title, patternCount, counted, titled, typed, front}
+use Rattle.tone.proofs.Exact.{Exact, Fine, exact-as, return-exact, element-exact, then-exact, then-assoc, fixed-exact}
 
 or-true : (a b : Bool) → (a || b) ≡ true → (a ≡ true) ⊎ (b ≡ true)
 or-true true b h = inl refl
@@ -42,14 +43,21 @@ length-two : (u : Bool) → commandLength u ≡ 2 → u ≡ false
 length-two false h = refl
 length-two true h = let z : ⊥ = omega arith in absurd z
 
+filled-exact : {C : Type 0} {s : Reader C} {G : C → Type 0} {b : ℕ → C → List Bool} (code : ℕ) → code < 128 → Exact s G b → Exact (filled code >> s) G (λ at c. filledPart code ++ b (at + 8) c)
+unfolding filled
+filled-exact {C} {s} {G} {b} code h x =
+    subst (λ (r : Reader C). Exact r G (λ at c. filledPart code ++ b (at + 8) c)) (then-assoc (part code) (λ _. fillerBit) (λ _. s))
+    (exact-as (fixed-exact 7 code 3 h (fixed-exact 1 0 8 (lit< tt) x)) (λ c k. k) (λ c k. k)
+    (λ at c k. rw (add-assoc at 7 1) (sym (append-assoc (bitsN 7 code) (bitsN 1 0) (b (at + 8) c)))))
+
 unicode-exact : (n : ℕ) → (eqb n 2 || eqb n 3) ≡ true → Exact (whetherUnicode n) (λ u. commandLength u ≡ n) (λ _ u. pick u (filledPart unicodePart) [])
 unfolding whetherUnicode
 unicode-exact n hn =
     pick-elim (λ (r : Reader Bool). Exact r (λ u. commandLength u ≡ n) (λ _ u. pick u (filledPart unicodePart) [])) (eqb n 3)
     (λ h. let e : n ≡ 3 = eqb-true n 3 h in
-    exact-as (fixed-exact 7 unicodePart 3 (lit< tt) (fixed-exact 1 0 8 (lit< tt) (return-exact true)))
+    exact-as (filled-exact unicodePart (lit< tt) (return-exact true))
     (λ u k. rw (k, e) refl) (λ u k. length-three u (k ∙ e))
-    (λ at u k. rw (k, append-nil (bitsN 1 0)) refl))
+    (λ at u k. rw k (append-nil (filledPart unicodePart))))
     (λ h. let e : n ≡ 2 = two-or-three n hn (eqb-false n 3 h) in
     exact-as (return-exact false) (λ u k. rw (k, e) refl) (λ u k. length-two u (k ∙ e)) (λ at u k. rw k refl))
 
@@ -57,19 +65,23 @@ commandLength-fine : (u : Bool) → Fine 8 (λ n. eqb n 2 || eqb n 3) (commandLe
 commandLength-fine true = (lit< tt, refl)
 commandLength-fine false = (lit< tt, refl)
 
+parts-exact : (n : ℕ) → (eqb n 2 || eqb n 3) ≡ true → Exact (parts n) (λ u. commandLength u ≡ n) (λ _ u. filledPart programming ++ (pick u (filledPart unicodePart) [] ++ bitsN 7 sound))
+unfolding parts soundPart
+parts-exact n h =
+    filled-exact programming (lit< tt)
+    (exact-as
+    (then-exact (λ (u : Bool). u) {GC = λ u. commandLength u ≡ n} (unicode-exact n h)
+    (λ u k. fixed-exact 7 sound 3 (lit< tt) (exact-as (return-exact u) (λ c e. (rw e k, e)) (λ c e. e .1) (λ at c e. refl)))
+    (λ u k. k))
+    (λ u k. k) (λ u k. k)
+    (λ at u k. ap (λ (y : List Bool). pick u (filledPart unicodePart) [] ++ y) (append-nil (bitsN 7 sound))))
+
 pub command-exact : Exact command (λ _. Unit {0}) (λ _ u. commandBits u)
 unfolding command commandBits
 command-exact =
-    exact-as
-    (then-exact commandLength {GC = λ _. Unit {0}} (element-exact 8 (λ n. eqb n 2 || eqb n 3) 3 2 (commandLength-fine false))
-    (λ n h. fixed-exact 7 programming 3 (lit< tt) (fixed-exact 1 0 8 (lit< tt)
-    (then-exact (λ (u : Bool). u) {GC = λ u. Unit {0} × (commandLength u ≡ n)} (unicode-exact n (h .1))
-    (λ u k. fixed-exact 7 sound 3 (lit< tt) (exact-as (return-exact u) (λ c e. ((tt, rw e k), e)) (λ c e. e .1) (λ at c e. refl)))
-    (λ u k. k .1))))
-    (λ u _. commandLength-fine u))
-    (λ u k. k) (λ u k. k)
-    (λ at u k. ap (λ (y : List Bool). bitsN 8 (commandLength u) ++ y)
-    (rw (append-nil (bitsN 7 sound)) (sym (append-assoc (bitsN 7 programming) (bitsN 1 0) (pick u (filledPart unicodePart) [] ++ bitsN 7 sound)))))
+    then-exact commandLength {GC = λ _. Unit {0}} (element-exact 8 (λ n. eqb n 2 || eqb n 3) 3 2 (commandLength-fine false))
+    (λ n h. exact-as (parts-exact n (h .1)) (λ u k. (tt, k)) (λ u k. k .1) (λ at u k. refl))
+    (λ u _. commandLength-fine u)
 
 -- ---- the title
 
@@ -187,3 +199,32 @@ title-exact song unicode hs = go (eqb song 1) refl
         empty : (song : ℕ) (unicode : Bool) → Titled song unicode []
         empty song true = record { octets = tt; whole = refl; short = omega arith; none = λ _. refl }
         empty song false = record { octets = tt; whole = refl; short = omega arith; none = λ _. refl }
+
+-- ---- the whole front
+
+song-fine : (n : ℕ) → 1 ≤ n → n ≤ 2 → (eqb n 1 || eqb n 2) ≡ true
+song-fine zero a b = let z : ⊥ = omega arith in absurd z
+song-fine (suc zero) a b = refl
+song-fine (suc (suc zero)) a b = refl
+song-fine (suc (suc (suc n))) a b = let z : ⊥ = omega arith in absurd z
+
+pub front-exact : Exact front FrontFormed (λ _ f. frontBits f)
+unfolding front typed titled counted frontBits
+front-exact =
+    exact-as
+    (then-exact (λ (f : Front). f .unicode) {GC = FrontFormed} {bC = λ _ f. bitsN 3 (f .song) ++ (titleBits (f .song) (f .unicode) (f .title) ++ bitsN 8 (f .count))} command-exact
+    (λ u h₁. then-exact (λ (f : Front). f .song) {GC = λ f. FrontFormed f × (f .unicode ≡ u)} {bC = λ _ f. titleBits (f .song) (f .unicode) (f .title) ++ bitsN 8 (f .count)}
+    (element-exact 3 (λ n. eqb n 1 || eqb n 2) 4 1 (lit< tt, refl))
+    (λ s h₂. exact-as (then-exact (λ (f : Front). f .title) {GC = λ f. (FrontFormed f × (f .unicode ≡ u)) × (f .song ≡ s)} (title-exact s u (h₂ .1))
+    (λ o h₃. then-exact (λ (f : Front). f .count) {GC = λ f. ((FrontFormed f × (f .unicode ≡ u)) × (f .song ≡ s)) × (f .title ≡ o)} (element-exact 8 (leb 1) 5 1 (lit< tt, refl))
+    (λ n h₄. exact-as (return-exact (record { song = s; unicode = u; title = o; count = n }))
+    (λ f e. rw e ((((record { basicOrTemporary = one-or-two s (h₂ .1); titled = h₃; some = leb-true 1 n (h₄ .1); most = omega (arith, h₄ .0) }, refl), refl), refl), refl))
+    (λ f k. λ i. record { song = k .0 .0 .1 i; unicode = k .0 .0 .0 .1 i; title = k .0 .1 i; count = k .1 i })
+    (λ at f e. refl))
+    (λ f k. (omega (arith, k .0 .0 .0 .most), le-leb 1 (f .count) (k .0 .0 .0 .some))))
+    (λ f k. rw (← k .1, ← k .0 .1) (k .0 .0 .titled)))
+    (λ f k. k) (λ f k. k)
+    (λ at f k. rw (← k .1, ← k .0 .1) (ap (λ (y : List Bool). titleBits (f .song) (f .unicode) (f .title) ++ y) (append-nil (bitsN 8 (f .count))))))
+    (λ f k. (omega (arith, k .0 .basicOrTemporary .1), song-fine (f .song) (k .0 .basicOrTemporary .0) (k .0 .basicOrTemporary .1))))
+    (λ f k. tt))
+    (λ f k. k) (λ f k. k) (λ at f k. refl)

@@ -14,11 +14,11 @@ use Rattle.bits.specs.Bits.{num, bitsN, bitsOf, field, fillerTo}
 use Rattle.bits.proofs.Choice.{pick-elim}
 use Rattle.bits.proofs.Numbers.{length-bits, zero-bits}
 use Rattle.tone.specs.Table.{entry, kind, payload, width, noteOf, durationOf, allowed, isInstruction, InTable, Instruction}
-use Rattle.tone.specs.Tone.{Pattern, Tone, specifier, loopOf, partOf, header, pattern, cells, noneKnown, recallable, learn, Titled, Instructions, Sound, Sequence, Formed}
-use Rattle.tone.specs.Writing.{commandBits, titleBits, entryBits, tableBits, songBits, endBits}
-use Rattle.tone.specs.Reading.{Got, got, bad, Reader, _>>=_, _>>_, return, element, songType, patternCount, headerDue, instructionDue, bodyDue, patternsDue, fillerRun, endOctet, command, title, wholeTone}
-use Rattle.tone.proofs.Exact.{Exact, Fine, exact-as, return-exact, element-exact, then-exact, fixed-exact}
-use Rattle.tone.proofs.Front.{one-or-two, command-exact, title-exact}
+use Rattle.tone.specs.Tone.{Pattern, Tone, Front, frontOf, specifier, loopOf, partOf, header, pattern, cells, noneKnown, recallable, learn, Instructions, Sound, Sequence, Formed}
+use Rattle.tone.specs.Writing.{entryBits, tableBits, frontBits, songBits, endBits}
+use Rattle.tone.specs.Reading.{Got, got, bad, Reader, _>>=_, _>>_, return, element, headerDue, instructionDue, bodyDue, patternsDue, fillerRun, endOctet, ending, rest, wholeTone}
+use Rattle.tone.proofs.Exact.{Exact, Fine, exact-as, return-exact, element-exact, then-exact, then-assoc, fixed-exact}
+use Rattle.tone.proofs.Fronts.{front-exact}
 
 and-true : (a b : Bool) → (a && b) ≡ true → (a ≡ true) × (b ≡ true)
 and-true true b h = (refl, h)
@@ -42,6 +42,10 @@ width-most (suc (suc (suc (suc (suc (suc k)))))) = omega arith
 -- a payload is below 65,536
 pub payload-lt : (k p : ℕ) → p < 2 ^ width k → p < 65536
 payload-lt k p h = lt-of-lt-of-le h (pow-mono {j = 16} (omega (arith, width-most k)))
+
+pub length-entryBits : (e : ℕ) → length (entryBits e) ≡ 3 + width (kind e)
+unfolding entryBits
+length-entryBits e = rw (length-append (bitsN 3 (kind e)) (bitsN (width (kind e)) (payload e)), length-bits 3 (kind e), length-bits (width (kind e)) (payload e))
 
 -- an entry's parts
 pub parts : (k p : ℕ) → p < 65536 → (kind (entry k p) ≡ k) × (payload (entry k p) ≡ p)
@@ -236,14 +240,16 @@ filler-exact = record {
         exact-as (element-exact (fillerTo at) (eqb 0) 8 0 (pow-pos (fillerTo at), refl))
         (λ v k. sym (eqb-true 0 v (k .1))) (λ v k. rw k (pow-pos (fillerTo at), refl)) (λ _ v k. refl)
 
-pub ending-exact : {A : Type 0} (a : A) → Exact (fillerRun >> (endOctet >> return a)) (λ c. c ≡ a) (λ at c. endBits at)
+pub ending-exact : {A : Type 0} (a : A) → Exact (ending >> return a) (λ c. c ≡ a) (λ at c. endBits at)
+unfolding ending
 ending-exact {A} a =
-    exact-as
+    subst (λ (r : Reader A). Exact r (λ c. c ≡ a) (λ at c. endBits at)) (then-assoc fillerRun (λ _. endOctet) (λ _. return a))
+    (exact-as
     (then-exact (λ (c : A). 0) {GC = λ c. c ≡ a} filler-exact
     (λ v h. exact-as (fixed-exact 8 0 9 (lit< tt) (return-exact a)) (λ c k. (k, sym h)) (λ c k. k .0) (λ at c k. refl))
     (λ c k. refl))
     (λ c k. k) (λ c k. k)
-    (λ at c k. rw (append-nil (bitsN 8 0), zero-bits (fillerTo at), zero-bits 8) (replicate-append-replicate (fillerTo at) 8 false))
+    (λ at c k. rw (append-nil (bitsN 8 0), zero-bits (fillerTo at), zero-bits 8) (replicate-append-replicate (fillerTo at) 8 false)))
 
 -- ---- the whole
 
@@ -257,45 +263,28 @@ ahead x y at =
     ap (λ (n : ℕ). x ++ (y ++ endBits n)) (add-assoc at (length x) (length y) ∙ ap (λ (n : ℕ). at + n) (sym (length-append x y)))
     ∙ sym (append-assoc x y (endBits (at + length (x ++ y))))
 
--- what stands from the title on
-abbrev fromTitle : ℕ → Tone → List Bool
-fromTitle at t = let b = titleBits (t .song) (t .unicode) (t .title) ++ (bitsN 8 (length (t .patterns)) ++ tableBits (cells (t .patterns))) in b ++ endBits (at + length b)
+pub rest-exact : (n : ℕ) → Exact (rest n) (Row n noneKnown) (λ at ps. let b = tableBits (cells ps) in b ++ endBits (at + length b))
+unfolding rest
+rest-exact n =
+    then-exact (λ (ps : List Pattern). ps) {GC = Row n noneKnown} (patterns-exact n noneKnown)
+    (λ ps h. exact-as (ending-exact ps) (λ qs e. rw e (h, refl)) (λ qs k. k .1) (λ at qs e. refl))
+    (λ ps h. h)
 
 pub whole-exact : Exact wholeTone Formed bitsFrom
 unfolding wholeTone songBits
 whole-exact =
     exact-as
-    (then-exact (λ (t : Tone). t .unicode) {GC = Formed} {bC = λ at t. bitsN 3 (t .song) ++ fromTitle (at + length (bitsN 3 (t .song))) t} command-exact
-    (λ u h₁. then-exact (λ (t : Tone). t .song) {GC = λ t. Formed t × (t .unicode ≡ u)} {bC = fromTitle} (element-exact 3 (λ n. eqb n 1 || eqb n 2) 4 1 (lit< tt, refl))
-    (λ s h₂. exact-as (then-exact (λ (t : Tone). t .title) {GC = λ t. (Formed t × (t .unicode ≡ u)) × (t .song ≡ s)} (title-exact s u (h₂ .1))
-    (λ o h₃. then-exact (λ (t : Tone). length (t .patterns)) {GC = λ t. ((Formed t × (t .unicode ≡ u)) × (t .song ≡ s)) × (t .title ≡ o)} (element-exact 8 (leb 1) 5 1 (lit< tt, refl))
-    (λ n h₄. then-exact (λ (t : Tone). t .patterns) {GC = λ t. (((Formed t × (t .unicode ≡ u)) × (t .song ≡ s)) × (t .title ≡ o)) × (length (t .patterns) ≡ n)} (patterns-exact n noneKnown)
-    (λ ps h₅. exact-as (ending-exact (record { song = s; unicode = u; title = o; patterns = ps }))
-    (λ t e. rw e (((((record { basicOrTemporary = one-or-two s (h₂ .1); titled = h₃; some = rw (h₅ .size) (leb-true 1 n (h₄ .1)); most = rw (h₅ .size) (omega (arith, h₄ .0)); sequence = h₅ .sequence }, refl), refl), refl), h₅ .size), refl))
-    (λ t f. made t (f .0 .0 .0 .0 .1) (f .0 .0 .0 .1) (f .0 .0 .1) (f .1))
+    (then-exact frontOf {GC = Formed} {bC = λ at t. let b = tableBits (cells (t .patterns)) in b ++ endBits (at + length b)} front-exact
+    (λ f h. exact-as (then-exact (λ (t : Tone). t .patterns) {GC = λ t. Formed t × (frontOf t ≡ f)} (rest-exact (f .count))
+    (λ ps g. exact-as (return-exact (record { song = f .song; unicode = f .unicode; title = f .title; patterns = ps }))
+    (λ t e. rw e ((record { front = rw (g .size) h; sequence = g .sequence }, front-same f (g .size)), refl))
+    (λ t k. λ i. record { song = k .0 .1 i .song; unicode = k .0 .1 i .unicode; title = k .0 .1 i .title; patterns = k .1 i })
     (λ at t e. refl))
-    (λ t f. record { sequence = f .0 .0 .0 .0 .sequence; size = f .1 }))
-    (λ t f. (omega (arith, f .0 .0 .0 .most), le-leb 1 (length (t .patterns)) (f .0 .0 .0 .some))))
-    (λ t f. rw (← f .1, ← f .0 .1) (f .0 .0 .titled)))
-    (λ t f. f) (λ t f. f)
-    (λ at t f. rw (← f .1, ← f .0 .1) (
-    let x = titleBits (t .song) (t .unicode) (t .title) in
-    ap (λ (y : List Bool). x ++ y) (ahead (bitsN 8 (length (t .patterns))) (tableBits (cells (t .patterns))) (at + length x))
-    ∙ ahead x (bitsN 8 (length (t .patterns)) ++ tableBits (cells (t .patterns))) at)))
-    (λ t f. (omega (arith, f .0 .basicOrTemporary .1), song-fine (t .song) (f .0 .basicOrTemporary .0) (f .0 .basicOrTemporary .1))))
-    (λ t f. tt))
-    (λ t f. f) (λ t f. f)
-    (λ at t f.
-    let c = commandBits (t .unicode) in
-    let s = bitsN 3 (t .song) in
-    let x = titleBits (t .song) (t .unicode) (t .title) ++ (bitsN 8 (length (t .patterns)) ++ tableBits (cells (t .patterns))) in
-    ap (λ (y : List Bool). c ++ y) (ahead s x (at + length c)) ∙ ahead c (s ++ x) at)
+    (λ t k. record { sequence = k .0 .sequence; size = ap (λ (x : Front). x .count) (k .1) }))
+    (λ t k. k) (λ t k. k) (λ at t k. append-nil _))
+    (λ t k. k .front))
+    (λ t k. k) (λ t k. k)
+    (λ at t k. ahead (frontBits (frontOf t)) (tableBits (cells (t .patterns))) at)
   where
-    made : (t : Tone) {s : ℕ} {u : Bool} {o : List ℕ} {ps : List Pattern} → t .unicode ≡ u → t .song ≡ s → t .title ≡ o → t .patterns ≡ ps → t ≡ record { song = s; unicode = u; title = o; patterns = ps }
-    made t a b c d = λ i. record { song = b i; unicode = a i; title = c i; patterns = d i }
-
-    song-fine : (n : ℕ) → 1 ≤ n → n ≤ 2 → (eqb n 1 || eqb n 2) ≡ true
-    song-fine zero a b = let z : ⊥ = omega arith in absurd z
-    song-fine (suc zero) a b = refl
-    song-fine (suc (suc zero)) a b = refl
-    song-fine (suc (suc (suc n))) a b = let z : ⊥ = omega arith in absurd z
+    front-same : (f : Front) {n : ℕ} → n ≡ f .count → record { song = f .song; unicode = f .unicode; title = f .title; count = n } ≡ f
+    front-same f e = λ i. record { song = f .song; unicode = f .unicode; title = f .title; count = e i }

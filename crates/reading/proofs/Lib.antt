@@ -1,0 +1,6 @@
+pub mod Elements
+pub mod Steps
+pub mod Walks
+pub mod Openings
+pub mod Judging
+pub mod Filling

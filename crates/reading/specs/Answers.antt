@@ -1,0 +1,108 @@
+-- What the code answers of an element that was due.
+use Prim.Native.Nat.{ℕ, _+_, _*_, _^_, _≤_, _<_}
+use mathlib.Core.Bool.{Bool, true, false}
+use mathlib.Core.Path.{_≡_}
+use mathlib.Core.List.{List, [], _∷_, _++_}
+use lib.ListN.{length, drop}
+use lib.Dec.{eqb}
+use Rattle.bits.specs.Choice.{pick}
+use Rattle.bits.specs.Bits.{bitsOf, Octets, placeAfter}
+use Rattle.bits.specs.declared.BitPlace.{BitPlace}
+use Rattle.bits.specs.Outcome.{Outcome, accepted, refused}
+use Rattle.reading.specs.declared.Step.{Step}
+use Rattle.reading.specs.declared.Step.the-variants.{Good, Bad}
+use Rattle.reading.specs.declared.Command.{Command}
+use Rattle.reading.specs.declared.Command.the-variants.{Announced, Withheld}
+use Rattle.reading.specs.declared.Opening.{Opening}
+use Rattle.reading.specs.declared.Opening.the-variants.{Opened, Closed}
+use Rattle.tone.specs.Table.{kind}
+use Rattle.tone.specs.Table.{InTable}
+use Rattle.tone.specs.Tone.{Pattern, Tone, Front, frontOf, cells}
+use Rattle.tone.specs.Writing.{entryBits, tableBits, frontBits}
+use Rattle.reading.specs.declared.Judged.{Judged}
+use Rattle.reading.specs.declared.Judged.the-variants.{Sound, Faulty}
+use Rattle.tone.specs.Reading.{Got, got, bad}
+
+-- a place within a message, whose bits a place can count
+pub record Within (m : List ℕ) (at : ℕ) : Type 0 where
+  pub inside : at ≤ placeAfter (length m)
+  pub counted : length m < 2 ^ 60
+
+-- a number as a bit place
+abbrev pub place : ℕ → BitPlace
+place p = record { 0 = p }
+
+-- what was read, as the number that f makes of it, or the refusal
+abbrev pub stepAs : {A : Type 0} → (A → ℕ) → Got A → Step
+stepAs f (got a p) = Good (f a) (place p)
+stepAs f (bad n p e) = Bad n (place p)
+
+-- a number that was read, or the refusal
+abbrev pub stepOf : Got ℕ → Step
+stepOf g = stepAs (λ v. v) g
+
+-- 1 for a note or pause, 0 for any other instruction
+abbrev pub noteIn : ℕ → ℕ
+noteIn e = pick (eqb (kind e) 1) 1 0
+
+-- how many notes and pauses a body has
+abbrev pub notes : List ℕ → ℕ
+notes [] = 0
+notes (e ∷ b) = noteIn e + notes b
+
+-- how many entries patterns have in the tone table
+abbrev pub entries : List Pattern → ℕ
+entries ps = length (cells ps)
+
+-- whether UNICODE is announced, or the refusal
+abbrev pub commandOf : Got Bool → Command
+commandOf (got u p) = Announced u (place p)
+commandOf (bad n p e) = Withheld n (place p)
+
+-- the front as the code answers it, or the refusal
+abbrev pub openingOf : Got Front → Opening
+openingOf (got f p) = Opened (f .song) (f .unicode) (length (f .title)) (f .count) (place p)
+openingOf (bad n p e) = Closed n (place p)
+
+-- ---- a whole message
+
+-- a tone that was judged, or the refusal: song type, UNICODE or not, the title's octets, the patterns, the entries, and the place of the first pattern
+abbrev pub judgedOf : Outcome Tone → Judged
+judgedOf (accepted t) =
+    Sound (t .song) (t .unicode) (length (t .title)) (length (t .patterns)) (entries (t .patterns)) (place (length (frontBits (frontOf t))))
+judgedOf (refused n p) = Faulty n (place p)
+
+-- ---- what stands at a place of a message that was judged
+
+-- the entry e stands at a place, and the bits r behind it
+pub record EntryAt (m : List ℕ) (at e : ℕ) (r : List Bool) : Type 0 where
+  pub inTable : InTable e
+  pub here : drop at (bitsOf m) ≡ entryBits e ++ r
+
+-- some entry does
+pub record SomeEntry (m : List ℕ) (at : ℕ) : Type 0 where
+  pub entry : ℕ
+  pub behind : List Bool
+  pub stands : EntryAt m at entry behind
+
+-- the entry e was taken up, and the place behind it
+pub record Passed (at e cell next : ℕ) : Type 0 where
+  pub taken : cell ≡ e
+  pub behind : next ≡ at + length (entryBits e)
+
+-- each is an entry of the table
+abbrev pub Entries : List ℕ → Type 0
+Entries [] = Unit {0}
+Entries (e ∷ t) = InTable e × Entries t
+
+-- the entries t stand at a place, one after the other
+pub record TableAt (m : List ℕ) (at : ℕ) (t : List ℕ) : Type 0 where
+  pub each : Entries t
+  pub behind : List Bool
+  pub here : drop at (bitsOf m) ≡ tableBits t ++ behind
+
+-- the octets o stand at a place, one after the other
+pub record OctetsAt (m : List ℕ) (at : ℕ) (o : List ℕ) : Type 0 where
+  pub each : Octets o
+  pub behind : List Bool
+  pub here : drop at (bitsOf m) ≡ bitsOf o ++ behind

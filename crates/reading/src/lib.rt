@@ -1,0 +1,626 @@
+ghost use mathlib.Core.Path.{_≡_};
+ghost use Prim.Native.Nat.{ℕ, _+_, _*_, _^_, _≤_, _<_};
+ghost use lib.ListN.{length};
+ghost use lib.Dec.{eqb};
+ghost use Rattle.bits.specs.Lent.{over};
+ghost use Rattle.bits.specs.Choice.{pick};
+ghost use Rattle.bits.specs.Bits.{bitsOf, placeAfter};
+ghost use Rattle.tone.specs.Table.{width as widthOf, allowed as allowedOf};
+ghost use Rattle.tone.specs.Tone.{perCharacter, noneKnown, learn};
+ghost use Rattle.tone.specs.Reading.{element, anyOf, filled, soundPart, parts as partsDue, command, text as textDue, title as titleDue, titled as titledDue, front};
+ghost use Rattle.tone.specs.Reading.{headerDue, instructionDue, bodyDue, patternsDue, ending as endingDue, rest as restDue, readTone};
+ghost use Rattle.reading.specs.Answers.{Within, stepAs, stepOf, commandOf, noteIn, notes as notesOf, entries as entriesOf, openingOf, judgedOf, SomeEntry, EntryAt, Passed, TableAt, OctetsAt};
+ghost use mathlib.Core.Bool.{Bool};
+ghost use mathlib.Core.List.{List};
+ghost use Rattle.reading.specs.Promise.{tableOf, titleOf, ReadPromise};
+use bits::BitPlace;
+use bits::OctetCount;
+
+// An element that was due: its number and the place behind it, or the refusal's number and place.
+pub enum Step {
+    Good { value: u32, next: BitPlace },
+    Bad { number: u32, at: BitPlace },
+}
+
+// A message's command: UNICODE or not, and the place behind it; or the refusal.
+pub enum Command {
+    Announced { unicode: bool, next: BitPlace },
+    Withheld { number: u32, at: BitPlace },
+}
+
+// The front of a message: song type, UNICODE or not, the title's octets, the pattern count and the place behind it; or the refusal.
+pub enum Opening {
+    Opened {
+        song: u32,
+        unicode: bool,
+        octets: u32,
+        count: u32,
+        next: BitPlace,
+    },
+    Closed {
+        number: u32,
+        at: BitPlace,
+    },
+}
+
+// An entry that stands at a place, and the place behind it.
+pub struct Cell {
+    pub cell: u32,
+    pub next: BitPlace,
+}
+
+// A message that was judged: song type, UNICODE or not, the title's octets, patterns, table entries, and the place of the
+// first pattern; or the refusal.
+pub enum Judged {
+    Sound {
+        song: u32,
+        unicode: bool,
+        octets: u32,
+        patterns: u32,
+        entries: u32,
+        at: BitPlace,
+    },
+    Faulty {
+        number: u32,
+        at: BitPlace,
+    },
+}
+
+// What reading a message answers.
+pub enum Reading {
+    Read {
+        song: u32,
+        unicode: bool,
+        characters: u32,
+        patterns: u32,
+        entries: u32,
+    },
+    Refused {
+        number: u32,
+        place: BitPlace,
+    },
+}
+
+// How many bits are left from a place on.
+fn left(msg: &[u8], at: BitPlace) -> usize
+    requires { ⌜ Within (now msg) (at .0) ⌝ }
+    ensures { λ r. ⌜ r + at .0 ≡ placeAfter (length (now (msg .entry))) ⌝ }
+{
+    bits::place_after(OctetCount(msg.len())).0 - at.0
+}
+
+// An element of `w` bits in which any code is allowed.
+pub fn any(msg: &[u8], at: BitPlace, w: u32) -> Step
+    requires { ⌜ Within (now msg) (at .0) ⌝ }
+    requires { ⌜ (1 ≤ w) × (w ≤ 24) ⌝ }
+    ensures { λ r. ⌜ r ≡ stepOf (anyOf w (bitsOf (now (msg .entry))) (at .0)) ⌝ }
+{
+    if left(msg, at) < w as usize {
+        return Step::Bad { number: 2, at };
+    }
+    let x = bits::look(msg, at);
+    Step::Good {
+        value: bits::part(x, 0, w),
+        next: BitPlace(at.0 + w as usize),
+    }
+}
+
+// An element of `w` bits in which one code is due, and any other is the refusal `number`.
+pub fn due(msg: &[u8], at: BitPlace, w: u32, code: u32, number: u32) -> Step
+    requires { ⌜ Within (now msg) (at .0) ⌝ }
+    requires { ⌜ (1 ≤ w) × (w ≤ 24) ⌝ }
+    ensures { λ r. ⌜ r ≡ stepOf (element w (eqb code) number (bitsOf (now (msg .entry))) (at .0)) ⌝ }
+{
+    if left(msg, at) < w as usize {
+        return Step::Bad { number: 2, at };
+    }
+    let x = bits::look(msg, at);
+    let value = bits::part(x, 0, w);
+    if code == value {
+        return Step::Good {
+            value,
+            next: BitPlace(at.0 + w as usize),
+        };
+    }
+    Step::Bad { number, at }
+}
+
+// How many payload bits each kind has.
+const WIDTHS: [u32; 6] = [14, 9, 2, 2, 5, 4];
+
+// How many payload bits a kind has.
+fn width(kind: u32) -> u32
+    requires { ⌜ kind ≤ 5 ⌝ }
+    ensures { λ r. ⌜ (r ≡ widthOf kind) × (r ≤ 14) ⌝ }
+{
+    WIDTHS[kind as usize]
+}
+
+// Is the payload a code that the instruction table has?
+fn allowed(kind: u32, payload: u32) -> bool
+    ensures { λ r. ⌜ r ≡ allowedOf kind payload ⌝ }
+{
+    if kind == 1 {
+        if payload / 32 <= 12 {
+            return payload / 4 % 8 <= 5;
+        }
+        return false;
+    }
+    if kind == 3 {
+        return payload <= 2;
+    }
+    true
+}
+
+// An instruction: its id, and then the rest of it.
+pub fn instruction(msg: &[u8], at: BitPlace) -> Step
+    requires { ⌜ Within (now msg) (at .0) ⌝ }
+    ensures { λ r. ⌜ r ≡ stepOf (instructionDue (bitsOf (now (msg .entry))) (at .0)) ⌝ }
+{
+    let rest = left(msg, at);
+    if rest < 3 {
+        return Step::Bad { number: 2, at };
+    }
+    let x = bits::look(msg, at);
+    let kind = x / 2097152;
+    if kind == 0 {
+        return Step::Bad { number: 6, at };
+    }
+    if 5 < kind {
+        return Step::Bad { number: 6, at };
+    }
+    let w = width(kind);
+    if rest < 3 + w as usize {
+        return Step::Bad {
+            number: 2,
+            at: BitPlace(at.0 + 3),
+        };
+    }
+    let payload = bits::part(x, 3, w);
+    if allowed(kind, payload) {
+        return Step::Good {
+            value: kind * 65536 + payload,
+            next: BitPlace(at.0 + 3 + w as usize),
+        };
+    }
+    Step::Bad {
+        number: 6,
+        at: BitPlace(at.0 + 3),
+    }
+}
+
+// A header: its id, and then the rest of it. `known` says which of A to D are defined.
+pub fn header(msg: &[u8], at: BitPlace, known: [bool; 4]) -> Step
+    requires { ⌜ Within (now msg) (at .0) ⌝ }
+    ensures { λ r. ⌜ r ≡ stepOf (headerDue known (bitsOf (now (msg .entry))) (at .0)) ⌝ }
+{
+    let rest = left(msg, at);
+    if rest < 3 {
+        return Step::Bad { number: 2, at };
+    }
+    let x = bits::look(msg, at);
+    if x / 2097152 != 0 {
+        return Step::Bad { number: 6, at };
+    }
+    if rest < 17 {
+        return Step::Bad {
+            number: 2,
+            at: BitPlace(at.0 + 3),
+        };
+    }
+    let payload = x / 128;
+    let next = BitPlace(at.0 + 17);
+    if payload % 256 != 0 {
+        return Step::Good {
+            value: payload,
+            next,
+        };
+    }
+    let id = (payload / 4096 % 4) as usize;
+    if known[id] {
+        return Step::Good {
+            value: payload,
+            next,
+        };
+    }
+    Step::Bad {
+        number: 7,
+        at: BitPlace(at.0 + 3),
+    }
+}
+
+// ---- the patterns
+
+// 1 for a note or pause, 0 for any other instruction.
+fn note_in(cell: u32) -> u32
+    ensures { λ r. ⌜ (r ≡ noteIn cell) × (r ≤ 1) ⌝ }
+{
+    if cell / 65536 == 1 { 1 } else { 0 }
+}
+
+// `n` instructions. The number is how many of them are notes or pauses.
+pub fn body(msg: &[u8], at: BitPlace, n: u32) -> Step
+    requires { ⌜ Within (now msg) (at .0) ⌝ }
+    requires { ⌜ n ≤ 255 ⌝ }
+    ensures { λ r. ⌜ r ≡ stepAs notesOf (bodyDue n (bitsOf (now (msg .entry))) (at .0)) ⌝ }
+{
+    let mut place = at;
+    let mut left = n;
+    let mut notes: u32 = 0;
+    while 0 < left {
+        match instruction(msg, place) {
+            Step::Bad { number, at: fault } => {
+                return Step::Bad { number, at: fault };
+            }
+            Step::Good { value, next } => {
+                notes += note_in(value);
+                place = next;
+                left -= 1;
+            }
+        }
+    }
+    Step::Good {
+        value: notes,
+        next: place,
+    }
+}
+
+// The ids known after a header: a definition makes its own known.
+pub fn learned(known: [bool; 4], header: u32) -> [bool; 4]
+    ensures { λ r. ⌜ r ≡ learn known header ⌝ }
+{
+    if header % 256 == 0 {
+        return known;
+    }
+    let mut after = known;
+    after[(header / 4096 % 4) as usize] = true;
+    after
+}
+
+// `n` patterns. The number is how many entries they have in the tone table.
+pub fn patterns(msg: &[u8], at: BitPlace, n: u32) -> Step
+    requires { ⌜ Within (now msg) (at .0) ⌝ }
+    requires { ⌜ n ≤ 255 ⌝ }
+    ensures { λ r. ⌜ r ≡ stepAs entriesOf (patternsDue n noneKnown (bitsOf (now (msg .entry))) (at .0)) ⌝ }
+{
+    let mut known = [false; 4];
+    let mut place = at;
+    let mut left = n;
+    let mut entries: u32 = 0;
+    while 0 < left {
+        match header(msg, place, known) {
+            Step::Bad { number, at: fault } => {
+                return Step::Bad { number, at: fault };
+            }
+            Step::Good { value, next } => match body(msg, next, value % 256) {
+                Step::Bad { number, at: fault } => {
+                    return Step::Bad { number, at: fault };
+                }
+                Step::Good {
+                    value: _,
+                    next: behind,
+                } => {
+                    let after = learned(known, value);
+                    known = after;
+                    place = behind;
+                    entries += 1 + value % 256;
+                    left -= 1;
+                }
+            },
+        }
+    }
+    Step::Good {
+        value: entries,
+        next: place,
+    }
+}
+
+// ---- the front
+
+// A command part of seven bits, and the filler bit behind it.
+fn filled_part(msg: &[u8], at: BitPlace, code: u32) -> Step
+    requires { ⌜ Within (now msg) (at .0) ⌝ }
+    ensures { λ r. ⌜ r ≡ stepOf (filled code (bitsOf (now (msg .entry))) (at .0)) ⌝ }
+{
+    match due(msg, at, 7, code, 3) {
+        Step::Bad { number, at: fault } => Step::Bad { number, at: fault },
+        Step::Good { value: _, next } => due(msg, next, 1, 0, 8),
+    }
+}
+
+// The sound part, with no filler behind it.
+fn sound_part(msg: &[u8], at: BitPlace, unicode: bool) -> Command
+    requires { ⌜ Within (now msg) (at .0) ⌝ }
+    ensures { λ r. ⌜ r ≡ commandOf (soundPart unicode (bitsOf (now (msg .entry))) (at .0)) ⌝ }
+{
+    match due(msg, at, 7, 29, 3) {
+        Step::Bad { number, at: fault } => Command::Withheld { number, at: fault },
+        Step::Good { value: _, next } => Command::Announced { unicode, next },
+    }
+}
+
+// The parts that a command length of 2 or 3 announces.
+fn parts(msg: &[u8], at: BitPlace, length: u32) -> Command
+    requires { ⌜ Within (now msg) (at .0) ⌝ }
+    ensures { λ r. ⌜ r ≡ commandOf (partsDue length (bitsOf (now (msg .entry))) (at .0)) ⌝ }
+{
+    match filled_part(msg, at, 37) {
+        Step::Bad { number, at: fault } => Command::Withheld { number, at: fault },
+        Step::Good { value: _, next } => {
+            if length != 3 {
+                return sound_part(msg, next, false);
+            }
+            match filled_part(msg, next, 34) {
+                Step::Bad { number, at: fault } => Command::Withheld { number, at: fault },
+                Step::Good {
+                    value: _,
+                    next: behind,
+                } => sound_part(msg, behind, true),
+            }
+        }
+    }
+}
+
+// The command up to the sound part.
+pub fn announced(msg: &[u8], at: BitPlace) -> Command
+    requires { ⌜ Within (now msg) (at .0) ⌝ }
+    ensures { λ r. ⌜ r ≡ commandOf (command (bitsOf (now (msg .entry))) (at .0)) ⌝ }
+{
+    match any(msg, at, 8) {
+        Step::Bad { number, at: fault } => Command::Withheld { number, at: fault },
+        Step::Good { value, next } => {
+            if value == 2 {
+                return parts(msg, next, value);
+            }
+            if value == 3 {
+                return parts(msg, next, value);
+            }
+            Command::Withheld { number: 3, at }
+        }
+    }
+}
+
+// The bits of a title's character.
+fn character_bits(unicode: bool) -> u32
+    ensures { λ r. ⌜ (r ≡ pick unicode 16 8) × (r ≤ 16) × (1 ≤ r) ⌝ }
+{
+    if unicode { 16 } else { 8 }
+}
+
+// The octets of a title's character.
+fn character_octets(unicode: bool) -> u32
+    ensures { λ r. ⌜ (r ≡ perCharacter unicode) × (r ≤ 2) ⌝ }
+{
+    if unicode { 2 } else { 1 }
+}
+
+// `n` characters. The number is how many octets they are.
+fn text(msg: &[u8], at: BitPlace, unicode: bool, n: u32) -> Step
+    requires { ⌜ Within (now msg) (at .0) ⌝ }
+    requires { ⌜ n ≤ 15 ⌝ }
+    ensures { λ r. ⌜ r ≡ stepAs length (textDue unicode n (bitsOf (now (msg .entry))) (at .0)) ⌝ }
+{
+    let bits = character_bits(unicode);
+    let each = character_octets(unicode);
+    let mut place = at;
+    let mut left = n;
+    let mut octets: u32 = 0;
+    while 0 < left {
+        match any(msg, place, bits) {
+            Step::Bad { number, at: fault } => {
+                return Step::Bad { number, at: fault };
+            }
+            Step::Good { value: _, next } => {
+                octets += each;
+                place = next;
+                left -= 1;
+            }
+        }
+    }
+    Step::Good {
+        value: octets,
+        next: place,
+    }
+}
+
+// The title of a basic song; a temporary one has none. The number is how many octets it is.
+fn title(msg: &[u8], at: BitPlace, song: u32, unicode: bool) -> Step
+    requires { ⌜ Within (now msg) (at .0) ⌝ }
+    ensures { λ r. ⌜ r ≡ stepAs length (titleDue song unicode (bitsOf (now (msg .entry))) (at .0)) ⌝ }
+{
+    if song != 1 {
+        return Step::Good { value: 0, next: at };
+    }
+    match any(msg, at, 4) {
+        Step::Bad { number, at: fault } => Step::Bad { number, at: fault },
+        Step::Good { value, next } => text(msg, next, unicode, value),
+    }
+}
+
+// The title and the pattern count behind it.
+fn titled(msg: &[u8], at: BitPlace, song: u32, unicode: bool) -> Opening
+    requires { ⌜ Within (now msg) (at .0) ⌝ }
+    ensures { λ r. ⌜ r ≡ openingOf (titledDue song unicode (bitsOf (now (msg .entry))) (at .0)) ⌝ }
+{
+    match title(msg, at, song, unicode) {
+        Step::Bad { number, at: fault } => Opening::Closed { number, at: fault },
+        Step::Good {
+            value: octets,
+            next: behind,
+        } => match any(msg, behind, 8) {
+            Step::Bad { number, at: fault } => Opening::Closed { number, at: fault },
+            Step::Good { value, next } => {
+                if value == 0 {
+                    return Opening::Closed {
+                        number: 5,
+                        at: behind,
+                    };
+                }
+                Opening::Opened {
+                    song,
+                    unicode,
+                    octets,
+                    count: value,
+                    next,
+                }
+            }
+        },
+    }
+}
+
+// The command, the song type, the title and the pattern count.
+pub fn open(msg: &[u8], at: BitPlace) -> Opening
+    requires { ⌜ Within (now msg) (at .0) ⌝ }
+    ensures { λ r. ⌜ r ≡ openingOf (front (bitsOf (now (msg .entry))) (at .0)) ⌝ }
+{
+    match announced(msg, at) {
+        Command::Withheld { number, at: fault } => Opening::Closed { number, at: fault },
+        Command::Announced { unicode, next } => match any(msg, next, 3) {
+            Step::Bad { number, at: fault } => Opening::Closed { number, at: fault },
+            Step::Good {
+                value,
+                next: behind,
+            } => {
+                if value == 1 {
+                    return titled(msg, behind, value, unicode);
+                }
+                if value == 2 {
+                    return titled(msg, behind, value, unicode);
+                }
+                Opening::Closed {
+                    number: 4,
+                    at: next,
+                }
+            }
+        },
+    }
+}
+
+// ---- the end
+
+// Filler to an octet's boundary, and the end octet.
+pub fn ending(msg: &[u8], at: BitPlace) -> Step
+    requires { ⌜ Within (now msg) (at .0) ⌝ }
+    ensures { λ r. ⌜ r ≡ stepOf (endingDue (bitsOf (now (msg .entry))) (at .0)) ⌝ }
+{
+    let reached = bits::place_after(bits::octets_to(at));
+    let filler = (reached.0 - at.0) as u32;
+    if filler == 0 {
+        return due(msg, at, 8, 0, 9);
+    }
+    match due(msg, at, filler, 0, 8) {
+        Step::Bad { number, at: fault } => Step::Bad { number, at: fault },
+        Step::Good { value: _, next } => due(msg, next, 8, 0, 9),
+    }
+}
+
+// ---- a whole message
+
+// Patterns, filler and the end octet. The number is how many entries there are in the tone table.
+fn rest(msg: &[u8], at: BitPlace, n: u32) -> Step
+    requires { ⌜ Within (now msg) (at .0) ⌝ }
+    requires { ⌜ n ≤ 255 ⌝ }
+    ensures { λ r. ⌜ r ≡ stepAs entriesOf (restDue n (bitsOf (now (msg .entry))) (at .0)) ⌝ }
+{
+    match patterns(msg, at, n) {
+        Step::Bad { number, at: fault } => Step::Bad { number, at: fault },
+        Step::Good {
+            value,
+            next: behind,
+        } => match ending(msg, behind) {
+            Step::Bad { number, at: fault } => Step::Bad { number, at: fault },
+            Step::Good { value: _, next } => Step::Good { value, next },
+        },
+    }
+}
+
+// Judges a whole message, and changes nothing.
+pub fn judge(msg: &[u8]) -> Judged
+    ensures { λ r. ⌜ r ≡ judgedOf (readTone (now (msg .entry))) ⌝ }
+{
+    if 4096 < msg.len() {
+        return Judged::Faulty {
+            number: 1,
+            at: BitPlace(0),
+        };
+    }
+    match open(msg, BitPlace(0)) {
+        Opening::Closed { number, at: fault } => Judged::Faulty { number, at: fault },
+        Opening::Opened {
+            song,
+            unicode,
+            octets,
+            count,
+            next: at,
+        } => match rest(msg, at, count) {
+            Step::Bad { number, at: fault } => Judged::Faulty { number, at: fault },
+            Step::Good {
+                value: entries,
+                next: end,
+            } => {
+                if end.0 != bits::place_after(OctetCount(msg.len())).0 {
+                    return Judged::Faulty {
+                        number: 10,
+                        at: end,
+                    };
+                }
+                Judged::Sound {
+                    song,
+                    unicode,
+                    octets,
+                    patterns: count,
+                    entries,
+                    at,
+                }
+            }
+        },
+    }
+}
+
+// ---- filling, once a message is judged
+
+// The entry at a place where one stands.
+pub fn entry_at(msg: &[u8], at: BitPlace) -> Cell
+    requires { ⌜ Within (now msg) (at .0) ⌝ }
+    requires { ⌜ SomeEntry (now msg) (at .0) ⌝ }
+    ensures { λ r. ⌜ ((e : ℕ) (b : List Bool) → EntryAt (now (msg .entry)) (at .0) e b → Passed (at .0) e (r .cell) (r .next .0)) ⌝ }
+{
+    let x = bits::look(msg, at);
+    let kind = x / 2097152;
+    let w = width(kind);
+    Cell {
+        cell: kind * 65536 + bits::part(x, 3, w),
+        next: BitPlace(at.0 + 3 + w as usize),
+    }
+}
+
+// Writes the `n` entries that stand at a place to the table.
+fn fill_table(msg: &[u8], at: BitPlace, n: usize, table: &mut [u32])
+    requires { ⌜ Within (now msg) (at .0) ⌝ }
+    requires { ⌜ (n ≤ length (now table)) × (n ≡ length (tableOf (now msg))) × TableAt (now msg) (at .0) (tableOf (now msg)) ⌝ }
+    ensures { λ _. ⌜ now (table .exit) ≡ over (tableOf (now (msg .entry))) (now (table .entry)) ⌝ }
+{
+    let mut place = at;
+    let mut i: usize = 0;
+    while i < n {
+        let c = entry_at(msg, place);
+        table[i] = c.cell;
+        place = c.next;
+        i += 1;
+    }
+}
+
+// Writes the `n` octets that stand at a place to the title.
+fn fill_title(msg: &[u8], at: BitPlace, n: usize, title: &mut [u8])
+    requires { ⌜ Within (now msg) (at .0) ⌝ }
+    requires { ⌜ (n ≤ length (now title)) × (n ≡ length (titleOf (now msg))) × OctetsAt (now msg) (at .0) (titleOf (now msg)) ⌝ }
+    ensures { λ _. ⌜ now (title .exit) ≡ over (titleOf (now (msg .entry))) (now (title .entry)) ⌝ }
+{
+    let mut place = at;
+    let mut i: usize = 0;
+    while i < n {
+        title[i] = bits::part(bits::look(msg, place), 0, 8) as u8;
+        place = BitPlace(place.0 + 8);
+        i += 1;
+    }
+}
