@@ -16,7 +16,8 @@ use Rattle.playing.specs.declared.Entry.{Entry}
 use Rattle.playing.specs.Sounding.{atStart, applied, sounded}
 use Rattle.playing.specs.Ranges.{InRange, Bounded, AllBounded}
 use Rattle.playing.specs.Playing.{Played, step, pass, passes, passesOf, Remembered, unknown, known, recalled, noBodies, isRecall, Listing, bodyOf, remember, patternPlayed, play, playingList}
-use Rattle.playing.specs.Counting.{notes, entryCount}
+use Rattle.reading.specs.Answers.{notes}
+use Rattle.playing.specs.Counting.{entryCount}
 use Rattle.playing.specs.Listing.{anyTooLong}
 use Rattle.playing.proofs.Below.{both, at-each}
 use Rattle.playing.proofs.Durations.{duration-most}
@@ -75,7 +76,7 @@ count-most bodies h seen (p ∷ ps) k =
 -- a tone's list has at most 975,375 entries
 pub list-most : (t : Tone) → Formed t → length (playingList t .entries) ≤ 975375
 unfolding playingList
-list-most t f = let c = count-most noBodies bodies-start noneKnown (t .patterns) (f .sequence) in let m = f .most in rw (list-count atStart noBodies 0 (t .patterns)) (omega arith)
+list-most t f = let c = count-most noBodies bodies-start noneKnown (t .patterns) (f .sequence) in let m = f .front .most in rw (list-count atStart noBodies 0 (t .patterns)) (omega arith)
 
 -- ---- the settings
 

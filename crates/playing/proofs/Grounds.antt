@@ -13,7 +13,7 @@ use Rattle.bits.proofs.Choice.{pick-elim}
 use Rattle.tone.specs.Table.{width, allowed, isInstruction}
 use Rattle.tone.specs.Tone.{Tone, specifier, noneKnown, recallable, learn}
 use Rattle.tone.specs.Writing.{programming, unicodePart, sound, mostOctets}
-use Rattle.tone.specs.Reading.{Got, got, bad, Reader, onward, _>>=_, return, element, part, fillerBit, whetherUnicode, command, character, text, title, headerDue, instructionDue, bodyDue, patternsDue, fillerRun, wholeTone, nothingMore, readTone}
+use Rattle.tone.specs.Reading.{Got, got, bad, Reader, onward, _>>=_, return, element, part, fillerBit, filled, whetherUnicode, soundPart, parts, command, character, text, title, counted, titled, typed, front, headerDue, instructionDue, bodyDue, patternsDue, fillerRun, ending, rest, wholeTone, nothingMore, readTone}
 use Rattle.tone.proofs.Demand2.{accepted-is-written}
 use Rattle.playing.specs.Playing.{Listing, playingList}
 use Rattle.playing.specs.Listing.{listed, listTone}
@@ -78,25 +78,32 @@ filler-numbered = element-numbered 1 (eqb 0) 8 (omega arith)
 run-numbered : Numbered fillerRun
 run-numbered = record { small = λ l at. element-numbered (fillerTo at) (eqb 0) 8 (omega arith) .small l at }
 
+filled-numbered : (code : ℕ) → Numbered (filled code)
+unfolding filled
+filled-numbered code = then-numbered (part-numbered code) (λ _. filler-numbered)
+
 command-numbered : Numbered command
-unfolding command whetherUnicode
+unfolding command parts whetherUnicode soundPart
 command-numbered =
     then-numbered (element-numbered 8 _ 3 (omega arith)) (λ n.
-    then-numbered (part-numbered programming) (λ _.
-    then-numbered filler-numbered (λ _.
-    then-numbered (pick-elim Numbered (eqb n 3) (λ _. then-numbered (part-numbered unicodePart) (λ _. then-numbered filler-numbered (λ _. return-numbered true))) (λ _. return-numbered false)) (λ u.
-    then-numbered (part-numbered sound) (λ _. return-numbered u)))))
+    then-numbered (filled-numbered programming) (λ _.
+    then-numbered (pick-elim Numbered (eqb n 3) (λ _. then-numbered (filled-numbered unicodePart) (λ _. return-numbered true)) (λ _. return-numbered false)) (λ u.
+    then-numbered (part-numbered sound) (λ _. return-numbered u))))
 
-whole-numbered : Numbered wholeTone
-unfolding wholeTone title
-whole-numbered =
+front-numbered : Numbered front
+unfolding front typed titled title counted
+front-numbered =
     then-numbered command-numbered (λ u.
     then-numbered (element-numbered 3 _ 4 (omega arith)) (λ s.
     then-numbered (pick-elim Numbered (eqb s 1) (λ _. then-numbered (element-numbered 4 _ 0 (omega arith)) (text-numbered u)) (λ _. return-numbered [])) (λ o.
-    then-numbered (element-numbered 8 (leb 1) 5 (omega arith)) (λ n.
-    then-numbered (patterns-numbered n noneKnown) (λ ps.
-    then-numbered run-numbered (λ _.
-    then-numbered (element-numbered 8 (eqb 0) 9 (omega arith)) (λ _. return-numbered _)))))))
+    then-numbered (element-numbered 8 (leb 1) 5 (omega arith)) (λ n. return-numbered _))))
+
+whole-numbered : Numbered wholeTone
+unfolding wholeTone rest ending
+whole-numbered =
+    then-numbered front-numbered (λ f.
+    then-numbered (then-numbered (patterns-numbered (f .count) noneKnown) (λ ps.
+    then-numbered (then-numbered run-numbered (λ _. element-numbered 8 (eqb 0) 9 (omega arith))) (λ _. return-numbered ps))) (λ ps. return-numbered _))
 
 -- ---- outcomes
 

@@ -10,7 +10,7 @@ use borrow.Author.Tests.{eqb-true, eqb-false}
 use Rattle.bits.specs.Choice.{pick}
 use Rattle.bits.proofs.Choice.{pick-elim}
 use Rattle.tone.specs.Tone.{Pattern, header, noneKnown, learn, Sound, Sequence}
-use Rattle.tone.proofs.Patterns.{header-small, pattern-header}
+use Rattle.tone.proofs.Rows.{header-small, pattern-header}
 use Rattle.playing.specs.Sounding.{atStart}
 use Rattle.playing.specs.Playing.{Remembered, unknown, known, recalled, noBodies, isRecall, bodyOf, remember, patternPlayed, play}
 use Rattle.playing.proofs.Joining.{bodiesAfter, same-behind}

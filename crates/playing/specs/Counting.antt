@@ -3,14 +3,9 @@ use Prim.Native.Nat.{ℕ, _+_, _*_}
 use mathlib.Core.List.{List, [], _∷_}
 use lib.Dec.{eqb}
 use Rattle.bits.specs.Choice.{pick}
-use Rattle.tone.specs.Table.{kind}
 use Rattle.tone.specs.Tone.{Pattern}
+use Rattle.reading.specs.Answers.{notes}
 use Rattle.playing.specs.Playing.{Remembered, passesOf, bodyOf, remember}
-
--- the notes and pauses of a body
-abbrev pub notes : List ℕ → ℕ
-notes [] = 0
-notes (e ∷ b) = pick (eqb (kind e) 1) 1 0 + notes b
 
 -- notes times passes, summed up to the first loop 15
 abbrev pub entryCount : List Remembered → List Pattern → ℕ
