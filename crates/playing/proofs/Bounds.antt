@@ -46,21 +46,26 @@ body-set (r ∷ bodies) h (suc i) b k = (h .0, body-set bodies (h .1) i b k)
 pub bodies-start : Bodies noBodies
 bodies-start = ((tt, omega arith), ((tt, omega arith), ((tt, omega arith), ((tt, omega arith), tt))))
 
-pub bodies-kept : (bodies : List Remembered) → Bodies bodies → (p : Pattern) → Sound p → Bodies (remember bodies p)
+pub bodies-kept : (bodies : List Remembered) → Bodies bodies → (p : Pattern) → Body (p .body) → Bodies (remember bodies p)
 unfolding remember
-bodies-kept bodies h p s = pick-elim Bodies (isRecall p) (λ _. h) (λ _. body-set bodies h (p .id) (p .body) (s .each, s .long))
+bodies-kept bodies h p k = pick-elim Bodies (isRecall p) (λ _. h) (λ _. body-set bodies h (p .id) (p .body) k)
 
-pub body-kept : (bodies : List Remembered) → Bodies bodies → (p : Pattern) → Sound p → Body (bodyOf bodies p)
+pub body-kept : (bodies : List Remembered) → Bodies bodies → (p : Pattern) → Body (p .body) → Body (bodyOf bodies p)
 unfolding bodyOf
-body-kept bodies h p s = pick-elim Body (isRecall p) (λ _. body-at bodies h (p .id)) (λ _. (s .each, s .long))
+body-kept bodies h p k = pick-elim Body (isRecall p) (λ _. body-at bodies h (p .id)) (λ _. k)
+
+pub sound-body : (p : Pattern) → Sound p → Body (p .body)
+sound-body p s = (s .each, s .long)
 
 -- ---- the number of entries
 
-notes-most : (b : List ℕ) → notes b ≤ length b
+-- a body has no more notes than instructions
+pub notes-most : (b : List ℕ) → notes b ≤ length b
 notes-most [] = omega arith
 notes-most (e ∷ b) = let h = notes-most b in pick-elim (λ (n : ℕ). n + notes b ≤ suc (length b)) (eqb (kind e) 1) (λ _. omega arith) (λ _. omega arith)
 
-passes-most : (loop : ℕ) → loop < 16 → passesOf loop ≤ 15
+-- fifteen passes at most
+pub passes-most : (loop : ℕ) → loop < 16 → passesOf loop ≤ 15
 unfolding passesOf
 passes-most loop h = leb-true (passesOf loop) 15 (at-each (λ k. leb (passesOf k) 15) 16 refl loop h)
 
@@ -69,8 +74,8 @@ count-most bodies h seen [] k = omega arith
 count-most bodies h seen (p ∷ ps) k =
     let n = notes (bodyOf bodies p) in
     let one : n * passesOf (p .loop) ≤ 255 * 15 =
-    mul-le-mul (le-trans (notes-most (bodyOf bodies p)) (body-kept bodies h p (k .0) .1)) (passes-most (p .loop) (k .0 .loop)) in
-    let more = count-most (remember bodies p) (bodies-kept bodies h p (k .0)) (learn seen (header p)) ps (k .2) in
+    mul-le-mul (le-trans (notes-most (bodyOf bodies p)) (body-kept bodies h p (sound-body p (k .0)) .1)) (passes-most (p .loop) (k .0 .loop)) in
+    let more = count-most (remember bodies p) (bodies-kept bodies h p (sound-body p (k .0))) (learn seen (header p)) ps (k .2) in
     pick-elim (λ (m : ℕ). n * passesOf (p .loop) + m ≤ 3825 * suc (length ps)) (eqb (p .loop) 15) (λ _. omega arith) (λ _. omega arith)
 
 -- a tone's list has at most 975,375 entries
@@ -137,14 +142,14 @@ passes-fair (suc n) s b r i =
 
 pub pattern-fair : (s : Settings) (bodies : List Remembered) (p : Pattern) → InRange s → Bodies bodies → Sound p → Fair (patternPlayed s bodies p)
 unfolding patternPlayed
-pattern-fair s bodies p r h k = passes-fair (passesOf (p .loop)) s (bodyOf bodies p) r (body-kept bodies h p k .0)
+pattern-fair s bodies p r h k = passes-fair (passesOf (p .loop)) s (bodyOf bodies p) r (body-kept bodies h p (sound-body p k) .0)
 
 pub play-bounded : (s : Settings) (bodies : List Remembered) (n : ℕ) (seen : List Bool) (ps : List Pattern) → InRange s → Bodies bodies → Sequence seen ps → AllBounded (play s bodies n ps .entries)
 play-bounded s bodies n seen [] r h k = tt
 play-bounded s bodies n seen (p ∷ ps) r h k =
     let d = patternPlayed s bodies p in
     let f = pattern-fair s bodies p r h (k .0) in
-    let more = play-bounded (d .after) (remember bodies p) (n + length (d .entries)) (learn seen (header p)) ps (f .1) (bodies-kept bodies h p (k .0)) (k .2) in
+    let more = play-bounded (d .after) (remember bodies p) (n + length (d .entries)) (learn seen (header p)) ps (f .1) (bodies-kept bodies h p (sound-body p (k .0))) (k .2) in
     pick-elim (λ (g : Listing). AllBounded (g .entries)) (eqb (p .loop) 15) (λ _. f .0)
     (λ _. bounded-append (d .entries) (play (d .after) (remember bodies p) (n + length (d .entries)) ps .entries) (f .0) more)
 

@@ -8,3 +8,4 @@ pub mod Bounds
 pub mod Grounds
 pub mod Packing
 pub mod Settling
+pub mod Tallies

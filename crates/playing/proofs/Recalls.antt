@@ -9,7 +9,7 @@ use lib.Dec.{eqb}
 use borrow.Author.Tests.{eqb-true, eqb-false}
 use Rattle.bits.specs.Choice.{pick}
 use Rattle.bits.proofs.Choice.{pick-elim}
-use Rattle.tone.specs.Tone.{Pattern, header, noneKnown, learn, Sound, Sequence}
+use Rattle.tone.specs.Tone.{Pattern, specifier, partOf, pattern, header, noneKnown, learn, Sound, Sequence}
 use Rattle.tone.proofs.Rows.{header-small, pattern-header}
 use Rattle.playing.specs.Sounding.{atStart}
 use Rattle.playing.specs.Playing.{Remembered, unknown, known, recalled, noBodies, isRecall, bodyOf, remember, patternPlayed, play}
@@ -45,7 +45,7 @@ orElse-unknown : (a : Remembered) → orElse a unknown ≡ a
 orElse-unknown unknown = refl
 orElse-unknown (known x) = refl
 
-remember-length : (bodies : List Remembered) (p : Pattern) → length (remember bodies p) ≡ length bodies
+pub remember-length : (bodies : List Remembered) (p : Pattern) → length (remember bodies p) ≡ length bodies
 unfolding remember
 remember-length bodies p = go (isRecall p)
   where
@@ -127,13 +127,17 @@ map-set (x ∷ bodies) zero r = refl
 map-set (x ∷ bodies) (suc i) r = ap (λ (l : List Bool). isKnown x ∷ l) (map-set bodies i r)
 
 -- what reading knows is what playing remembers
-pub learn-remembers : (bodies : List Remembered) (p : Pattern) → Sound p → learn (knownOf bodies) (header p) ≡ knownOf (remember bodies p)
+pub learn-read : (bodies : List Remembered) (h : ℕ) (b : List ℕ) → length b ≡ specifier h → learn (knownOf bodies) h ≡ knownOf (remember bodies (pattern h b))
 unfolding remember
-learn-remembers bodies p s = rw (header-small p s .1, ap (λ (r : Pattern). r .id) (pattern-header p s)) (go (isRecall p))
+learn-read bodies h b e = rw (← e) (go (eqb (length b) 0))
   where
-    go : (t : Bool) → pick t (knownOf bodies) (set (knownOf bodies) (p .id) true) ≡ knownOf (pick t bodies (set bodies (p .id) (known (p .body))))
+    go : (t : Bool) → pick t (knownOf bodies) (set (knownOf bodies) (partOf h) true) ≡ knownOf (pick t bodies (set bodies (partOf h) (known b)))
     go true = refl
-    go false = map-set bodies (p .id) (known (p .body))
+    go false = map-set bodies (partOf h) (known b)
+
+learn-remembers : (bodies : List Remembered) (p : Pattern) → Sound p → learn (knownOf bodies) (header p) ≡ knownOf (remember bodies p)
+learn-remembers bodies p s =
+    learn-read bodies (header p) (p .body) (sym (header-small p s .1)) ∙ ap (λ (q : Pattern). knownOf (remember bodies q)) (pattern-header p s)
 
 -- the patterns behind others follow from what those leave
 pub sequence-behind : (bodies : List Remembered) (ps qs : List Pattern) → Sequence (knownOf bodies) (ps ++ qs) → Sequence (knownOf (bodiesAfter bodies ps)) qs

@@ -3,4 +3,5 @@ pub mod Sounding
 pub mod Ranges
 pub mod Playing
 pub mod Counting
+pub mod Answers
 pub mod Listing

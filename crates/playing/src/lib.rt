@@ -2,10 +2,21 @@ ghost use mathlib.Core.Path.{_≡_};
 ghost use mathlib.Core.List.{_++_};
 ghost use Prim.Native.Nat.{_+_, _*_, _≤_, _<_};
 ghost use lib.ListN.{length, drop};
+ghost use Rattle.bits.specs.Bits.{bitsOf};
 ghost use Rattle.tone.specs.Table.{durationOf};
+ghost use Rattle.tone.specs.Tone.{noneKnown};
+ghost use Rattle.tone.specs.Reading.{patternsDue, readTone};
+ghost use Rattle.reading.specs.Answers.{Within};
 ghost use Rattle.playing.specs.Duration.{beats as beatsOf, units as unitsOf, microseconds as microsecondsOf};
 ghost use Rattle.playing.specs.Sounding.{atStart, applied as appliedTo, sounded as soundedBy, packed as packedOf, unpacked, entryAt, entriesOf};
 ghost use Rattle.playing.specs.Ranges.{InRange, Bounded};
+ghost use Rattle.playing.specs.Playing.{passesOf, noBodies};
+ghost use Rattle.playing.specs.Counting.{markOf};
+ghost use Rattle.playing.specs.Answers.{totalFrom, noCount, counted as countedOf, noted as notedOf, tallyAs, verdictOf};
+use bits::BitPlace;
+use bits::OctetCount;
+use reading::Opening;
+use reading::Step;
 
 // The four settings, as codes.
 pub struct Settings {
@@ -22,6 +33,41 @@ pub struct Entry {
     pub style: u32,
     pub volume: u32,
     pub microseconds: u32,
+}
+
+// What is counted so far: the entries, the return mark, and whether a loop 15 has ended the list.
+pub struct Count {
+    pub entries: u32,
+    pub mark: u32,
+    pub ended: bool,
+}
+
+// What patterns come to: the entries of their list, its return mark and the place behind them; or the refusal.
+pub enum Tally {
+    Counted {
+        entries: u32,
+        mark: u32,
+        next: BitPlace,
+    },
+    Stopped {
+        number: u32,
+        at: BitPlace,
+    },
+}
+
+// A message that was judged: the entries of its list, the return mark, the patterns and the place of the first of them; or
+// the refusal.
+pub enum Verdict {
+    Listable {
+        entries: u32,
+        mark: u32,
+        patterns: u32,
+        at: BitPlace,
+    },
+    Faulty {
+        number: u32,
+        at: BitPlace,
+    },
 }
 
 impl Settings {
@@ -189,5 +235,116 @@ fn fill_rows(list: &[u32], n: usize, rows: &mut [Entry])
         let e = entry_at(list, i);
         rows[i] = e;
         i += 1;
+    }
+}
+
+// ---- judging
+
+// The return mark where there is none.
+const NO_MARK: u32 = 4294967295;
+
+// How many passes a loop value lists.
+fn passes_of(value: u32) -> u32
+    requires { ⌜ value ≤ 15 ⌝ }
+    ensures { λ r. ⌜ (r ≡ passesOf value) × (1 ≤ r) × (r ≤ 15) ⌝ }
+{
+    if value == 15 { 1 } else { value + 1 }
+}
+
+// The mark of a loop-15 pass of so many notes that starts at `n`.
+fn mark_of(n: u32, notes: u32) -> u32
+    ensures { λ r. ⌜ r ≡ markOf n notes ⌝ }
+{
+    if notes == 0 { NO_MARK } else { n }
+}
+
+impl Count {
+    // Nothing is counted.
+    fn none() -> Count
+        ensures { λ r. ⌜ r ≡ noCount ⌝ }
+    {
+        Count {
+            entries: 0,
+            mark: NO_MARK,
+            ended: false,
+        }
+    }
+
+    // One pattern more, of so many notes and this loop value.
+    fn with(self, notes: u32, value: u32) -> Count
+        requires { ⌜ (self .entries ≤ 971550) × (notes ≤ 255) × (value ≤ 15) ⌝ }
+        ensures { λ r. ⌜ r ≡ countedOf self notes value ⌝ }
+    {
+        if self.ended {
+            return self;
+        }
+        let entries = self.entries + notes * passes_of(value);
+        if value == 15 {
+            return Count {
+                entries,
+                mark: mark_of(self.entries, notes),
+                ended: true,
+            };
+        }
+        Count {
+            entries,
+            mark: self.mark,
+            ended: false,
+        }
+    }
+}
+
+// The notes of the four bodies after a header and so many notes of its own.
+fn noted(notes: [u32; 4], header: u32, own: u32) -> [u32; 4]
+    ensures { λ r. ⌜ r ≡ notedOf notes header own ⌝ }
+{
+    if header % 256 == 0 {
+        return notes;
+    }
+    let mut after = notes;
+    after[(header / 4096 % 4) as usize] = own;
+    after
+}
+
+// Judges `n` patterns and counts the entries of their list.
+fn patterns(msg: &[u8], at: BitPlace, n: u32) -> Tally
+    requires { ⌜ Within (now msg) (at .0) ⌝ }
+    requires { ⌜ n ≤ 255 ⌝ }
+    ensures { λ r. ⌜ r ≡ tallyAs (totalFrom noBodies 0) (patternsDue n noneKnown (bitsOf (now (msg .entry))) (at .0)) ⌝ }
+{
+    let mut known = [false; 4];
+    let mut notes = [0u32; 4];
+    let mut place = at;
+    let mut left = n;
+    let mut count = Count::none();
+    while 0 < left {
+        match reading::header(msg, place, known) {
+            Step::Bad { number, at: fault } => {
+                return Tally::Stopped { number, at: fault };
+            }
+            Step::Good { value, next } => match reading::body(msg, next, value % 256) {
+                Step::Bad { number, at: fault } => {
+                    return Tally::Stopped { number, at: fault };
+                }
+                Step::Good {
+                    value: own,
+                    next: behind,
+                } => {
+                    let learned = reading::learned(known, value);
+                    known = learned;
+                    let after = noted(notes, value, own);
+                    notes = after;
+                    let sounding = after[(value / 4096 % 4) as usize];
+                    count = count.with(sounding, value / 256 % 16);
+                    place = behind;
+                    left -= 1;
+                }
+            },
+        }
+    }
+    Tally::Counted {
+        entries: count.entries,
+        mark: count.mark,
+        next: place,
     }
 }
