@@ -9,3 +9,4 @@ pub mod Grounds
 pub mod Packing
 pub mod Settling
 pub mod Tallies
+pub mod Verdicts

@@ -5,7 +5,7 @@ ghost use lib.ListN.{length, drop};
 ghost use Rattle.bits.specs.Bits.{bitsOf};
 ghost use Rattle.tone.specs.Table.{durationOf};
 ghost use Rattle.tone.specs.Tone.{noneKnown};
-ghost use Rattle.tone.specs.Reading.{patternsDue, readTone};
+ghost use Rattle.tone.specs.Reading.{patternsDue, rest as restDue, readTone};
 ghost use Rattle.reading.specs.Answers.{Within};
 ghost use Rattle.playing.specs.Duration.{beats as beatsOf, units as unitsOf, microseconds as microsecondsOf};
 ghost use Rattle.playing.specs.Sounding.{atStart, applied as appliedTo, sounded as soundedBy, packed as packedOf, unpacked, entryAt, entriesOf};
@@ -346,5 +346,70 @@ fn patterns(msg: &[u8], at: BitPlace, n: u32) -> Tally
         entries: count.entries,
         mark: count.mark,
         next: place,
+    }
+}
+
+// Judges patterns, filler and the end octet, and counts the entries of the list.
+fn rest(msg: &[u8], at: BitPlace, n: u32) -> Tally
+    requires { ⌜ Within (now msg) (at .0) ⌝ }
+    requires { ⌜ n ≤ 255 ⌝ }
+    ensures { λ r. ⌜ r ≡ tallyAs (totalFrom noBodies 0) (restDue n (bitsOf (now (msg .entry))) (at .0)) ⌝ }
+{
+    match patterns(msg, at, n) {
+        Tally::Stopped { number, at: fault } => Tally::Stopped { number, at: fault },
+        Tally::Counted {
+            entries,
+            mark,
+            next: behind,
+        } => match reading::ending(msg, behind) {
+            Step::Bad { number, at: fault } => Tally::Stopped { number, at: fault },
+            Step::Good { value: _, next } => Tally::Counted {
+                entries,
+                mark,
+                next,
+            },
+        },
+    }
+}
+
+// Judges a message for its list, and changes nothing.
+pub fn judge(msg: &[u8]) -> Verdict
+    ensures { λ r. ⌜ r ≡ verdictOf (readTone (now (msg .entry))) ⌝ }
+{
+    if 4096 < msg.len() {
+        return Verdict::Faulty {
+            number: 1,
+            at: BitPlace(0),
+        };
+    }
+    match reading::open(msg, BitPlace(0)) {
+        Opening::Closed { number, at: fault } => Verdict::Faulty { number, at: fault },
+        Opening::Opened {
+            song: _,
+            unicode: _,
+            octets: _,
+            count,
+            next: at,
+        } => match rest(msg, at, count) {
+            Tally::Stopped { number, at: fault } => Verdict::Faulty { number, at: fault },
+            Tally::Counted {
+                entries,
+                mark,
+                next: end,
+            } => {
+                if end.0 != bits::place_after(OctetCount(msg.len())).0 {
+                    return Verdict::Faulty {
+                        number: 10,
+                        at: end,
+                    };
+                }
+                Verdict::Listable {
+                    entries,
+                    mark,
+                    patterns: count,
+                    at,
+                }
+            }
+        },
     }
 }
