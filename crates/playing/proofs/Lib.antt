@@ -10,3 +10,4 @@ pub mod Packing
 pub mod Settling
 pub mod Tallies
 pub mod Verdicts
+pub mod Walking

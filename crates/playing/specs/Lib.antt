@@ -4,4 +4,5 @@ pub mod Ranges
 pub mod Playing
 pub mod Counting
 pub mod Answers
+pub mod Filling
 pub mod Listing

@@ -3,15 +3,17 @@ ghost use mathlib.Core.List.{_++_};
 ghost use Prim.Native.Nat.{_+_, _*_, _≤_, _<_};
 ghost use lib.ListN.{length, drop};
 ghost use Rattle.bits.specs.Bits.{bitsOf};
-ghost use Rattle.tone.specs.Table.{durationOf};
+ghost use Rattle.bits.specs.Lent.{over};
+ghost use Rattle.tone.specs.Table.{durationOf, Instruction};
 ghost use Rattle.tone.specs.Tone.{noneKnown};
 ghost use Rattle.tone.specs.Reading.{patternsDue, rest as restDue, readTone};
-ghost use Rattle.reading.specs.Answers.{Within};
+ghost use Rattle.reading.specs.Answers.{Within, noteIn, notes as notesOf};
 ghost use Rattle.playing.specs.Duration.{beats as beatsOf, units as unitsOf, microseconds as microsecondsOf};
-ghost use Rattle.playing.specs.Sounding.{atStart, applied as appliedTo, sounded as soundedBy, packed as packedOf, unpacked, entryAt, entriesOf};
+ghost use Rattle.playing.specs.Sounding.{atStart, applied as appliedTo, sounded as soundedBy, packed as packedOf, unpacked, numbers, entryAt, entriesOf};
 ghost use Rattle.playing.specs.Ranges.{InRange, Bounded};
-ghost use Rattle.playing.specs.Playing.{passesOf, noBodies};
-ghost use Rattle.playing.specs.Counting.{markOf};
+ghost use Rattle.playing.specs.Playing.{step, pass, passes, passesOf, noBodies, play};
+ghost use Rattle.playing.specs.Counting.{entryCount, markOf};
+ghost use Rattle.playing.specs.Filling.{bodyIn, behindIn, BodyAt, patternsIn, PatternsAt, partsAfter, behindPattern, Ready, Advanced};
 ghost use Rattle.playing.specs.Answers.{totalFrom, noCount, counted as countedOf, noted as notedOf, tallyAs, verdictOf};
 use bits::BitPlace;
 use bits::OctetCount;
@@ -68,6 +70,20 @@ pub enum Verdict {
         number: u32,
         at: BitPlace,
     },
+}
+
+// A part's body: not yet defined, or the place and the number of its instructions.
+pub enum Part {
+    Unknown,
+    Known { at: BitPlace, count: u32 },
+}
+
+// How far filling has come: the settings, the beats of their tempo, the place in the message, and the cells filled.
+pub struct Walk {
+    pub settings: Settings,
+    pub beats: u32,
+    pub at: BitPlace,
+    pub cells: usize,
 }
 
 impl Settings {
@@ -411,5 +427,59 @@ pub fn judge(msg: &[u8]) -> Verdict
                 }
             }
         },
+    }
+}
+
+// ---- filling, once a message is judged
+
+impl Walk {
+    // Nothing is filled, and the settings are those of the start.
+    fn start(at: BitPlace) -> Walk
+        ensures { λ r. ⌜ Ready r × (r .settings ≡ atStart) × (r .at ≡ at) × (r .cells ≡ 0) ⌝ }
+    {
+        let settings = Settings::at_start();
+        Walk {
+            settings,
+            beats: beats(settings.tempo),
+            at,
+            cells: 0,
+        }
+    }
+
+    // One instruction: a note or pause adds its entry, any other changes the settings.
+    fn step(self, cell: u32, next: BitPlace, list: &mut [u32]) -> Walk
+        requires { ⌜ Ready self ⌝ }
+        requires { ⌜ Instruction cell × (self .cells + 2 * noteIn cell ≤ length (now list)) ⌝ }
+        ensures { λ r. ⌜ Advanced self (step (self .settings) cell) (next .0) (now (list .entry)) (now (list .exit)) r ⌝ }
+    {
+        let kind = cell / 65536;
+        let settings = self.settings;
+        let cells = self.cells;
+        if kind == 1 {
+            let r = sounded(settings, self.beats, cell % 65536);
+            list[cells] = packed(r);
+            list[cells + 1] = r.microseconds;
+            return Walk {
+                settings,
+                beats: self.beats,
+                at: next,
+                cells: cells + 2,
+            };
+        }
+        let after = settings.applied(cell);
+        if kind == 4 {
+            return Walk {
+                settings: after,
+                beats: beats(after.tempo),
+                at: next,
+                cells,
+            };
+        }
+        Walk {
+            settings: after,
+            beats: self.beats,
+            at: next,
+            cells,
+        }
     }
 }
