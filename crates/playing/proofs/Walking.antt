@@ -14,10 +14,14 @@ use Rattle.bits.specs.Choice.{pick}
 use Rattle.bits.specs.Bits.{bitsOf}
 use Rattle.bits.specs.declared.BitPlace.{BitPlace}
 use Rattle.bits.proofs.Choice.{pick-elim}
+use Rattle.bits.proofs.Octets.{length-bitsOf}
 use Rattle.tone.specs.Table.{kind, payload, allowed, noteOf, durationOf, Instruction}
 use Rattle.tone.specs.Tone.{Instructions}
 use Rattle.tone.specs.Reading.{Got, got, bad, onward, instructionDue, bodyDue}
-use Rattle.reading.specs.Answers.{Within, noteIn, notes}
+use Rattle.tone.specs.Writing.{entryBits}
+use Rattle.tone.proofs.Exact.{Accepted}
+use Rattle.tone.proofs.Rows.{instruction-exact}
+use Rattle.reading.specs.Answers.{Within, noteIn, notes, EntryAt, SomeEntry, Passed}
 use Rattle.playing.specs.declared.Settings.{Settings}
 use Rattle.playing.specs.declared.Entry.{Entry}
 use Rattle.playing.specs.declared.Walk.{Walk}
@@ -25,8 +29,10 @@ use Rattle.playing.specs.Duration.{beats}
 use Rattle.playing.specs.Sounding.{atStart, applied, sounded, packed, numbers}
 use Rattle.playing.specs.Ranges.{InRange, Bounded}
 use Rattle.playing.specs.Playing.{Played, ahead, step, pass, passes}
-use Rattle.playing.specs.Filling.{Ready, Advanced}
+use Rattle.playing.specs.Filling.{BodyAt, Ready, Advanced}
 use Rattle.playing.proofs.Below.{both}
+use Rattle.playing.proofs.Packing.{length-numbers, numbers-append}
+use Rattle.playing.proofs.Counts.{pass-count}
 use Rattle.playing.proofs.Bounds.{range-start, range-applied, sounded-bounded}
 
 -- ---- the start
@@ -65,7 +71,6 @@ module _ {w : Walk} {e : ℕ} (ready : Ready w) (i : Instruction e) where
     one-note = rw (eq-eqb (kind e) 1 note)
 
     module _ (old : List ℕ) (room : w .cells + 2 * noteIn e ≤ length old) where
-
       pub step-first : w .cells < length old
       step-first = omega (arith, one-note)
 
@@ -73,7 +78,7 @@ module _ {w : Walk} {e : ℕ} (ready : Ready w) (i : Instruction e) where
       step-second v = rw (length-set old (w .cells) v) (omega (arith, one-note))
 
       pub step-note : {r : Entry} {x : ℕ} (q : BitPlace) → r ≡ sounded (w .settings) (payload e) → x ≡ packed r
-          → Advanced w (step (w .settings) e) (q .0) old (set (set old (w .cells) x) (w .cells + 1) (r .microseconds)) (record { settings = w .settings; beats = w .beats; at = q; cells = w .cells + 2 })
+          → Advanced (w .cells) (step (w .settings) e) (q .0) old (set (set old (w .cells) x) (w .cells + 1) (r .microseconds)) (record { settings = w .settings; beats = w .beats; at = q; cells = w .cells + 2 })
       unfolding step
       step-note {r} {x} q a b = record {
         settings = sym (applied-note (w .settings) e note);
@@ -90,7 +95,7 @@ module _ {w : Walk} {e : ℕ} (ready : Ready w) (i : Instruction e) where
     pub step-slow : s .tempo ≤ 31
     step-slow = in-range .tempo
 
-    moved : {b : ℕ} → b ≡ beats (s .tempo) → Advanced w (step (w .settings) e) (q .0) old old (record { settings = s; beats = b; at = q; cells = w .cells })
+    moved : {b : ℕ} → b ≡ beats (s .tempo) → Advanced (w .cells) (step (w .settings) e) (q .0) old old (record { settings = s; beats = b; at = q; cells = w .cells })
     unfolding step
     moved f = record {
       settings = after;
@@ -100,10 +105,162 @@ module _ {w : Walk} {e : ℕ} (ready : Ready w) (i : Instruction e) where
       list = rw (ne-eqb (kind e) 1 other) refl;
     }
 
-    pub step-tempo : {b : ℕ} → b ≡ beats (s .tempo) → Advanced w (step (w .settings) e) (q .0) old old (record { settings = s; beats = b; at = q; cells = w .cells })
+    pub step-tempo : {b : ℕ} → b ≡ beats (s .tempo) → Advanced (w .cells) (step (w .settings) e) (q .0) old old (record { settings = s; beats = b; at = q; cells = w .cells })
     step-tempo f = moved f
 
-    pub step-other : (kind e ≡ 4 → ⊥) → Advanced w (step (w .settings) e) (q .0) old old (record { settings = s; beats = w .beats; at = q; cells = w .cells })
+    pub step-other : (kind e ≡ 4 → ⊥) → Advanced (w .cells) (step (w .settings) e) (q .0) old old (record { settings = s; beats = w .beats; at = q; cells = w .cells })
     step-other h = moved (ready .tuned ∙ ap beats (sym (ap (λ (r : Settings). r .tempo) after ∙ applied-tempo (w .settings) e h)))
 
 pub ruleset steps = (step-duration, step-bounded, step-first, step-second, step-note, step-slow, step-tempo, step-other)
+
+-- ---- one thing after another
+
+sets-append : (l : List ℕ) (i : ℕ) (a b : List ℕ) → sets (sets l i a) (i + length a) b ≡ sets l i (a ++ b)
+sets-append l i [] b = ap (λ (n : ℕ). sets l n b) (add-zero i)
+sets-append l i (v ∷ a) b =
+    let e : i + suc (length a) ≡ suc i + length a = omega arith in
+    ap (λ (n : ℕ). sets (sets (set l i v) (suc i) a) n b) e ∙ sets-append (set l i v) (suc i) a b
+
+nothing-yet : (w : Walk) (old : List ℕ) → Ready w → Advanced (w .cells) (record { entries = []; after = w .settings }) (w .at .0) old old w
+nothing-yet w old h = record { settings = refl; ready = h; place = refl; cells = sym (add-zero (w .cells)); list = refl }
+
+and-then : {i : ℕ} {d f : Played} {q q′ : ℕ} {old mid new : List ℕ} {w w′ : Walk} → Advanced i d q old mid w → Advanced (w .cells) f q′ mid new w′ → Advanced i (ahead (d .entries) f) q′ old new w′
+and-then {i} {d} {f} {old = old} {w = w} a b =
+    let k = length-append (d .entries) (f .entries) in
+    let n : i + length (numbers (d .entries)) ≡ w .cells = ap (λ (x : ℕ). i + x) (length-numbers (d .entries)) ∙ sym (a .cells) in
+    record {
+      settings = b .settings;
+      ready = b .ready;
+      place = b .place;
+      cells = omega (arith, a .cells, b .cells);
+      list = b .list ∙ ap₂ (λ (l : List ℕ) (x : ℕ). sets l x (numbers (f .entries))) (a .list) (sym n)
+          ∙ sets-append old i (numbers (d .entries)) (numbers (f .entries)) ∙ ap (sets old i) (sym (numbers-append (d .entries) (f .entries)));
+    }
+
+advanced-long : {i : ℕ} {d : Played} {q : ℕ} {old new : List ℕ} {w : Walk} → Advanced i d q old new w → length new ≡ length old
+advanced-long {i} {d} {old = old} a = ap length (a .list) ∙ length-sets old i (numbers (d .entries))
+
+ahead-twice : (a b : List Entry) (d : Played) → ahead a (ahead b d) ≡ ahead (a ++ b) d
+ahead-twice a b d = λ i. record { entries = sym (append-assoc a b (d .entries)) i; after = d .after }
+
+-- with nothing more to play
+all-played : {i : ℕ} {d f : Played} {q q′ : ℕ} {old new : List ℕ} {w : Walk} → Advanced i d q old new w → f ≡ ahead (d .entries) (record { entries = []; after = w .settings }) → q ≡ q′ → Advanced i f q′ old new w
+all-played {i} {d} {old = old} a e z =
+    let n = append-nil (d .entries) in
+    rw e (record {
+      settings = refl;
+      ready = a .ready;
+      place = a .place ∙ z;
+      cells = a .cells ∙ ap (λ (rs : List Entry). i + 2 * length rs) (sym n);
+      list = a .list ∙ ap (λ (rs : List Entry). sets old i (numbers rs)) (sym n);
+    })
+
+here-now : {i : ℕ} {d : Played} {q : ℕ} {old new : List ℕ} {w : Walk} → Advanced i d q old new w → Advanced i d (w .at .0) old new w
+here-now a = record { settings = a .settings; ready = a .ready; place = refl; cells = a .cells; list = a .list }
+
+-- ---- the instructions of a body
+
+-- the first of some instructions that stand at a place
+record Head (m : List ℕ) (p left : ℕ) (b : List ℕ) (q : ℕ) : Type 0 where
+  entry : ℕ
+  others : List ℕ
+  behind : ℕ
+  body : b ≡ entry ∷ others
+  first : instructionDue (bitsOf m) p ≡ got entry behind
+  more : bodyDue (left - 1) (bitsOf m) behind ≡ got others q
+
+head-of : (m : List ℕ) (p left : ℕ) {b : List ℕ} {q : ℕ} → 0 < left → bodyDue left (bitsOf m) p ≡ got b q → Head m p left b q
+unfolding bodyDue
+head-of m p left {b} {q} h e =
+    let one-less : left ≡ suc (left - 1) = omega arith in
+    first (instructionDue (bitsOf m) p) refl (subst (λ (x : ℕ). bodyDue x (bitsOf m) p ≡ got b q) one-less e)
+  where
+    then : (c p′ : ℕ) → instructionDue (bitsOf m) p ≡ got c p′ → (y : Got (List ℕ)) → bodyDue (left - 1) (bitsOf m) p′ ≡ y → onward y (λ t r. got (c ∷ t) r) bad ≡ got b q → Head m p left b q
+    then c p′ i (got t r) j z = let e : r ≡ q = cc in record { entry = c; others = t; behind = p′; body = cc; first = i; more = j ∙ ap (λ (x : ℕ). got t x) e }
+    then c p′ i (bad n r s) j z = let y : _≡_ {A = ℕ} 0 1 = cc in absurd (omega arith)
+
+    first : (x : Got ℕ) → instructionDue (bitsOf m) p ≡ x → onward x (λ c p′. onward (bodyDue (left - 1) (bitsOf m) p′) (λ t r. got (c ∷ t) r) bad) bad ≡ got b q → Head m p left b q
+    first (got c p′) i z = then c p′ i (bodyDue (left - 1) (bitsOf m) p′) refl z
+    first (bad n r s) i z = let y : _≡_ {A = ℕ} 0 1 = cc in absurd (omega arith)
+
+-- ---- one pass
+
+-- with `left` instructions to come at the walk's place, of the body b that began behind the first i cells with the settings s
+pub record PassWalk (m : List ℕ) (s : Settings) (b : List ℕ) (i q : ℕ) (old new : List ℕ) (w : Walk) (left : ℕ) : Type 0 where
+  pub done : Played
+  pub others : List ℕ
+  pub stands : BodyAt m (w .at .0) left others q
+  pub advanced : Advanced i done (w .at .0) old new w
+  pub goes : pass s b ≡ ahead (done .entries) (pass (w .settings) others)
+  pub room : i + 2 * notes b ≤ length old
+
+pub pass-begins : {m : List ℕ} {b : List ℕ} {q n : ℕ} {old : List ℕ} (w : Walk) (from : BitPlace) → Ready w → BodyAt m (from .0) n b q → w .cells + 2 * notes b ≤ length old
+    → PassWalk m (w .settings) b (w .cells) q old old (record { settings = w .settings; beats = w .beats; at = from; cells = w .cells }) n
+pass-begins {b = b} {old = old} w from r h k =
+    let ready : Ready (record { settings = w .settings; beats = w .beats; at = from; cells = w .cells }) = record { range = r .range; tuned = r .tuned } in
+    record { done = record { entries = []; after = w .settings }; others = b; stands = h; advanced = nothing-yet _ old ready; goes = refl; room = k }
+
+module _ {m : List ℕ} {s : Settings} {b : List ℕ} {i q : ℕ} {old new : List ℕ} {w : Walk} {left : ℕ} (v : PassWalk m s b i q old new w left) where
+  pub pass-long : length new ≡ length old
+  pass-long = advanced-long (v .advanced)
+
+  module _ (h : 0 < left) where
+    head : Head m (w .at .0) left (v .others) q
+    head = head-of m (w .at .0) left h (v .stands .reads)
+
+    taken : Accepted Instruction (λ _ e. entryBits e) (bitsOf m) (w .at .0) (head .entry) (head .behind)
+    taken = instruction-exact .sound (bitsOf m) (w .at .0) (rw (length-bitsOf m) (v .stands .within .inside)) (head .first)
+
+    entry : EntryAt m (w .at .0) (head .entry) (drop (head .behind) (bitsOf m))
+    entry = record { inTable = taken .good .inTable; here = taken .here }
+
+    pub pass-entry : SomeEntry m (w .at .0)
+    pass-entry = record { entry = head .entry; behind = drop (head .behind) (bitsOf m); stands = entry }
+
+    module _ {cell : ℕ} {next : BitPlace} (k : (e : ℕ) (r : List Bool) → EntryAt m (w .at .0) e r → Passed (w .at .0) e cell (next .0)) where
+      same : cell ≡ head .entry
+      same = k (head .entry) (drop (head .behind) (bitsOf m)) entry .taken
+
+      pub pass-instruction : Instruction cell
+      pass-instruction = rw same (taken .good)
+
+      -- there is room for what is left
+      pub pass-room : w .cells + 2 * noteIn cell ≤ length new
+      pass-room =
+          let a = v .advanced .cells in
+          let n : notes b ≡ length (v .done .entries) + (noteIn (head .entry) + notes (head .others)) =
+          sym (pass-count s b) ∙ ap (λ (d : Played). length (d .entries)) (v .goes) ∙ length-append (v .done .entries) (pass (w .settings) (v .others) .entries)
+          ∙ ap (λ (x : ℕ). length (v .done .entries) + x) (pass-count (w .settings) (v .others) ∙ ap notes (head .body)) in
+          let e : noteIn cell ≡ noteIn (head .entry) = ap noteIn same in
+          omega (arith, v .room, pass-long)
+
+      pub pass-on : {new′ : List ℕ} {w′ : Walk} → Advanced (w .cells) (step (w .settings) cell) (next .0) new new′ w′ → PassWalk m s b i q old new′ w′ (left - 1)
+      pass-on {new′} {w′} a =
+          let p = k (head .entry) (drop (head .behind) (bitsOf m)) entry in
+          let z : w′ .at .0 ≡ head .behind = a .place ∙ p .behind ∙ sym (taken .end) in
+          let f : step (w .settings) (head .entry) .after ≡ w′ .settings = ap (λ (x : ℕ). step (w .settings) x .after) (sym same) ∙ sym (a .settings) in
+          record {
+            done = ahead (v .done .entries) (step (w .settings) cell);
+            others = head .others;
+            stands = record {
+              within = record { inside = rw (z, ← length-bitsOf m) (taken .inside); counted = v .stands .within .counted };
+              short = omega (arith, v .stands .short);
+              reads = rw z (head .more);
+            };
+            advanced = here-now (and-then (v .advanced) a);
+            goes = v .goes ∙ ap (λ (x : List ℕ). ahead (v .done .entries) (pass (w .settings) x)) (head .body)
+                ∙ ahead-twice (v .done .entries) (step (w .settings) (head .entry) .entries) (pass (step (w .settings) (head .entry) .after) (head .others))
+                ∙ ap₂ (λ (x : ℕ) (r : Settings). ahead (v .done .entries ++ step (w .settings) x .entries) (pass r (head .others))) (sym same) f;
+            room = v .room;
+          }
+
+pub pass-done : {m : List ℕ} {s : Settings} {b : List ℕ} {i q : ℕ} {old new : List ℕ} {w : Walk} {left : ℕ} → PassWalk m s b i q old new w left → left ≤ 0 → Advanced i (pass s b) q old new w
+unfolding bodyDue
+pass-done {m} {s} {b} {q = q} {w = w} {left} v h =
+    let z : left ≡ 0 = omega arith in
+    let e : got [] (w .at .0) ≡ got (v .others) q = subst (λ (x : ℕ). bodyDue x (bitsOf m) (w .at .0) ≡ got (v .others) q) z (v .stands .reads) in
+    let e₁ : v .others ≡ [] = cc in
+    let e₂ : w .at .0 ≡ q = cc in
+    all-played (v .advanced) (v .goes ∙ ap (λ (x : List ℕ). ahead (v .done .entries) (pass (w .settings) x)) e₁) e₂
+
+pub ruleset passings = (pass-begins, pass-long, pass-entry, pass-instruction, pass-room, pass-on, pass-done)

@@ -69,10 +69,10 @@ pub record Ready (w : Walk) : Type 0 where
   pub range : InRange (w .settings)
   pub tuned : w .beats ≡ beats (w .settings .tempo)
 
--- from w on, d was played: its entries were written behind those that there were, and the next place is q
-pub record Advanced (w : Walk) (d : Played) (q : ℕ) (old new : List ℕ) (r : Walk) : Type 0 where
+-- behind the first i cells d was played: its entries are written, and the next place is q
+pub record Advanced (i : ℕ) (d : Played) (q : ℕ) (old new : List ℕ) (r : Walk) : Type 0 where
   pub settings : r .settings ≡ d .after
   pub ready : Ready r
   pub place : r .at .0 ≡ q
-  pub cells : r .cells ≡ w .cells + 2 * length (d .entries)
-  pub list : new ≡ sets old (w .cells) (numbers (d .entries))
+  pub cells : r .cells ≡ i + 2 * length (d .entries)
+  pub list : new ≡ sets old i (numbers (d .entries))

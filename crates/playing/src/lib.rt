@@ -450,7 +450,7 @@ impl Walk {
     fn step(self, cell: u32, next: BitPlace, list: &mut [u32]) -> Walk
         requires { ⌜ Ready self ⌝ }
         requires { ⌜ Instruction cell × (self .cells + 2 * noteIn cell ≤ length (now list)) ⌝ }
-        ensures { λ r. ⌜ Advanced self (step (self .settings) cell) (next .0) (now (list .entry)) (now (list .exit)) r ⌝ }
+        ensures { λ r. ⌜ Advanced (self .cells) (step (self .settings) cell) (next .0) (now (list .entry)) (now (list .exit)) r ⌝ }
     {
         let kind = cell / 65536;
         let settings = self.settings;
@@ -482,4 +482,28 @@ impl Walk {
             cells,
         }
     }
+}
+
+// Fills in one pass of the `n` instructions that stand at a place.
+fn fill_pass(msg: &[u8], from: BitPlace, n: u32, list: &mut [u32], w: Walk) -> Walk
+    requires { ⌜ Ready w ⌝ }
+    requires { ⌜ BodyAt (now msg) (from .0) n (bodyIn (now msg) (from .0) n) (behindIn (now msg) (from .0) n) ⌝ }
+    requires { ⌜ w .cells + 2 * notesOf (bodyIn (now msg) (from .0) n) ≤ length (now list) ⌝ }
+    ensures { λ r. ⌜ Advanced (w .cells) (pass (w .settings) (bodyIn (now (msg .entry)) (from .0) n)) (behindIn (now (msg .entry)) (from .0) n) (now (list .entry)) (now (list .exit)) r ⌝ }
+{
+    let settings = w.settings;
+    let mut walk = Walk {
+        settings,
+        beats: w.beats,
+        at: from,
+        cells: w.cells,
+    };
+    let mut left = n;
+    while 0 < left {
+        let at = walk.at;
+        let c = reading::entry_at(msg, at);
+        walk = walk.step(c.cell, c.next, list);
+        left -= 1;
+    }
+    walk
 }
