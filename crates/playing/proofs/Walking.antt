@@ -1,7 +1,7 @@
 -- The list is filled, one instruction, one pass and one pattern at a time.
 use Prim.Native.Nat.{ℕ, zero, suc, _+_, _-_, _*_, _/_, _%_, _^_, _≤_, _<_}
 use native.Mathlib.Omega.{arith}
-use native.Mathlib.Nat.{add-zero, add-assoc}
+use native.Mathlib.Nat.{add-zero, add-assoc, mul-suc}
 use native.Mathlib.Numerals.{add-one}
 use mathlib.Core.Path.{_≡_, refl, sym, ap, ap₂, subst, _∙_}
 use mathlib.Core.Bool.{Bool, true, false}
@@ -32,7 +32,7 @@ use Rattle.playing.specs.Playing.{Played, ahead, step, pass, passes}
 use Rattle.playing.specs.Filling.{BodyAt, Ready, Advanced}
 use Rattle.playing.proofs.Below.{both}
 use Rattle.playing.proofs.Packing.{length-numbers, numbers-append}
-use Rattle.playing.proofs.Counts.{pass-count}
+use Rattle.playing.proofs.Counts.{pass-count, passes-count}
 use Rattle.playing.proofs.Bounds.{range-start, range-applied, sounded-bounded}
 
 -- ---- the start
@@ -264,3 +264,68 @@ pass-done {m} {s} {b} {q = q} {w = w} {left} v h =
     all-played (v .advanced) (v .goes ∙ ap (λ (x : List ℕ). ahead (v .done .entries) (pass (w .settings) x)) e₁) e₂
 
 pub ruleset passings = (pass-begins, pass-long, pass-entry, pass-instruction, pass-room, pass-on, pass-done)
+
+-- ---- so many passes
+
+-- with `left` of so many passes to come, of a body b that began behind the first i cells with the settings s
+pub record TimesWalk (s : Settings) (b : List ℕ) (i q : ℕ) (old new : List ℕ) (w : Walk) (times left : ℕ) : Type 0 where
+  pub done : Played
+  pub advanced : Advanced i done q old new w
+  pub goes : passes times s b ≡ ahead (done .entries) (passes left (w .settings) b)
+  pub room : i + 2 * (notes b * times) ≤ length old
+
+one-pass-more : (times : ℕ) (s : Settings) (b : List ℕ) → 1 ≤ times → passes times s b ≡ ahead (pass s b .entries) (passes (times - 1) (pass s b .after) b)
+one-pass-more times s b h = let e : times ≡ suc (times - 1) = omega arith in ap (λ (n : ℕ). passes n s b) e
+
+one-time-more : (k times : ℕ) → 1 ≤ times → k * times ≡ k + k * (times - 1)
+one-time-more k times h = let e : times ≡ suc (times - 1) = omega arith in ap (λ (n : ℕ). k * n) e ∙ mul-suc k (times - 1) ∙ omega arith
+
+-- a pass fits where so many do
+pub times-fit : (k i n : ℕ) {times : ℕ} → (1 ≤ times) × (times ≤ 15) × (i + 2 * (k * times) ≤ n) → i + 2 * k ≤ n
+times-fit k i n {times} h = omega (arith, one-time-more k times (h .0), h .2)
+
+-- the first pass
+pub times-begins : (s : Settings) (b : List ℕ) {i q : ℕ} {old new : List ℕ} {w : Walk} {times : ℕ} → Advanced i (pass s b) q old new w → (1 ≤ times) × (times ≤ 15) × (i + 2 * (notes b * times) ≤ length old)
+    → TimesWalk (w .settings) b (w .cells) q new new w (times - 1) (times - 1)
+times-begins s b {i} {q} {old} {new} {w} {times} a h = record {
+  done = record { entries = []; after = w .settings };
+  advanced = record { settings = refl; ready = a .ready; place = a .place; cells = sym (add-zero (w .cells)); list = refl };
+  goes = refl;
+  room = omega (arith, one-time-more (notes b) times (h .0), h .2, a .cells, pass-count s b, advanced-long a);
+}
+
+module _ {s : Settings} {b : List ℕ} {i q : ℕ} {old new : List ℕ} {w : Walk} {times left : ℕ} (v : TimesWalk s b i q old new w times left) where
+  times-long : length new ≡ length old
+  times-long = advanced-long (v .advanced)
+
+  module _ (h : 0 < left) where
+    pub times-room : w .cells + 2 * notes b ≤ length new
+    times-room =
+        let n : notes b * times ≡ length (v .done .entries) + notes b * left =
+        sym (passes-count times s b) ∙ ap (λ (d : Played). length (d .entries)) (v .goes) ∙ length-append (v .done .entries) (passes left (w .settings) b .entries)
+        ∙ ap (λ (x : ℕ). length (v .done .entries) + x) (passes-count left (w .settings) b) in
+        omega (arith, one-time-more (notes b) left h, v .advanced .cells, v .room, times-long)
+
+    pub times-on : {new′ : List ℕ} {w′ : Walk} → Advanced (w .cells) (pass (w .settings) b) q new new′ w′ → TimesWalk s b i q old new′ w′ times (left - 1)
+    times-on a = record {
+      done = ahead (v .done .entries) (pass (w .settings) b);
+      advanced = and-then (v .advanced) a;
+      goes = v .goes ∙ ap (ahead (v .done .entries)) (one-pass-more left (w .settings) b h)
+          ∙ ahead-twice (v .done .entries) (pass (w .settings) b .entries) (passes (left - 1) (pass (w .settings) b .after) b)
+          ∙ ap (λ (r : Settings). ahead (v .done .entries ++ pass (w .settings) b .entries) (passes (left - 1) r b)) (sym (a .settings));
+      room = v .room;
+    }
+
+-- the list keeps its length
+pub times-same : {s′ : Settings} {d : Played} {b : List ℕ} {i i′ q q′ : ℕ} {old mid new : List ℕ} {w w′ : Walk} {times left : ℕ} → Advanced i d q old mid w → TimesWalk s′ b i′ q′ mid new w′ times left → length new ≡ length old
+times-same a v = times-long v ∙ advanced-long a
+
+pub times-done : (s : Settings) (b : List ℕ) {i q : ℕ} {old mid new : List ℕ} {w w′ : Walk} {times left : ℕ} → 1 ≤ times → Advanced i (pass s b) q old mid w → TimesWalk (w .settings) b (w .cells) q mid new w′ (times - 1) left
+    → left ≤ 0 → Advanced i (passes times s b) q old new w′
+times-done s b {i} {q} {old} {mid} {new} {w} {w′} {times} {left} h a v l =
+    let z : left ≡ 0 = omega arith in
+    let e = v .goes ∙ ap (λ (n : ℕ). ahead (v .done .entries) (passes n (w′ .settings) b)) z in
+    let rest = all-played (v .advanced) e refl in
+    subst (λ (d : Played). Advanced i d q old new w′) (sym (one-pass-more times s b h ∙ ap (λ (r : Settings). ahead (pass s b .entries) (passes (times - 1) r b)) (sym (a .settings)))) (and-then a rest)
+
+pub ruleset timings = (times-fit, times-begins, times-room, times-on, times-same, times-done)

@@ -49,6 +49,10 @@ pub record BodyAt (m : List ℕ) (at n : ℕ) (b : List ℕ) (q : ℕ) : Type 0 
 abbrev pub patternsIn : List ℕ → ℕ → ℕ → List Pattern
 patternsIn m at n = valueOr [] (patternsDue n noneKnown (bitsOf m) at)
 
+-- the place behind them
+abbrev pub endIn : List ℕ → ℕ → ℕ → ℕ
+endIn m at n = behindOr (patternsDue n noneKnown (bitsOf m) at)
+
 -- n patterns stand at a place
 pub record PatternsAt (m : List ℕ) (at n : ℕ) (ps : List Pattern) (q : ℕ) : Type 0 where
   pub within : Within m at

@@ -13,7 +13,7 @@ ghost use Rattle.playing.specs.Sounding.{atStart, applied as appliedTo, 
 ghost use Rattle.playing.specs.Ranges.{InRange, Bounded};
 ghost use Rattle.playing.specs.Playing.{step, pass, passes, passesOf, noBodies, play};
 ghost use Rattle.playing.specs.Counting.{entryCount, markOf};
-ghost use Rattle.playing.specs.Filling.{bodyIn, behindIn, BodyAt, patternsIn, PatternsAt, partsAfter, behindPattern, Ready, Advanced};
+ghost use Rattle.playing.specs.Filling.{bodyIn, behindIn, BodyAt, patternsIn, endIn, PatternsAt, partsAfter, behindPattern, Ready, Advanced};
 ghost use Rattle.playing.specs.Answers.{totalFrom, noCount, counted as countedOf, noted as notedOf, tallyAs, verdictOf};
 use bits::BitPlace;
 use bits::OctetCount;
@@ -506,4 +506,75 @@ fn fill_pass(msg: &[u8], from: BitPlace, n: u32, list: &mut [u32], w: Walk) -> W
         left -= 1;
     }
     walk
+}
+
+// Fills in so many passes of the `n` instructions that stand at a place. The settings carry on.
+fn fill_passes(msg: &[u8], from: BitPlace, n: u32, times: u32, list: &mut [u32], w: Walk) -> Walk
+    requires { ⌜ Ready w ⌝ }
+    requires { ⌜ BodyAt (now msg) (from .0) n (bodyIn (now msg) (from .0) n) (behindIn (now msg) (from .0) n) ⌝ }
+    requires { ⌜ (1 ≤ times) × (times ≤ 15) × (w .cells + 2 * (notesOf (bodyIn (now msg) (from .0) n) * times) ≤ length (now list)) ⌝ }
+    ensures { λ r. ⌜ Advanced (w .cells) (passes times (w .settings) (bodyIn (now (msg .entry)) (from .0) n)) (behindIn (now (msg .entry)) (from .0) n) (now (list .entry)) (now (list .exit)) r ⌝ }
+{
+    let mut walk = fill_pass(msg, from, n, list, w);
+    let mut left = times - 1;
+    while 0 < left {
+        walk = fill_pass(msg, from, n, list, walk);
+        left -= 1;
+    }
+    walk
+}
+
+// The four parts after a header, whose own instructions stand at `next`: a definition replaces the part of its id.
+fn parts_after(parts: [Part; 4], header: u32, next: BitPlace) -> [Part; 4]
+    ensures { λ r. ⌜ r ≡ partsAfter parts header next ⌝ }
+{
+    if header % 256 == 0 {
+        return parts;
+    }
+    let mut after = parts;
+    after[(header / 4096 % 4) as usize] = Part::Known {
+        at: next,
+        count: header % 256,
+    };
+    after
+}
+
+// Where the next header stands: a recall has no instructions of its own.
+fn behind_pattern(header: u32, next: BitPlace, reached: BitPlace) -> BitPlace
+    ensures { λ r. ⌜ r ≡ behindPattern header next reached ⌝ }
+{
+    if header % 256 == 0 { next } else { reached }
+}
+
+// Fills in the list of the `n` patterns that stand at a place.
+fn fill_list(msg: &[u8], at: BitPlace, n: u32, list: &mut [u32])
+    requires { ⌜ PatternsAt (now msg) (at .0) n (patternsIn (now msg) (at .0) n) (endIn (now msg) (at .0) n) ⌝ }
+    requires { ⌜ 2 * entryCount noBodies (patternsIn (now msg) (at .0) n) ≤ length (now list) ⌝ }
+    ensures { λ _. ⌜ now (list .exit) ≡ over (numbers (play atStart noBodies 0 (patternsIn (now (msg .entry)) (at .0) n) .entries)) (now (list .entry)) ⌝ }
+{
+    let mut parts = [Part::Unknown; 4];
+    let mut place = at;
+    let mut walk = Walk::start(at);
+    let mut left = n;
+    while 0 < left {
+        let head = reading::entry_at(msg, place);
+        let header = head.cell;
+        let after = parts_after(parts, header, head.next);
+        parts = after;
+        let part = after[(header / 4096 % 4) as usize];
+        let value = header / 256 % 16;
+        match part {
+            Part::Unknown => {
+                return;
+            }
+            Part::Known { at: from, count } => {
+                walk = fill_passes(msg, from, count, passes_of(value), list, walk);
+            }
+        }
+        if value == 15 {
+            return;
+        }
+        place = behind_pattern(header, head.next, walk.at);
+        left -= 1;
+    }
 }
