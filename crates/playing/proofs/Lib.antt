@@ -11,3 +11,4 @@ pub mod Settling
 pub mod Tallies
 pub mod Verdicts
 pub mod Walking
+pub mod Fillings

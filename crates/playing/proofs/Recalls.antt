@@ -1,4 +1,5 @@
 -- A recall is listed as a definition with the nearest earlier body of its id.
+use native.Mathlib.Omega.{arith}
 use Prim.Native.Nat.{ℕ, zero, suc, _<_}
 use mathlib.Core.Path.{_≡_, refl, sym, ap, _∙_}
 use mathlib.Core.Bool.{Bool, true, false}
@@ -110,6 +111,15 @@ recall-is-definition before q behind h recall =
     rw (← places-hold-nearest (q .id) h before)
     (same-behind atStart noBodies 0 before (q ∷ behind) (spelledOut (getD (bodiesAfter noBodies before) (q .id) unknown) q ∷ behind)
     (λ s n. rw (same-body (bodiesAfter noBodies before) q recall, same-places (bodiesAfter noBodies before) q recall)))
+
+-- once a pattern is remembered, its id has the body that sounds
+pub body-sounding : (bodies : List Remembered) (h : ℕ) (b : List ℕ) → length bodies ≡ 4 → recalled (getD (remember bodies (pattern h b)) (partOf h) unknown) ≡ bodyOf bodies (pattern h b)
+unfolding remember bodyOf
+body-sounding bodies h b four = go (eqb (length b) 0)
+  where
+    go : (t : Bool) → recalled (getD (pick t bodies (set bodies (partOf h) (known b))) (partOf h) unknown) ≡ pick t (recalled (getD bodies (partOf h) unknown)) b
+    go true = refl
+    go false = ap recalled (getD-set-same bodies (partOf h) (known b) unknown (omega arith))
 
 -- ---- a recall of a tone that document 01 allows has a body
 

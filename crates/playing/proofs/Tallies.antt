@@ -1,22 +1,19 @@
 -- Patterns are judged and counted, one a turn.
-use Prim.Native.Nat.{ℕ, zero, suc, _+_, _-_, _*_, _/_, _%_, _≤_, _<_}
+use Prim.Native.Nat.{ℕ, zero, suc, _+_, _-_, _*_, _≤_, _<_}
 use native.Mathlib.Omega.{arith}
 use native.Mathlib.Nat.{add-zero, add-assoc, mul-one, mul-le-mul, le-trans}
 use mathlib.Core.Path.{_≡_, refl, sym, ap, ap₂, _∙_}
 use mathlib.Core.Bool.{Bool, true, false}
 use mathlib.Core.List.{List, [], _∷_, _++_, map}
 use lib.ListN.{length, getD, set, replicate, List·getD-map}
-use lib.Seq.{getD-set-same}
 use lib.Dec.{eqb}
 use borrow.Author.Tests.{eqb-true, eq-eqb, ne-eqb}
-use mir.Val.{Fits}
-use mir.Syntax.{w32}
 use Rattle.bits.specs.Choice.{pick}
 use Rattle.bits.specs.Bits.{bitsOf}
 use Rattle.bits.specs.declared.BitPlace.{BitPlace}
 use Rattle.bits.proofs.Choice.{pick-cong, pick-elim}
 use Rattle.bits.proofs.Octets.{length-bitsOf}
-use Rattle.tone.specs.Tone.{Pattern, specifier, loopOf, partOf, pattern, noneKnown, learn, Instructions}
+use Rattle.tone.specs.Tone.{Pattern, specifier, loopOf, partOf, pattern, noneKnown, learn}
 use Rattle.tone.specs.Reading.{Got, got, bad, onward, headerDue, bodyDue, patternsDue}
 use Rattle.tone.proofs.Rows.{header-exact, body-exact}
 use Rattle.reading.specs.declared.Step.{Step}
@@ -27,13 +24,12 @@ use Rattle.reading.proofs.Walks.{stays}
 use Rattle.playing.specs.declared.Settings.{Settings}
 use Rattle.playing.specs.declared.Entry.{Entry}
 use Rattle.playing.specs.declared.Count.{Count}
-use Rattle.playing.specs.declared.Tally.{Tally}
 use Rattle.playing.specs.declared.Tally.the-variants.{Counted, Stopped}
-use Rattle.playing.specs.Playing.{Remembered, unknown, known, recalled, noBodies, noMark, markAt, isRecall, Listing, passesOf, bodyOf, remember, patternPlayed, play}
+use Rattle.playing.specs.Playing.{Remembered, unknown, known, recalled, noBodies, noMark, markAt, Listing, passesOf, bodyOf, remember, patternPlayed, play}
 use Rattle.playing.specs.Counting.{entryCount, markOf, markFrom}
 use Rattle.playing.specs.Answers.{Total, totalFrom, noCount, counted, noted, tallyAs}
 use Rattle.playing.proofs.Counts.{pattern-count}
-use Rattle.playing.proofs.Recalls.{knownOf, remember-length, learn-read}
+use Rattle.playing.proofs.Recalls.{knownOf, remember-length, body-sounding, learn-read}
 use Rattle.playing.proofs.Bounds.{Body, Bodies, bodies-start, bodies-kept, body-kept, notes-most, passes-most}
 
 -- ---- the mark
@@ -133,12 +129,7 @@ noted-remembers bodies h b e = rw (← e) (go (eqb (length b) 0))
 
 -- then the notes of its id are those of the body that sounds
 notes-sounding : (bodies : List Remembered) (h : ℕ) (b : List ℕ) → length bodies ≡ 4 → getD (allNotes (remember bodies (pattern h b))) (partOf h) 0 ≡ notes (bodyOf bodies (pattern h b))
-unfolding remember bodyOf
-notes-sounding bodies h b four = go (eqb (length b) 0)
-  where
-    go : (t : Bool) → getD (allNotes (pick t bodies (set bodies (partOf h) (known b)))) (partOf h) 0 ≡ notes (pick t (recalled (getD bodies (partOf h) unknown)) b)
-    go true = List·getD-map notesOf bodies (partOf h) unknown
-    go false = List·getD-map notesOf (set bodies (partOf h) (known b)) (partOf h) unknown ∙ ap notesOf (getD-set-same bodies (partOf h) (known b) unknown (omega arith))
+notes-sounding bodies h b four = List·getD-map notesOf (remember bodies (pattern h b)) (partOf h) unknown ∙ ap notes (body-sounding bodies h b four)
 
 -- ---- one pattern more
 

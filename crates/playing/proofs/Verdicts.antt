@@ -1,21 +1,19 @@
 -- What each return of `rest` and `judge` shows.
-use Prim.Native.Nat.{ℕ, zero, suc, _+_, _-_, _*_, _/_, _%_, _≤_, _<_}
+use Prim.Native.Nat.{ℕ, _≤_, _<_}
 use native.Mathlib.Omega.{arith}
 use native.Mathlib.Nat.{zero-add}
 use mathlib.Core.Path.{_≡_, refl, sym, ap, ap₂, _∙_}
-use mathlib.Core.Bool.{Bool, true, false}
-use mathlib.Core.List.{List, [], _∷_}
+use mathlib.Core.Bool.{Bool}
+use mathlib.Core.List.{List}
 use lib.ListN.{length}
 use borrow.Author.Tests.{le-ltb, eq-eqb}
 use Rattle.bits.specs.Bits.{bitsOf, placeAfter}
 use Rattle.bits.specs.Outcome.{Outcome, accepted, refused}
 use Rattle.bits.specs.declared.BitPlace.{BitPlace}
-use Rattle.bits.proofs.Octets.{length-bitsOf}
-use Rattle.tone.specs.Tone.{Pattern, Tone, Front, frontOf, noneKnown}
-use Rattle.tone.specs.Writing.{frontBits, mostOctets}
+use Rattle.tone.specs.Tone.{Pattern, Tone, Front, noneKnown}
+use Rattle.tone.specs.Writing.{mostOctets}
 use Rattle.tone.specs.Reading.{Got, got, bad, front, patternsDue, ending, rest, wholeTone, readTone}
-use Rattle.tone.proofs.Fronts.{front-exact}
-use Rattle.tone.proofs.Rows.{patterns-exact, rest-exact}
+use Rattle.tone.proofs.Rows.{patterns-exact}
 use Rattle.reading.specs.declared.Step.{Step}
 use Rattle.reading.specs.declared.Step.the-variants.{Good, Bad}
 use Rattle.reading.specs.declared.Opening.{Opening}
@@ -27,7 +25,6 @@ use Rattle.reading.proofs.Walks.{stays}
 use Rattle.reading.proofs.Judging.{judge-long, judge-closed, judge-within, judge-count, judge-bad, judge-more, judge-sound}
 use Rattle.playing.specs.declared.Tally.{Tally}
 use Rattle.playing.specs.declared.Tally.the-variants.{Counted, Stopped}
-use Rattle.playing.specs.declared.Verdict.{Verdict}
 use Rattle.playing.specs.declared.Verdict.the-variants.{Listable, Faulty}
 use Rattle.playing.specs.Playing.{noBodies}
 use Rattle.playing.specs.Counting.{entryCount, markFrom}

@@ -1,27 +1,25 @@
 -- The list is filled, one instruction, one pass and one pattern at a time.
-use Prim.Native.Nat.{ℕ, zero, suc, _+_, _-_, _*_, _/_, _%_, _^_, _≤_, _<_}
+use Prim.Native.Nat.{ℕ, suc, _+_, _-_, _*_, _≤_, _<_}
 use native.Mathlib.Omega.{arith}
-use native.Mathlib.Nat.{add-zero, add-assoc, mul-suc}
+use native.Mathlib.Nat.{add-zero, mul-suc}
 use native.Mathlib.Numerals.{add-one}
 use mathlib.Core.Path.{_≡_, refl, sym, ap, ap₂, subst, _∙_}
-use mathlib.Core.Bool.{Bool, true, false}
+use mathlib.Core.Bool.{Bool}
 use mathlib.Core.List.{List, [], _∷_, _++_, append-assoc, append-nil}
-use lib.ListN.{length, getD, set, drop, length-append, length-set}
+use lib.ListN.{length, set, drop, length-append, length-set}
 use lib.Seq.{sets, length-sets}
 use lib.Dec.{eqb, leb}
 use borrow.Author.Tests.{eq-eqb, ne-eqb, leb-true}
-use Rattle.bits.specs.Choice.{pick}
 use Rattle.bits.specs.Bits.{bitsOf}
 use Rattle.bits.specs.declared.BitPlace.{BitPlace}
 use Rattle.bits.proofs.Choice.{pick-elim}
 use Rattle.bits.proofs.Octets.{length-bitsOf}
 use Rattle.tone.specs.Table.{kind, payload, allowed, noteOf, durationOf, Instruction}
-use Rattle.tone.specs.Tone.{Instructions}
 use Rattle.tone.specs.Reading.{Got, got, bad, onward, instructionDue, bodyDue}
 use Rattle.tone.specs.Writing.{entryBits}
 use Rattle.tone.proofs.Exact.{Accepted}
 use Rattle.tone.proofs.Rows.{instruction-exact}
-use Rattle.reading.specs.Answers.{Within, noteIn, notes, EntryAt, SomeEntry, Passed}
+use Rattle.reading.specs.Answers.{noteIn, notes, EntryAt, SomeEntry, Passed}
 use Rattle.playing.specs.declared.Settings.{Settings}
 use Rattle.playing.specs.declared.Entry.{Entry}
 use Rattle.playing.specs.declared.Walk.{Walk}
@@ -124,7 +122,8 @@ sets-append l i (v ∷ a) b =
 nothing-yet : (w : Walk) (old : List ℕ) → Ready w → Advanced (w .cells) (record { entries = []; after = w .settings }) (w .at .0) old old w
 nothing-yet w old h = record { settings = refl; ready = h; place = refl; cells = sym (add-zero (w .cells)); list = refl }
 
-and-then : {i : ℕ} {d f : Played} {q q′ : ℕ} {old mid new : List ℕ} {w w′ : Walk} → Advanced i d q old mid w → Advanced (w .cells) f q′ mid new w′ → Advanced i (ahead (d .entries) f) q′ old new w′
+-- what is played next is written next
+pub and-then : {i : ℕ} {d f : Played} {q q′ : ℕ} {old mid new : List ℕ} {w w′ : Walk} → Advanced i d q old mid w → Advanced (w .cells) f q′ mid new w′ → Advanced i (ahead (d .entries) f) q′ old new w′
 and-then {i} {d} {f} {old = old} {w = w} a b =
     let k = length-append (d .entries) (f .entries) in
     let n : i + length (numbers (d .entries)) ≡ w .cells = ap (λ (x : ℕ). i + x) (length-numbers (d .entries)) ∙ sym (a .cells) in
@@ -137,7 +136,8 @@ and-then {i} {d} {f} {old = old} {w = w} a b =
           ∙ sets-append old i (numbers (d .entries)) (numbers (f .entries)) ∙ ap (sets old i) (sym (numbers-append (d .entries) (f .entries)));
     }
 
-advanced-long : {i : ℕ} {d : Played} {q : ℕ} {old new : List ℕ} {w : Walk} → Advanced i d q old new w → length new ≡ length old
+-- the list keeps its length
+pub advanced-long : {i : ℕ} {d : Played} {q : ℕ} {old new : List ℕ} {w : Walk} → Advanced i d q old new w → length new ≡ length old
 advanced-long {i} {d} {old = old} a = ap length (a .list) ∙ length-sets old i (numbers (d .entries))
 
 ahead-twice : (a b : List Entry) (d : Played) → ahead a (ahead b d) ≡ ahead (a ++ b) d

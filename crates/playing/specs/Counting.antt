@@ -1,6 +1,5 @@
 -- How many entries a list has, and where its return mark stands, without the entries.
 use Prim.Native.Nat.{ℕ, _+_, _*_}
-use mathlib.Core.Bool.{Bool, true, false}
 use mathlib.Core.List.{List, [], _∷_}
 use lib.Dec.{eqb}
 use Rattle.bits.specs.Choice.{pick}

@@ -1,7 +1,7 @@
 -- What filling a list is handed, and what it leaves.
 use Prim.Native.Nat.{ℕ, _+_, _*_, _≤_}
 use mathlib.Core.Path.{_≡_}
-use mathlib.Core.List.{List, [], _∷_}
+use mathlib.Core.List.{List, []}
 use lib.ListN.{length, set}
 use lib.Seq.{sets}
 use lib.Dec.{eqb}
@@ -12,7 +12,7 @@ use Rattle.tone.specs.Tone.{Pattern, specifier, partOf, noneKnown}
 use Rattle.tone.specs.Reading.{Got, got, bad, bodyDue, patternsDue}
 use Rattle.reading.specs.Answers.{Within}
 use Rattle.playing.specs.declared.Part.{Part}
-use Rattle.playing.specs.declared.Part.the-variants.{Unknown, Known}
+use Rattle.playing.specs.declared.Part.the-variants.{Known}
 use Rattle.playing.specs.declared.Walk.{Walk}
 use Rattle.playing.specs.Duration.{beats}
 use Rattle.playing.specs.Sounding.{numbers}
