@@ -1,22 +1,21 @@
 -- The list of patterns is filled, one pattern a turn.
-use Prim.Native.Nat.{ℕ, zero, suc, _+_, _-_, _*_, _/_, _%_, _^_, _≤_, _<_}
+use Prim.Native.Nat.{ℕ, zero, suc, _+_, _-_, _*_, _≤_, _<_}
 use native.Mathlib.Omega.{arith}
-use native.Mathlib.Nat.{add-zero, zero-add}
+use native.Mathlib.Nat.{zero-add}
 use mathlib.Core.Path.{_≡_, refl, sym, ap, ap₂, subst, _∙_}
 use mathlib.Core.Bool.{Bool, true, false}
-use mathlib.Core.List.{List, [], _∷_, _++_, append-assoc, append-nil, map}
-use lib.ListN.{length, getD, set, take, drop, replicate, length-append, List·getD-map}
+use mathlib.Core.List.{List, [], _∷_, _++_, append-assoc, append-nil}
+use lib.ListN.{length, getD, set, drop, replicate, length-append, List·getD-map}
 use lib.Seq.{sets, sets-eq, getD-set-same}
 use lib.Dec.{eqb}
-use borrow.Author.Tests.{eq-eqb, ne-eqb, eqb-true, eqb-false}
+use borrow.Author.Tests.{eqb-true}
 use Rattle.bits.specs.Choice.{pick}
 use Rattle.bits.specs.Bits.{bitsOf}
 use Rattle.bits.specs.Lent.{over}
 use Rattle.bits.specs.declared.BitPlace.{BitPlace}
-use Rattle.bits.proofs.Choice.{pick-elim}
 use Rattle.bits.proofs.Octets.{length-bitsOf}
-use Rattle.tone.specs.Table.{kind, payload, width, allowed, InTable}
-use Rattle.tone.specs.Tone.{Pattern, specifier, loopOf, partOf, pattern, noneKnown, recallable, learn}
+use Rattle.tone.specs.Table.{kind, width, allowed, InTable}
+use Rattle.tone.specs.Tone.{Pattern, specifier, loopOf, partOf, pattern, recallable, learn}
 use Rattle.tone.specs.Writing.{entryBits, tableBits}
 use Rattle.tone.specs.Reading.{Got, got, bad, onward, headerDue, bodyDue, patternsDue}
 use Rattle.tone.proofs.Exact.{Accepted}
@@ -31,7 +30,7 @@ use Rattle.playing.specs.Sounding.{atStart, numbers}
 use Rattle.playing.specs.Playing.{Played, ahead, Remembered, unknown, known, recalled, noBodies, Listing, passes, passesOf, bodyOf, remember, patternPlayed, play}
 use Rattle.playing.specs.Counting.{entryCount}
 use Rattle.playing.specs.Filling.{BodyAt, behindOr, bodyIn, behindIn, PatternsAt, partsAfter, behindPattern, Ready, Advanced}
-use Rattle.playing.proofs.Counts.{list-count, pattern-count}
+use Rattle.playing.proofs.Counts.{list-count}
 use Rattle.playing.proofs.Recalls.{isKnown, knownOf, remember-length, body-sounding, learn-read}
 use Rattle.playing.proofs.Joining.{play-one, play-last}
 use Rattle.playing.proofs.Packing.{length-numbers}

@@ -12,3 +12,4 @@ pub mod Tallies
 pub mod Verdicts
 pub mod Walking
 pub mod Fillings
+pub mod Outcomes

@@ -6,3 +6,4 @@ pub mod Counting
 pub mod Answers
 pub mod Filling
 pub mod Listing
+pub mod Promise

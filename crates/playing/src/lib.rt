@@ -15,6 +15,8 @@ ghost use Rattle.playing.specs.Playing.{step, pass, passes, passesOf, no
 ghost use Rattle.playing.specs.Counting.{entryCount, markOf};
 ghost use Rattle.playing.specs.Filling.{bodyIn, behindIn, BodyAt, patternsIn, endIn, PatternsAt, partsAfter, behindPattern, Ready, Advanced};
 ghost use Rattle.playing.specs.Answers.{totalFrom, noCount, counted as countedOf, noted as notedOf, tallyAs, verdictOf};
+ghost use Rattle.playing.specs.Listing.{fitsNumbers, fitsBoth};
+ghost use Rattle.playing.specs.Promise.{ListPromise};
 use bits::BitPlace;
 use bits::OctetCount;
 use reading::Opening;
@@ -70,6 +72,12 @@ pub enum Verdict {
         number: u32,
         at: BitPlace,
     },
+}
+
+// What making a list answers: its entries and its return mark, or the refusal.
+pub enum Listed {
+    Made { entries: u32, mark: u32 },
+    Refused { number: u32, place: BitPlace },
 }
 
 // A part's body: not yet defined, or the place and the number of its instructions.
@@ -577,4 +585,47 @@ fn fill_list(msg: &[u8], at: BitPlace, n: u32, list: &mut [u32])
         place = behind_pattern(header, head.next, walk.at);
         left -= 1;
     }
+}
+
+// ---- the calls
+
+// Makes the list of a message in two-number form, where it has at most `most` entries.
+fn list_within(msg: &[u8], list: &mut [u32], most: usize) -> Listed
+    ensures { λ r. ⌜ ListPromise (now (msg .entry)) (fitsBoth (length (now (list .entry))) most) (now (list .entry)) (now (list .exit)) r ⌝ }
+{
+    match judge(msg) {
+        Verdict::Faulty { number, at: fault } => Listed::Refused {
+            number,
+            place: fault,
+        },
+        Verdict::Listable {
+            entries,
+            mark,
+            patterns,
+            at,
+        } => {
+            if list.len() / 2 < entries as usize {
+                return Listed::Refused {
+                    number: 11,
+                    place: BitPlace(0),
+                };
+            }
+            if most < entries as usize {
+                return Listed::Refused {
+                    number: 11,
+                    place: BitPlace(0),
+                };
+            }
+            fill_list(msg, at, patterns, list);
+            Listed::Made { entries, mark }
+        }
+    }
+}
+
+// Makes the list of a message in two-number form.
+pub fn list(msg: &[u8], list: &mut [u32]) -> Listed
+    ensures { λ r. ⌜ ListPromise (now (msg .entry)) (fitsNumbers (length (now (list .entry)))) (now (list .entry)) (now (list .exit)) r ⌝ }
+{
+    let room = list.len();
+    list_within(msg, list, room)
 }
