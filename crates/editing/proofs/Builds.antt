@@ -7,11 +7,13 @@ use mathlib.Core.Bool.{Bool, false}
 use mathlib.Core.List.{List, [], _∷_, _++_, append-assoc, append-nil}
 use lib.ListN.{length, getD, take, drop, length-append, length-drop, take-append-drop}
 use lib.Seq.{take-add, drop-drop, take-at, length-take-le}
+use mir.Val.{Fits}
+use mir.Syntax.{w8}
 use Rattle.bits.specs.Bits.{bitsN, bitsOf, placeAfter, octetsTo, octetsBefore}
 use Rattle.bits.specs.Lent.{over}
 use Rattle.bits.specs.Sink.{written, InHand, Put, Sealed}
 use Rattle.bits.proofs.Numbers.{length-bits}
-use Rattle.bits.proofs.Octets.{length-bitsOf, bitsOf-append, drop-bitsOf}
+use Rattle.bits.proofs.Octets.{length-bitsOf, bitsOf-append, drop-bitsOf, octets-of, octets-take}
 use Rattle.tone.specs.Writing.{tableBits, endBits}
 use Rattle.reading.specs.Answers.{Within}
 use Rattle.reader.specs.Judging.{TableAt}
@@ -116,8 +118,9 @@ module _ (m : List ℕ) (old : List Bool) {buf : List ℕ} {o k acc : ℕ} (b : 
         hand = q .hand;
       }
 
-  pub begun-seal : {kept buf′ : List ℕ} {r : ℕ} → Sealed (written buf o k acc) (placeAfter o + k) kept buf′ r → Built old buf′ r
-  begun-seal {kept} {buf′} {r} q = record {
+  pub begun-seal : {kept buf′ : List ℕ} {r : ℕ} → ((i : ℕ) → Fits w8 (getD buf′ i 0)) → Sealed (written buf o k acc) (placeAfter o + k) kept buf′ r → Built old buf′ r
+  begun-seal {kept} {buf′} {r} h q = record {
+    each = octets-take r buf′ (octets-of buf′ h);
     spelt = q .bits ∙ ap₂ (λ (x : List Bool) (y : ℕ). x ++ endBits y) (b .spelt) (b .place);
     size = q .size ∙ ap (λ (x : ℕ). octetsTo x + 1) (b .place);
   }

@@ -36,6 +36,10 @@ pub change-is : (a b : ℕ) → a ≤ 4096 → b ≤ 4096 → toZ w32 (ofZ w32 (
 change-is a b h k =
     toZ-ofZ w32 (toZ w32 a -ℤ toZ w32 b) (change-fits a b h k) ∙ ap₂ (λ (x y : ℤ). x -ℤ y) (toZ-pos w32 a (omega arith)) (toZ-pos w32 b (omega arith))
 
+-- a change that is held in an answer is the change
+pub change-kept : (a b : ℕ) {r : ℤ} → a ≤ 4096 → b ≤ 4096 → r ≡ pos a -ℤ pos b → toZ w32 (ofZ w32 r) ≡ pos a -ℤ pos b
+change-kept a b h k e = ap (λ (z : ℤ). toZ w32 (ofZ w32 z)) e ∙ toZ-ofZ w32 (pos a -ℤ pos b) (record { sfits = small a b h k })
+
 -- ---- clearing
 
 -- cleared up to i

@@ -8,3 +8,4 @@ pub mod Builds
 pub mod Rebuilt
 pub mod Changes
 pub mod Planning
+pub mod Finishing

@@ -28,7 +28,7 @@ use Rattle.editing.specs.Change.{carried, removed, bodyAfter, withBody, 
 use Rattle.editing.specs.Editing.{bodyLength, editTone}
 use Rattle.editing.specs.Places.{SomeTable, Puts, SpotIn, HeadAt, toneOf, Accepted}
 use Rattle.editing.specs.Plan.{overdoneOf, groundOf, Known, Going}
-use Rattle.editing.proofs.Bodies.{Fits as FitsEdit, fits, length-after, sound-at}
+use Rattle.editing.proofs.Bodies.{Fits as FitsEdit, fits, length-after, changed-formed, sound-at}
 use Rattle.editing.proofs.Demand3.{cells-append}
 use Rattle.editing.proofs.Skips.{rest-at, table-behind, table-within}
 use Rattle.editing.proofs.Heads.{header-wide}
@@ -234,14 +234,17 @@ module _ (m : List ℕ) (first p e : ℕ) (kn : Known m first p e) (ed : Edit) (
               let bound = table-within m next (b′ ++ x) [] (body-within wi) (subst (TableAt m next) (sym (append-nil (b′ ++ x))) body-stands) .inside in
               record {
                 accepts = judged ∙ (rw (met .0, met .1, met .2) refl);
+                formed = changed-formed ed k i (toneOf m) (d .formed) new plan-there (some .0) fit;
                 spells = j;
-                ahead = omega (arith, s .here, hd .behind);
-                inside = omega (arith, s .here, total, bound);
-                order = omega (arith, s .last);
-                ends = omega (arith, s .here, s .after, s .last, total, bound);
-                header = omega (arith, n₁, new-small);
-                width = pu .short;
-                value = pu .small;
+                can = record {
+                  ahead = omega (arith, s .here, hd .behind);
+                  inside = omega (arith, s .here, total, bound);
+                  order = omega (arith, s .last);
+                  ends = omega (arith, s .here, s .after, s .last, total, bound);
+                  header = omega (arith, n₁, new-small);
+                  width = pu .short;
+                  value = pu .small;
+                };
               }
 
 pub ruleset plans = (plan-new, plan-no-pattern, plan-there, plan-ground, body-within, plan-ahead, plan-header, plan-instruction, plan-removed, plan-table, plan-cell-least, plan-cell-fits, plan-go)

@@ -2,3 +2,4 @@ pub mod Change
 pub mod Editing
 pub mod Places
 pub mod Plan
+pub mod Promise

@@ -4,7 +4,7 @@ use mathlib.Core.Path.{_≡_}
 use mathlib.Core.Bool.{Bool, false}
 use mathlib.Core.List.{List, [], _++_}
 use lib.ListN.{length, take, drop}
-use Rattle.bits.specs.Bits.{bitsN, bitsOf, placeAfter, octetsTo}
+use Rattle.bits.specs.Bits.{bitsN, bitsOf, Octets, placeAfter, octetsTo}
 use Rattle.bits.specs.Sink.{written, InHand}
 use Rattle.bits.specs.Outcome.{Outcome, accepted, refused}
 use Rattle.tone.specs.Tone.{Tone, frontOf, header, cells}
@@ -77,5 +77,6 @@ joined l head cell at w v behind end = pieced l head cell at w v ++ take (end - 
 
 -- a message was built of bits: filler and the end octet follow them
 pub record Built (bits : List Bool) (buf : List ℕ) (r : ℕ) : Type 0 where
+  pub each : Octets (take r buf)
   pub spelt : bitsOf (take r buf) ≡ bits ++ endBits (length bits)
   pub size : r ≡ octetsTo (length bits) + 1

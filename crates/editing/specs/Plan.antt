@@ -8,7 +8,7 @@ use lib.Dec.{leb}
 use Rattle.bits.specs.Choice.{pick}
 use Rattle.bits.specs.Bits.{bitsOf, placeAfter}
 use Rattle.bits.specs.Outcome.{Outcome, accepted, refused}
-use Rattle.tone.specs.Tone.{cells}
+use Rattle.tone.specs.Tone.{cells, Formed}
 use Rattle.tone.specs.Writing.{songBits, mostOctets}
 use Rattle.editing.specs.declared.Edit.{Edit}
 use Rattle.editing.specs.declared.Plan.{Plan}
@@ -32,10 +32,8 @@ pub record Known (m : List ℕ) (first p e : ℕ) : Type 0 where
   pub patterns : p ≡ length (toneOf m .patterns)
   pub entries : e ≡ length (cells (toneOf m .patterns))
 
--- the edit is accepted, and these places and pieces spell the changed tone's song
-pub record Going (m : List ℕ) (ed : Edit) (k i head cell at behind end w v : ℕ) : Type 0 where
-  pub accepts : editTone ed k i (toneOf m) ≡ accepted (changed ed k i (toneOf m))
-  pub spells : joined (bitsOf m) head cell at w v behind end ≡ songBits (changed ed k i (toneOf m))
+-- these places and pieces are in order, and within the message
+pub record CanBuild (m : List ℕ) (head cell at behind end w v : ℕ) : Type 0 where
   pub ahead : head + 17 ≤ at
   pub inside : at ≤ placeAfter (length m)
   pub order : behind ≤ end
@@ -43,6 +41,13 @@ pub record Going (m : List ℕ) (ed : Edit) (k i head cell at behind end w v : �
   pub header : cell < 2 ^ 17
   pub width : w ≤ 17
   pub value : v < 2 ^ w
+
+-- the edit is accepted, and these places and pieces spell the changed tone's song
+pub record Going (m : List ℕ) (ed : Edit) (k i head cell at behind end w v : ℕ) : Type 0 where
+  pub accepts : editTone ed k i (toneOf m) ≡ accepted (changed ed k i (toneOf m))
+  pub formed : Formed (changed ed k i (toneOf m))
+  pub spells : joined (bitsOf m) head cell at w v behind end ≡ songBits (changed ed k i (toneOf m))
+  pub can : CanBuild m head cell at behind end w v
 
 -- what a plan says of an edit
 abbrev pub Plans : List ℕ → Edit → ℕ → ℕ → Plan → Type 0

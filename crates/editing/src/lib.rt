@@ -14,17 +14,37 @@ ghost use Rattle.editing.specs.Change.{isNew as isNewOf, carriesNew, car
 ghost use Rattle.tone.specs.Tone.{Tone};
 ghost use Rattle.editing.specs.Places.{SomeTable, Puts, toneOf, Accepted, HeadAt, SpotIn, Begun, Built, headed, reached, pieced, joined};
 ghost use lib.IntN.{pos, _-ℤ_};
-ghost use Rattle.editing.specs.Editing.{cleared};
-ghost use Rattle.editing.specs.Plan.{overdoneOf, groundOf, Known, Plans};
+ghost use Rattle.bits.specs.Outcome.{accepted};
+ghost use Rattle.tone.specs.Tone.{Formed};
+ghost use Rattle.tone.specs.Writing.{songBits, toneOctets, WellFormed};
+ghost use Rattle.editing.specs.Editing.{cleared, inBuffer, withList};
+ghost use Rattle.editing.specs.Promise.{Leaves, EditPromise};
+ghost use Rattle.editing.specs.Plan.{overdoneOf, groundOf, Known, CanBuild, Plans};
 use bits::BitPlace;
 use bits::OctetCount;
 use bits::Sink;
+use playing::Listed;
+use reader::Judged;
 
 // What an edit does at an instruction: replace it, insert before it, or delete it. The new instruction is one table entry.
 pub enum Edit {
     Replace(u32),
     Insert(u32),
     Delete,
+}
+
+// What an edit answers: the new length, the entries of the new list, its return mark and the change in octets; or the refusal.
+pub enum Answer {
+    Edited {
+        length: OctetCount,
+        entries: u32,
+        mark: u32,
+        change: i32,
+    },
+    Refused {
+        number: u32,
+        place: BitPlace,
+    },
 }
 
 // ---- the new instruction
@@ -401,5 +421,115 @@ fn clear(buf: &mut [u8], from: usize, to: usize)
     while i < to {
         buf[i] = 0;
         i += 1;
+    }
+}
+
+// Puts a message that was built, and its list, in place of the old ones; or the list refuses, and nothing changes.
+fn finish(buf: &mut [u8], used: OctetCount, new: &[u8], list: &mut [u32]) -> Answer
+    requires { ⌜ (used .0 ≤ length (now buf)) × (used .0 ≤ 4096) × (length (now new) ≤ length (now buf)) × (length (now new) ≤ 4096) ⌝ }
+    ensures { λ r. ⌜ ((t : Tone) → WellFormed t → toneOctets t ≡ now (new .entry) → Leaves (withList (length (now (list .entry))) (accepted t)) (used .0) (now (buf .entry)) (now (list .entry)) (now (buf .exit)) (now (list .exit)) r) ⌝ }
+{
+    match playing::list(new, list) {
+        Listed::Refused { number, place } => Answer::Refused { number, place },
+        Listed::Made { entries, mark } => {
+            let n = new.len();
+            copy_octets(new, n, buf);
+            clear(buf, n, used.0);
+            Answer::Edited {
+                length: OctetCount(n),
+                entries,
+                mark,
+                change: change(OctetCount(n), used),
+            }
+        }
+    }
+}
+
+// Carries out a plan: the message is built apart, and then put in place.
+fn carry_out(
+    buf: &mut [u8],
+    used: OctetCount,
+    header: BitPlace,
+    cell: u32,
+    spot: Spot,
+    piece: Piece,
+    list: &mut [u32],
+) -> Answer
+    requires { ⌜ (used .0 ≤ length (now buf)) × (used .0 ≤ 4096) × CanBuild (take (used .0) (now buf)) (header .0) cell (spot .at .0) (spot .behind .0) (spot .end .0) (piece .width) (piece .value) ⌝ }
+    ensures { λ r. ⌜ ((t : Tone) → Formed t → joined (bitsOf (take (used .0) (now (buf .entry)))) (header .0) cell (spot .at .0) (piece .width) (piece .value) (spot .behind .0) (spot .end .0) ≡ songBits t → Leaves (withList (length (now (list .entry))) (inBuffer (length (now (buf .entry))) t)) (used .0) (now (buf .entry)) (now (list .entry)) (now (buf .exit)) (now (list .exit)) r) ⌝ }
+{
+    let end = spot.at.0 + piece.width as usize + (spot.end.0 - spot.behind.0);
+    let length = bits::octets_to(BitPlace(end)).0 + 1;
+    if 4096 < length {
+        return Answer::Refused {
+            number: 1,
+            place: BitPlace(0),
+        };
+    }
+    if buf.len() < length {
+        return Answer::Refused {
+            number: 11,
+            place: BitPlace(0),
+        };
+    }
+    let mut scratch = [0u8; 4096];
+    let old = used.0;
+    let n = build(&buf[..old], header, cell, spot, piece, &mut scratch);
+    let new = n.0;
+    finish(buf, used, &scratch[..new], list)
+}
+
+// Edits the message that lies in the first `used` octets of a lent buffer, and fills a lent list.
+pub fn edit_message(
+    buf: &mut [u8],
+    used: OctetCount,
+    edit: Edit,
+    pattern: usize,
+    instruction: usize,
+    list: &mut [u32],
+) -> Answer
+    ensures { λ r. ⌜ EditPromise (now (buf .entry)) (used .0) edit pattern instruction (now (list .entry)) (now (buf .exit)) (now (list .exit)) r ⌝ }
+{
+    let old = used.0;
+    if buf.len() < old {
+        return Answer::Refused {
+            number: 1,
+            place: BitPlace(0),
+        };
+    }
+    match reader::judge(&buf[..old]) {
+        Judged::Faulty { number, at: fault } => Answer::Refused {
+            number,
+            place: fault,
+        },
+        Judged::Sound {
+            song: _,
+            unicode: _,
+            octets: _,
+            patterns,
+            entries,
+            at,
+        } => {
+            match plan_edit(
+                &buf[..old],
+                at,
+                patterns as usize,
+                entries as usize,
+                edit,
+                pattern,
+                instruction,
+            ) {
+                Plan::Halt(number) => Answer::Refused {
+                    number,
+                    place: BitPlace(0),
+                },
+                Plan::Go {
+                    header,
+                    cell,
+                    spot,
+                    piece,
+                } => carry_out(buf, used, header, cell, spot, piece, list),
+            }
+        }
     }
 }

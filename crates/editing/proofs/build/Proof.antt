@@ -35,7 +35,7 @@ returns : tie.Need-returns
 returns c =
     let a = c .before .before .before .before .before .before .before .before .before .before .before .before .before .before .before .before .before .args in
     let p = c .before .before .before .before .before .before .before .before .before .before .before .before .before .before .before .before .before .pre in
-    begun-seal (a .msg .now) _ (begun-copy (a .msg .now) _ (c .before .before .before .before .before .before .before .before .before .before .before .before .before .put-piece .ensures) (a .spot .behind .0) (a .spot .end .0 - a .spot .behind .0) (omega (arith, p .1)) (c .before .before .before .before .before .before .copy-bits .ensures)) (c .before .before .seal .ensures)
+    begun-seal (a .msg .now) _ (begun-copy (a .msg .now) _ (c .before .before .before .before .before .before .before .before .before .before .before .before .before .put-piece .ensures) (a .spot .behind .0) (a .spot .end .0 - a .spot .behind .0) (omega (arith, p .1)) (c .before .before .before .before .before .before .copy-bits .ensures)) (c .slice-known4 .given) (c .before .before .seal .ensures)
 
 pub build-spec : {M : Type 1} → statement M
 build-spec =
