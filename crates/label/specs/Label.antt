@@ -1,7 +1,8 @@
 -- The label for the screen: the title without its trailing spaces, or the caller's stand-in name.
 use Prim.Native.Nat.{ℕ, zero, suc, _+_, _*_, _/_, _%_, _^_}
-use mathlib.Core.Bool.{Bool, _&&_, _||_}
-use mathlib.Core.List.{List, [], _∷_}
+use mathlib.Core.Path.{_≡_}
+use mathlib.Core.Bool.{Bool, true, _&&_, _||_}
+use mathlib.Core.List.{List, [], _∷_, _++_}
 use lib.ListN.{length, take, drop}
 use lib.Dec.{eqb}
 use Rattle.bits.specs.Choice.{pick}
@@ -18,7 +19,7 @@ number (x ∷ o) = x * 256 ^ length o + number o
 abbrev pub character : ℕ → List ℕ → ℕ → ℕ
 character w title at = number (take w (drop at title))
 
--- how many of the first n characters are left without trailing spaces: character 32, the 16-bit 32 under UNICODE
+-- how many of the first n characters are left without trailing spaces, each the character 32
 unfoldable pub trimmed : ℕ → List ℕ → ℕ → ℕ
 trimmed w title zero = 0
 trimmed w title (suc n) = pick (eqb (character w title (w * n)) 32) (trimmed w title n) (suc n)
@@ -28,6 +29,19 @@ unfoldable pub leftOctets : ℕ → List ℕ → ℕ
 leftOctets w title = w * trimmed w title (length title / w)
 
 -- ---- the label
+
+-- a space: character 32, or the 16-bit 32 under UNICODE
+abbrev pub space : Bool → List ℕ
+space unicode = pick unicode (0 ∷ 32 ∷ []) (32 ∷ [])
+
+-- so many spaces
+abbrev pub spaces : Bool → ℕ → List ℕ
+spaces unicode zero = []
+spaces unicode (suc n) = space unicode ++ spaces unicode n
+
+-- the title without its trailing spaces
+abbrev pub trimmedTitle : Bool → List ℕ → List ℕ
+trimmedTitle unicode title = take (leftOctets (perCharacter unicode) title) title
 
 -- the octets are odd under UNICODE
 unfoldable pub odd : Bool → List ℕ → Bool
@@ -39,4 +53,9 @@ standsIn unicode title = odd unicode title || eqb (leftOctets (perCharacter unic
 
 -- the title without its trailing spaces, or the stand-in name
 unfoldable pub labelOf : Bool → List ℕ → List ℕ → List ℕ
-labelOf unicode title standIn = pick (standsIn unicode title) standIn (take (leftOctets (perCharacter unicode) title) title)
+labelOf unicode title standIn = pick (standsIn unicode title) standIn (trimmedTitle unicode title)
+
+-- where a title supplies no label: its octets are odd under UNICODE, or it is nothing but spaces
+pub data NoTitle (unicode : Bool) (title : List ℕ) : Type 0 where
+  oddOctets : odd unicode title ≡ true → NoTitle unicode title
+  nothingLeft : (n : ℕ) → title ≡ spaces unicode n → NoTitle unicode title
