@@ -7,8 +7,8 @@ use Rattle.reader.proofs.Judgements.{judgements}
 returns : tie.Need-returns
 returns c = search (judgements, needs)
 
-open-requires : tie.Need-open-requires
-open-requires c κs = search needs
+front-of-requires : tie.Need-front-of-requires
+front-of-requires c κs = search needs
 
 enum-known-number : tie.Need-enum-known-number
 enum-known-number c = search needs
@@ -45,7 +45,7 @@ judge-spec =
     tie.close
     (tie.spec
     returns
-    open-requires
+    front-of-requires
     enum-known-number
     enum-known-song
     rest-requires
