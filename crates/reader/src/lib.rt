@@ -5,8 +5,8 @@ ghost use Prim.Native.Nat.{ℕ, _+_, _*_, _^_, _≤_, _<_};
 ghost use lib.ListN.{length};
 ghost use Rattle.bits.specs.Bits.{bitsOf, placeAfter};
 ghost use Rattle.bits.specs.Lent.{over};
-ghost use Rattle.tone.specs.Reading.{readTone, front as frontDue};
-ghost use Rattle.reading.specs.Answers.{Within, openingOf};
+ghost use Rattle.tone.specs.Reading.{readTone, front as frontDue, rest as restDue};
+ghost use Rattle.reading.specs.Answers.{Within, openingOf, stepAs, entries as entriesOf};
 ghost use Rattle.reader.specs.Judging.{judgedOf, TableAt, OctetsAt, tableOf, titleOf};
 ghost use Rattle.reader.specs.Promise.{ReadPromise};
 use bits::BitPlace;
@@ -78,6 +78,29 @@ pub fn front_of(msg: &[u8]) -> Opening
     front(start(msg))
 }
 
+// The same message at another place.
+pub fn moved<'a>(r: Reader<'a>, at: BitPlace) -> Reader<'a>
+    ensures { λ q. ⌜ (q .msg ≡ r .entry .msg) × (q .at ≡ at) ⌝ }
+{
+    Reader { msg: r.msg, at }
+}
+
+// The patterns, filler and end octet that stand at a reader's place.
+pub fn rest<'a>(r: Reader<'a>, count: u32) -> Step
+    requires { ⌜ Within (now (r .msg)) (r .at .0) × (count ≤ 255) ⌝ }
+    ensures { λ s. ⌜ s ≡ stepAs entriesOf (restDue count (bitsOf (now (r .entry .msg))) (r .entry .at .0)) ⌝ }
+{
+    reading::rest(r.msg, r.at, count)
+}
+
+// The patterns of a message, from a place on.
+pub fn rest_of(msg: &[u8], at: BitPlace, count: u32) -> Step
+    requires { ⌜ Within (now msg) (at .0) × (count ≤ 255) ⌝ }
+    ensures { λ s. ⌜ s ≡ stepAs entriesOf (restDue count (bitsOf (now (msg .entry))) (at .0)) ⌝ }
+{
+    rest(moved(start(msg), at), count)
+}
+
 // Judges a whole message, and changes nothing.
 pub fn judge(msg: &[u8]) -> Judged
     ensures { λ r. ⌜ r ≡ judgedOf (readTone (now (msg .entry))) ⌝ }
@@ -96,7 +119,7 @@ pub fn judge(msg: &[u8]) -> Judged
             octets,
             count,
             next: at,
-        } => match reading::rest(msg, at, count) {
+        } => match rest_of(msg, at, count) {
             Step::Bad { number, at: fault } => Judged::Faulty { number, at: fault },
             Step::Good {
                 value: entries,

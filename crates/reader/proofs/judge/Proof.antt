@@ -16,8 +16,8 @@ enum-known-number c = search needs
 enum-known-song : tie.Need-enum-known-song
 enum-known-song c = search needs
 
-rest-requires : tie.Need-rest-requires
-rest-requires c κs = search (judgements, needs)
+rest-of-requires : tie.Need-rest-of-requires
+rest-of-requires c κs = search (judgements, needs)
 
 enum-known-number-2 : tie.Need-enum-known-number-2
 enum-known-number-2 c = search needs
@@ -48,7 +48,7 @@ judge-spec =
     front-of-requires
     enum-known-number
     enum-known-song
-    rest-requires
+    rest-of-requires
     enum-known-number-2
     enum-known-entries
     place-after-requires
