@@ -17,7 +17,7 @@ use Rattle.tone.specs.Tone.{perCharacter}
 use Rattle.label.specs.declared.Supplier.{Supplier}
 use Rattle.label.specs.declared.Supplier.the-variants.{Title, StandIn}
 use Rattle.label.specs.Label.{character, trimmed, leftOctets, odd, standsIn, labelOf}
-use Rattle.label.specs.Promises.{numbers, count, suppliedAnswer, suppliedNumbers, SuppliedPromise, LabelPromise}
+use Rattle.label.specs.Promises.{numbers, count, SuppliedPromise, LabelPromise}
 
 -- no more characters are left than there are
 pub trimmed-most : (w : ℕ) (title : List ℕ) (n : ℕ) → trimmed w title n ≤ n

@@ -1,15 +1,15 @@
 -- What the rules of the label come to.
-use Prim.Native.Nat.{ℕ, zero, suc, _+_, _-_, _*_, _/_, _%_, _≤_, _<_}
+use Prim.Native.Nat.{ℕ, zero, suc, _+_, _-_, _*_, _/_, _≤_, _<_}
 use native.Mathlib.Omega.{arith}
-use native.Mathlib.Nat.{mul-suc, mul-zero, mul-le-mul-left, mul-add, add-comm, add-suc, add-zero, eq-or-lt-of-le}
-use mathlib.Core.Path.{_≡_, refl, sym, ap, ap₂, subst, _∙_}
+use native.Mathlib.Nat.{mul-suc, mul-zero, mul-le-mul-left, mul-add, add-suc, add-zero, eq-or-lt-of-le}
+use mathlib.Core.Path.{_≡_, refl, sym, ap, ap₂, _∙_}
 use mathlib.Core.Bool.{Bool, true, false, _||_}
 use mathlib.Core.Logic.{_⊎_, inl, inr, _↔_}
-use mathlib.Core.List.{List, [], _∷_, _++_}
+use mathlib.Core.List.{List, [], _++_}
 use lib.ListN.{length, take, drop, length-append, length-drop, take-append-drop}
 use lib.Dec.{eqb}
 use lib.Seq.{length-take-le, drop-length, drop-drop, take-add, take-at, drop-at, drop-append-add}
-use borrow.Author.Tests.{eqb-true, eqb-false, eq-eqb, ne-eqb}
+use borrow.Author.Tests.{eqb-true, eqb-false, eq-eqb}
 use Rattle.bits.specs.Choice.{pick}
 use Rattle.tone.specs.Tone.{perCharacter}
 use Rattle.label.specs.Label.{number, character, trimmed, leftOctets, trimmedTitle, space, spaces, odd, standsIn, NoTitle, oddOctets, nothingLeft}

@@ -1,5 +1,5 @@
 -- Spaces as octets, in both widths.
-use Prim.Native.Nat.{ℕ, zero, suc, _+_, _*_, _≤_, _<_}
+use Prim.Native.Nat.{ℕ, zero, suc, _+_, _*_, _<_}
 use native.Mathlib.Omega.{arith}
 use native.Mathlib.Nat.{mul-suc, mul-zero, add-comm}
 use mathlib.Core.Path.{_≡_, refl, sym, ap, _∙_}

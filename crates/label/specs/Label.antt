@@ -19,7 +19,7 @@ number (x ∷ o) = x * 256 ^ length o + number o
 abbrev pub character : ℕ → List ℕ → ℕ → ℕ
 character w title at = number (take w (drop at title))
 
--- how many of the first n characters are left without trailing spaces, each the character 32
+-- how many of the first n characters are left without trailing spaces; a space is the character 32
 unfoldable pub trimmed : ℕ → List ℕ → ℕ → ℕ
 trimmed w title zero = 0
 trimmed w title (suc n) = pick (eqb (character w title (w * n)) 32) (trimmed w title n) (suc n)
