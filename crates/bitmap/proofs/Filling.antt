@@ -1,0 +1,42 @@
+-- Octets that are written to the front of a buffer.
+use Prim.Native.Nat.{ℕ, suc, _+_, _-_, _≤_, _<_}
+use native.Mathlib.Omega.{arith}
+use native.Mathlib.Nat.{le-of-lt}
+use native.Mathlib.Numerals.{add-one}
+use mathlib.Core.Path.{_≡_, refl, sym, ap, _∙_}
+use mathlib.Core.List.{List, [], _∷_, _++_}
+use lib.ListN.{length, getD, take, drop, set, length-set}
+use lib.Seq.{drop-cons, take-suc, set-at, append-snoc, length-take-le, take-length}
+
+-- ---- the loop of `copy`
+
+-- the first i octets are copied, the others are as they were
+pub record Copying (src dst₀ dst : List ℕ) (i : ℕ) : Type 0 where
+  pub inside : i ≤ length src
+  pub long : length dst ≡ length dst₀
+  pub holds : dst ≡ take i src ++ drop i dst₀
+
+pub copy-begin : (src dst : List ℕ) → Copying src dst dst 0
+copy-begin src dst = record { inside = omega arith; long = refl; holds = refl }
+
+pub copy-turn : {src dst₀ dst : List ℕ} {i : ℕ} → Copying src dst₀ dst i → i < length src → length src ≤ length dst₀ → Copying src dst₀ (set dst i (getD src i 0)) (i + 1)
+copy-turn {src} {dst₀} {dst} {i} t h l =
+    let k : i < length dst₀ = omega arith in
+    record {
+      inside = omega arith;
+      long = length-set dst i (getD src i 0) ∙ t .long;
+      holds =
+        rw (t .holds, add-one i, drop-cons dst₀ i 0 k,
+        set-at (take i src) (getD dst₀ i 0) (drop (suc i) dst₀) (getD src i 0) i (length-take-le i src (le-of-lt h)),
+        take-suc src i 0 h, append-snoc (take i src) (getD src i 0) (drop (suc i) dst₀)) refl;
+    }
+
+pub copy-room : {src dst₀ dst : List ℕ} {i : ℕ} → Copying src dst₀ dst i → i < length src → length src ≤ length dst₀ → i < length dst
+copy-room t h l = omega (arith, t .long)
+
+pub copy-end : {src dst₀ dst : List ℕ} {i : ℕ} → Copying src dst₀ dst i → length src ≤ i → dst ≡ src ++ drop (length src) dst₀
+copy-end {src} {dst₀} {dst} {i} t h =
+    let e : i ≡ length src = omega (arith, t .inside) in
+    t .holds ∙ (rw (e, take-length src) refl)
+
+pub ruleset copying = (copy-begin, copy-turn, copy-room, copy-end)
