@@ -4,10 +4,10 @@ use native.Mathlib.Omega.{arith}
 use native.Mathlib.Nat.{add-assoc}
 use mathlib.Core.Path.{_≡_, refl, sym, ap, ap₂, _∙_}
 use mathlib.Core.List.{List}
-use lib.ListN.{length, getD, take, drop, drop-of-length-le}
+use lib.ListN.{length, getD, take, drop, drop-of-length-le, take-append-drop}
 use lib.Count.{ones}
 use Rattle.bitmap.specs.Image.{onesOf}
-use Rattle.bitmap.proofs.Ones.{ones-take, ones-drop}
+use Rattle.bitmap.proofs.Ones.{ones-append, ones-take, ones-drop}
 
 -- ---- eight octets a turn
 
@@ -66,3 +66,12 @@ pub octets-small : {s : List ℕ} {from n i : ℕ} → Octetwise s from n i → 
 octets-small t h = omega arith
 
 pub ruleset octetwise = (octets-begin, octets-turn, octets-end, octets-small)
+
+-- ---- both
+
+-- the ones of the eights and of the few octets behind them are all of them
+pub counted-all : (s : List ℕ) {a b : ℕ} → (a ≡ onesOf (take (length s - length s % 8) s)) × (a ≤ 524288)
+    → (b ≡ onesOf (drop (length s - length s % 8) s)) × (b ≤ 524288) → a + b ≡ onesOf s
+counted-all s e f =
+    let i : ℕ = length s - length s % 8 in
+    ap₂ (λ (m n : ℕ). m + n) (e .0) (f .0) ∙ sym (ones-append (take i s) (drop i s)) ∙ ap onesOf (take-append-drop i s)

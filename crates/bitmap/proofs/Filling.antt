@@ -4,9 +4,9 @@ use native.Mathlib.Omega.{arith}
 use native.Mathlib.Nat.{le-of-lt}
 use native.Mathlib.Numerals.{add-one}
 use mathlib.Core.Path.{_≡_, refl, sym, ap, _∙_}
-use mathlib.Core.List.{List, [], _∷_, _++_}
-use lib.ListN.{length, getD, take, drop, set, length-set}
-use lib.Seq.{drop-cons, take-suc, set-at, append-snoc, length-take-le, take-length}
+use mathlib.Core.List.{List, [], _∷_, _++_, append-nil}
+use lib.ListN.{length, getD, take, drop, set, length-set, length-take, length-drop, length-append}
+use lib.Seq.{drop-cons, take-suc, set-at, append-snoc, length-take-le, take-length, drop-length, drop-drop}
 
 -- ---- the loop of `copy`
 
@@ -26,9 +26,14 @@ copy-turn {src} {dst₀} {dst} {i} t h l =
       inside = omega arith;
       long = length-set dst i (getD src i 0) ∙ t .long;
       holds =
-        rw (t .holds, add-one i, drop-cons dst₀ i 0 k,
-        set-at (take i src) (getD dst₀ i 0) (drop (suc i) dst₀) (getD src i 0) i (length-take-le i src (le-of-lt h)),
-        take-suc src i 0 h, append-snoc (take i src) (getD src i 0) (drop (suc i) dst₀)) refl;
+          rw (
+            t .holds,
+            add-one i,
+            drop-cons dst₀ i 0 k,
+            set-at (take i src) (getD dst₀ i 0) (drop (suc i) dst₀) (getD src i 0) i (length-take-le i src (le-of-lt h)),
+            take-suc src i 0 h,
+            append-snoc (take i src) (getD src i 0) (drop (suc i) dst₀),
+          ) refl;
     }
 
 pub copy-room : {src dst₀ dst : List ℕ} {i : ℕ} → Copying src dst₀ dst i → i < length src → length src ≤ length dst₀ → i < length dst
@@ -40,3 +45,37 @@ copy-end {src} {dst₀} {dst} {i} t h =
     t .holds ∙ (rw (e, take-length src) refl)
 
 pub ruleset copying = (copy-begin, copy-turn, copy-room, copy-end)
+
+-- ---- the header, and the image behind it
+
+-- the room behind a header
+pub room : (w h : ℕ) (image out : List ℕ) → length image + 4 ≤ length out
+    → length image ≤ length (take (length (set (set (set (set out 0 0) 1 w) 2 h) 3 1) - 4) (drop 4 (set (set (set (set out 0 0) 1 w) 2 h) 3 1)))
+room w h image out l = simp (length-take, length-drop, length-set) (omega arith)
+
+-- what `fill` leaves in the buffer
+pub filled : (w h : ℕ) (image out : List ℕ) {x : List ℕ} → length image + 4 ≤ length out
+    → x ≡ image ++ drop (length image) (take (length (set (set (set (set out 0 0) 1 w) 2 h) 3 1) - 4) (drop 4 (set (set (set (set out 0 0) 1 w) 2 h) 3 1)))
+    → take 4 (set (set (set (set out 0 0) 1 w) 2 h) 3 1)
+    ++ (x ++ drop (length (set (set (set (set out 0 0) 1 w) 2 h) 3 1) - 4) (drop 4 (set (set (set (set out 0 0) 1 w) 2 h) 3 1)))
+    ≡ 0 ∷ w ∷ h ∷ 1 ∷ image ++ drop (length image + 4) out
+filled w h image [] l e = let z : ⊥ = omega arith in absurd z
+filled w h image (a ∷ []) l e = let z : ⊥ = omega arith in absurd z
+filled w h image (a ∷ b ∷ []) l e = let z : ⊥ = omega arith in absurd z
+filled w h image (a ∷ b ∷ c ∷ []) l e = let z : ⊥ = omega arith in absurd z
+filled w h image (a ∷ b ∷ c ∷ d ∷ out) {x} l e =
+    let n : length (0 ∷ w ∷ h ∷ 1 ∷ out) - 4 ≡ length out = omega arith in
+    let k : length image + 4 ≡ 4 + length image = omega arith in
+    let t : x ≡ image ++ drop (length image) out = e ∙ (rw (n, take-length out) refl) in
+    rw (n, drop-length out, append-nil x, t, k, ← drop-drop (length image) 4 (a ∷ b ∷ c ∷ d ∷ out)) refl
+
+-- ends of a need: `filled` and its length
+pub filled-long : (w h : ℕ) (image out : List ℕ) {x : List ℕ} → length image + 4 ≤ length out
+    → x ≡ image ++ drop (length image) (take (length (set (set (set (set out 0 0) 1 w) 2 h) 3 1) - 4) (drop 4 (set (set (set (set out 0 0) 1 w) 2 h) 3 1)))
+    → length
+    (take 4 (set (set (set (set out 0 0) 1 w) 2 h) 3 1)
+    ++ (x ++ drop (length (set (set (set (set out 0 0) 1 w) 2 h) 3 1) - 4) (drop 4 (set (set (set (set out 0 0) 1 w) 2 h) 3 1))))
+    ≡ length out
+filled-long w h image out l e = ap length (filled w h image out l e) ∙ simp (length-append, length-drop) (omega arith)
+
+pub ruleset filling = (room, filled, filled-long)

@@ -5,3 +5,5 @@ pub mod Pixels
 pub mod Sizing
 pub mod Judging
 pub mod Filling
+pub mod Rules
+pub mod Exits

@@ -56,13 +56,20 @@ eight : (s : List ℕ) (i : ℕ) → i + 8 ≤ length s
 eight s i h =
     let z : take 8 (drop i s) ≡ getD s i 0 ∷ take 7 (drop (i + 1) s) = rw (add-zero i) at (one-more 7 i 0 s (omega arith)) in
     z
-    ∙ (rw (one-more 6 i 1 s (omega arith), one-more 5 i 2 s (omega arith), one-more 4 i 3 s (omega arith), one-more 3 i 4 s (omega arith), one-more 2 i 5 s (omega arith),
-    one-more 1 i 6 s (omega arith), one-more 0 i 7 s (omega arith)) refl)
+    ∙ (rw (
+      one-more 6 i 1 s (omega arith),
+      one-more 5 i 2 s (omega arith),
+      one-more 4 i 3 s (omega arith),
+      one-more 3 i 4 s (omega arith),
+      one-more 2 i 5 s (omega arith),
+      one-more 1 i 6 s (omega arith),
+      one-more 0 i 7 s (omega arith),
+    ) refl)
 
 -- the eight octets at i, as a number and as a list
 module _ (s : List ℕ) (i : ℕ) {a b c d e f g h : ℕ} (l : i + 8 ≤ length s) (ha : (a ≡ getD s i 0) × (a < 256)) (hb : (b ≡ getD s (i + 1) 0) × (b < 256))
-  (hc : (c ≡ getD s (i + 2) 0) × (c < 256)) (hd : (d ≡ getD s (i + 3) 0) × (d < 256)) (he : (e ≡ getD s (i + 4) 0) × (e < 256))
-  (hf : (f ≡ getD s (i + 5) 0) × (f < 256)) (hg : (g ≡ getD s (i + 6) 0) × (g < 256)) (hh : (h ≡ getD s (i + 7) 0) × (h < 256)) where
+    (hc : (c ≡ getD s (i + 2) 0) × (c < 256)) (hd : (d ≡ getD s (i + 3) 0) × (d < 256)) (he : (e ≡ getD s (i + 4) 0) × (e < 256))
+    (hf : (f ≡ getD s (i + 5) 0) × (f < 256)) (hg : (g ≡ getD s (i + 6) 0) × (g < 256)) (hh : (h ≡ getD s (i + 7) 0) × (h < 256)) where
   octets : Octets (a ∷ b ∷ c ∷ d ∷ e ∷ f ∷ g ∷ h ∷ [])
   octets = (ha .1, (hb .1, (hc .1, (hd .1, (he .1, (hf .1, (hg .1, (hh .1, tt))))))))
 
