@@ -7,3 +7,6 @@ pub mod Judging
 pub mod Filling
 pub mod Rules
 pub mod Exits
+pub mod Calls
+pub mod Unique
+pub mod Samples

@@ -119,15 +119,17 @@ spelt (a ∷ b ∷ []) l h = let z : ⊥ = omega arith in absurd z
 spelt (a ∷ b ∷ c ∷ []) l h = let z : ⊥ = omega arith in absurd z
 spelt (a ∷ b ∷ c ∷ d ∷ m) l h = ap₂ (λ (x y : ℕ). x ∷ b ∷ c ∷ y ∷ m) (sym (h .info)) (sym (h .depth))
 
-sound : (m : List ℕ) (b : Bitmap) {o : Outcome Bitmap} → ReadingCase m o → o ≡ accepted b → (Octets m → WellFormed b) × (writing b ≡ m)
+sound : (m : List ℕ) (b : Bitmap) {o : Outcome Bitmap} → ReadingCase m o → o ≡ accepted b
+    → Sizes (b .width) (b .height) × (length (b .image) ≡ imageOctets (b .width) (b .height)) × (writing b ≡ m)
 sound m b (short l) e = refused-not e
 sound m b (outside l n) e = refused-not e
 sound m b (other-length l h n) e = refused-not e
 sound m b (right l h x) e =
-    let q : bitmap (getD m 1 0) (getD m 2 0) (drop 4 m) ≡ b = cc in (
-      λ o. subst WellFormed q (record { sizes = h .sizes; octets = octets-drop 4 m o; exact = x }),
-      ap writing (sym q) ∙ spelt m l h,
-    )
+    let q : bitmap (getD m 1 0) (getD m 2 0) (drop 4 m) ≡ b = cc in
+    subst
+    (λ (a : Bitmap). Sizes (a .width) (a .height) × (length (a .image) ≡ imageOctets (a .width) (a .height)) × (writing a ≡ m))
+    q
+    (h .sizes, x, spelt m l h)
 
 complete : (b : Bitmap) → Sizes (b .width) (b .height) → length (b .image) ≡ imageOctets (b .width) (b .height) → {o : Outcome Bitmap} → ReadingCase (writing b) o → o ≡ accepted b
 complete b s x (short l) = let z : ⊥ = omega arith in absurd z
@@ -143,13 +145,19 @@ read-written b f = complete b (f .sizes) (f .exact) (reading-is (writing b))
 pub read-spelt : (b : Bitmap) → Sizes (b .width) (b .height) → length (b .image) ≡ imageOctets (b .width) (b .height) → reading (writing b) ≡ accepted b
 read-spelt b s x = complete b s x (reading-is (writing b))
 
+-- what is read has sizes that are taken, and as many octets as they ask
+pub read-right : (m : List ℕ) (b : Bitmap) → reading m ≡ accepted b → Sizes (b .width) (b .height) × (length (b .image) ≡ imageOctets (b .width) (b .height))
+read-right m b e = let s = sound m b (reading-is m) e in (s .0, s .1)
+
 -- writing what was read gives the same octets
 pub write-read : (m : List ℕ) (b : Bitmap) → reading m ≡ accepted b → writing b ≡ m
-write-read m b e = sound m b (reading-is m) e .1
+write-read m b e = sound m b (reading-is m) e .2
 
--- what is read is well formed
+-- what is read from octets is well formed
 pub read-well-formed : (m : List ℕ) (b : Bitmap) → Octets m → reading m ≡ accepted b → WellFormed b
-read-well-formed m b o e = sound m b (reading-is m) e .0 o
+read-well-formed m b o e =
+    let r = read-right m b e in
+    record { sizes = r .0; octets = octets-drop 4 (writing b) (subst Octets (sym (write-read m b e)) o); exact = r .1 }
 
 -- reading m accepts b exactly if b is well formed and its writing is m
 pub reads-exactly : (m : List ℕ) (b : Bitmap) → Octets m → (reading m ≡ accepted b) ↔ (WellFormed b × (writing b ≡ m))
