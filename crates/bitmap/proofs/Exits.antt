@@ -4,7 +4,7 @@ use native.Mathlib.Omega.{arith}
 use native.Mathlib.Nat.{add-comm, le-of-eq}
 use mathlib.Core.Path.{_≡_, refl, sym, ap, subst, _∙_}
 use mathlib.Core.List.{List, [], _∷_, _++_}
-use lib.ListN.{length, getD, take, drop, length-drop}
+use lib.ListN.{length, getD, take, drop, length-take, length-drop}
 use lib.Seq.{take-all}
 use borrow.Author.Tests.{lt-leb, le-leb}
 use denote.Ref.{RefT, ptr, now}
@@ -22,7 +22,7 @@ use Rattle.bitmap.specs.Bitmap.{Bitmap, writing, judged, reading, writin
 use Rattle.bitmap.specs.Promises.{readAnswer, readNumbers, numbersOfReading, ReadPromise, imageOf, imageStart, ImagePromise, writeAnswer, writeNumbers, numbersOfWriting, lentAfter, WritePromise}
 use Rattle.bitmap.proofs.Sizing.{octets-most}
 use Rattle.bitmap.proofs.Pixels.{black-are-ones}
-use Rattle.bitmap.proofs.Judging.{rest}
+use Rattle.bitmap.proofs.Judging.{octet-fits, rest}
 use Rattle.bitmap.proofs.Rules.{bitmap, Header, JudgedCase, ReadingCase, WritingCase, judged-is, reading-is, writing-is}
 
 -- ---- what a number of refusal says
@@ -54,18 +54,21 @@ refused-reading m {n} e k = faulted m (reading-is m) (λ z. k (e ∙ z)) ∙ ap 
 
 -- ---- `read`
 
-pub read-long : (m : List ℕ) {n : ℕ} → n ≡ refusalOf (reading m) → n ≡ 0 → 4 ≤ length m
-read-long m e z = cleared m e z .long
+-- an accepted message has its four octets of header, and no more octets than the largest image
+pub read-long : (m : List ℕ) (k : ℕ) {n : ℕ} → k ≤ 4 → n ≡ refusalOf (reading m) → n ≡ 0 → k ≤ length m
+read-long m k h e z = omega (arith, cleared m e z .long)
 
-pub read-inside : (m : List ℕ) (i : ℕ) {n : ℕ} → i < 4 → n ≡ refusalOf (reading m) → n ≡ 0 → i < length m
-read-inside m i h e z = omega (arith, cleared m e z .long)
+pub read-inside : (m : List ℕ) (k : ℕ) {n : ℕ} → k < 4 → n ≡ refusalOf (reading m) → n ≡ 0 → k < length m
+read-inside m k h e z = omega (arith, cleared m e z .long)
 
-pub read-small : (m : List ℕ) {n : ℕ} → n ≡ refusalOf (reading m) → n ≡ 0 → length (take (length m - 4) (drop 4 m)) ≤ 65536
+pub read-small : (m : List ℕ) (k : ℕ) {n : ℕ} → n ≡ refusalOf (reading m) → n ≡ 0 → length (take (length m - k) (drop k m)) ≤ 65536
 unfolding imageOctets
-read-small m e z =
+read-small m k e z =
     let c = cleared m e z in
     let s = c .header .sizes in
-    rw (rest m) (omega (arith, c .exact, octets-most (getD m 1 0) (getD m 2 0) (s .most) (s .high)))
+    let o = octets-most (getD m 1 0) (getD m 2 0) (s .most) (s .high) in
+    let l : length (drop 4 m) ≡ length m - 4 = length-drop 4 m in
+    simp (length-take, length-drop) (omega (arith, c .exact, c .long, o, l))
 
 pub read-refused : (m : List ℕ) {n : ℕ} → n ≡ refusalOf (reading m) → (n ≡ 0 → ⊥) → ReadPromise m (Refused n (record { 0 = 0 }))
 read-refused m e k = let q = refused-reading m e k in record { answer = rw q refl; numbers = rw q refl }
@@ -79,7 +82,7 @@ read-accepted m {n} {k} f e z h =
     ∙ sym (black-are-ones (getD m 1 0) (getD m 2 0) (drop 4 m) (c .header .sizes .whole) (octets-drop 4 m (octets-of m f)) (c .exact)) in
     record { answer = rw (c .reads, b) refl; numbers = rw (c .reads, b) refl }
 
-pub ruleset reads = (read-long, read-inside, read-small, read-refused, read-accepted)
+pub ruleset reads = (octet-fits, read-long, read-inside, read-small, read-refused, read-accepted)
 
 -- ---- `image`
 
@@ -131,9 +134,9 @@ module _ (width height : ℕ) (image : List ℕ) {n : ℕ} (e : n ≡ refusalOf 
       record { answer = rw q refl; numbers = rw q refl; lent = rw q refl }
 
   -- what is refused for want of room
-  pub write-full : (out : List ℕ) → n ≡ 0 → length out < length image + 4 → WritePromise width height image out (Unwritten 11 (record { 0 = 0 })) out
+  pub write-full : (out : List ℕ) (k : ℕ) → n ≡ 0 → length out < length image + k → k ≤ 4 → WritePromise width height image out (Unwritten 11 (record { 0 = 0 })) out
   unfolding writingInto
-  write-full out z l =
+  write-full out k z l h =
       let q = judged-right width height image (judged-is width height image) (sym e ∙ z) in
       let t = lt-leb (length (writing (bitmap width height image))) (length out) (omega arith) in
       record { answer = rw (q, t) refl; numbers = rw (q, t) refl; lent = rw (q, t) refl }

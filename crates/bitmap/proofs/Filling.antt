@@ -46,36 +46,36 @@ copy-end {src} {dst₀} {dst} {i} t h =
 
 pub ruleset copying = (copy-begin, copy-turn, copy-room, copy-end)
 
--- ---- the header, and the image behind it
+-- ---- four octets of header, and the image behind them
+
+-- a buffer with a header in front
+abbrev headed : ℕ → ℕ → ℕ → ℕ → List ℕ → List ℕ
+headed i w h d out = set (set (set (set out 0 i) 1 w) 2 h) 3 d
 
 -- the room behind a header
-pub room : (w h : ℕ) (image out : List ℕ) → length image + 4 ≤ length out
-    → length image ≤ length (take (length (set (set (set (set out 0 0) 1 w) 2 h) 3 1) - 4) (drop 4 (set (set (set (set out 0 0) 1 w) 2 h) 3 1)))
-room w h image out l = simp (length-take, length-drop, length-set) (omega arith)
+pub room : (i w h d : ℕ) (image out : List ℕ) → length image + 4 ≤ length out
+    → length image ≤ length (take (length (headed i w h d out) - 4) (drop 4 (headed i w h d out)))
+room i w h d image out l = simp (length-take, length-drop, length-set) (omega arith)
 
 -- what `fill` leaves in the buffer
-pub filled : (w h : ℕ) (image out : List ℕ) {x : List ℕ} → length image + 4 ≤ length out
-    → x ≡ image ++ drop (length image) (take (length (set (set (set (set out 0 0) 1 w) 2 h) 3 1) - 4) (drop 4 (set (set (set (set out 0 0) 1 w) 2 h) 3 1)))
-    → take 4 (set (set (set (set out 0 0) 1 w) 2 h) 3 1)
-    ++ (x ++ drop (length (set (set (set (set out 0 0) 1 w) 2 h) 3 1) - 4) (drop 4 (set (set (set (set out 0 0) 1 w) 2 h) 3 1)))
-    ≡ 0 ∷ w ∷ h ∷ 1 ∷ image ++ drop (length image + 4) out
-filled w h image [] l e = let z : ⊥ = omega arith in absurd z
-filled w h image (a ∷ []) l e = let z : ⊥ = omega arith in absurd z
-filled w h image (a ∷ b ∷ []) l e = let z : ⊥ = omega arith in absurd z
-filled w h image (a ∷ b ∷ c ∷ []) l e = let z : ⊥ = omega arith in absurd z
-filled w h image (a ∷ b ∷ c ∷ d ∷ out) {x} l e =
-    let n : length (0 ∷ w ∷ h ∷ 1 ∷ out) - 4 ≡ length out = omega arith in
+pub filled : (i w h d : ℕ) (image out : List ℕ) {x : List ℕ} → length image + 4 ≤ length out
+    → x ≡ image ++ drop (length image) (take (length (headed i w h d out) - 4) (drop 4 (headed i w h d out)))
+    → take 4 (headed i w h d out) ++ (x ++ drop (length (headed i w h d out) - 4) (drop 4 (headed i w h d out)))
+      ≡ i ∷ w ∷ h ∷ d ∷ image ++ drop (length image + 4) out
+filled i w h d image [] l e = let z : ⊥ = omega arith in absurd z
+filled i w h d image (a ∷ []) l e = let z : ⊥ = omega arith in absurd z
+filled i w h d image (a ∷ b ∷ []) l e = let z : ⊥ = omega arith in absurd z
+filled i w h d image (a ∷ b ∷ c ∷ []) l e = let z : ⊥ = omega arith in absurd z
+filled i w h d image (a ∷ b ∷ c ∷ f ∷ out) {x} l e =
+    let n : length (i ∷ w ∷ h ∷ d ∷ out) - 4 ≡ length out = omega arith in
     let k : length image + 4 ≡ 4 + length image = omega arith in
     let t : x ≡ image ++ drop (length image) out = e ∙ (rw (n, take-length out) refl) in
-    rw (n, drop-length out, append-nil x, t, k, ← drop-drop (length image) 4 (a ∷ b ∷ c ∷ d ∷ out)) refl
+    rw (n, drop-length out, append-nil x, t, k, ← drop-drop (length image) 4 (a ∷ b ∷ c ∷ f ∷ out)) refl
 
--- ends of a need: `filled` and its length
-pub filled-long : (w h : ℕ) (image out : List ℕ) {x : List ℕ} → length image + 4 ≤ length out
-    → x ≡ image ++ drop (length image) (take (length (set (set (set (set out 0 0) 1 w) 2 h) 3 1) - 4) (drop 4 (set (set (set (set out 0 0) 1 w) 2 h) 3 1)))
-    → length
-    (take 4 (set (set (set (set out 0 0) 1 w) 2 h) 3 1)
-    ++ (x ++ drop (length (set (set (set (set out 0 0) 1 w) 2 h) 3 1) - 4) (drop 4 (set (set (set (set out 0 0) 1 w) 2 h) 3 1))))
-    ≡ length out
-filled-long w h image out l e = ap length (filled w h image out l e) ∙ simp (length-append, length-drop) (omega arith)
+-- the buffer keeps its length
+pub filled-long : (i w h d : ℕ) (image out : List ℕ) {x : List ℕ} → length image + 4 ≤ length out
+    → x ≡ image ++ drop (length image) (take (length (headed i w h d out) - 4) (drop 4 (headed i w h d out)))
+    → length (take 4 (headed i w h d out) ++ (x ++ drop (length (headed i w h d out) - 4) (drop 4 (headed i w h d out)))) ≡ length out
+filled-long i w h d image out l e = ap length (filled i w h d image out l e) ∙ simp (length-append, length-drop) (omega arith)
 
 pub ruleset filling = (room, filled, filled-long)

@@ -8,6 +8,8 @@ use native.Mathlib.Nat.{le-of-eq}
 use lib.ListN.{length, getD, take, drop, length-drop}
 use lib.Seq.{take-all}
 use lib.Dec.{leb, ltb, eqb}
+use mir.Val.{Fits}
+use mir.Syntax.{w8, w32}
 use borrow.Author.Tests.{lt-ltb, le-ltb, eq-eqb, ne-eqb, not-true, not-false}
 use Rattle.bitmap.specs.Image.{Sizes, sizesTaken, imageOctets}
 use Rattle.bitmap.specs.Bitmap.{judged, reading, refusalOf}
@@ -38,6 +40,10 @@ taken-height width height {t} e f = taken-sizes width height (sym e ∙ not-fals
 pub ruleset faults = (fault-sizes, fault-octets, fault-none, taken-width, taken-height)
 
 -- ---- the exits of `judge`
+
+-- an octet as a wider number
+pub octet-fits : {x : ℕ} → Fits w8 x → Fits w32 x
+octet-fits h = omega arith
 
 pub judge-short : (m : List ℕ) → length m < 4 → 2 ≡ refusalOf (reading m)
 unfolding reading

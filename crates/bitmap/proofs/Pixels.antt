@@ -36,7 +36,7 @@ pixel-digit k image y j i h =
     let a : 8 * k / 8 ≡ k = omega arith in
     let b : (8 * j + i) / 8 ≡ j = omega arith in
     let c : 7 - (8 * j + i) % 8 ≡ 8 - suc i = omega arith in
-    rw (a, b, c) refl
+    ap₂ (λ (n e : ℕ). getD image n 0 / 2 ^ e % 2) (ap₂ (λ (w x : ℕ). w * y + x) a b) c
 
 -- the black pixels of a row are the ones of its octets
 row : (k : ℕ) (image : List ℕ) (y : ℕ) → Octets image → sum (8 * k) (λ x. pixel (8 * k) image x y) ≡ sum k (λ j. ones (getD image (k * y + j) 0))

@@ -2,8 +2,7 @@
 use borrow.Author.Needs.{needs}
 use Rattle.bitmap.proofs.judge.Statement.{statement}
 use Rattle.bitmap.proofs.judge.Tie as tie
-use native.Mathlib.Omega.{arith}
-use Rattle.bitmap.proofs.Judging.{judges}
+use Rattle.bitmap.proofs.Judging.{octet-fits, judges}
 
 returns : tie.Need-returns
 returns c = search (judges, needs)
@@ -24,13 +23,13 @@ shared-slice-read-fault : tie.Need-shared-slice-read-fault
 shared-slice-read-fault c = search needs
 
 cast-fault : tie.Need-cast-fault
-cast-fault c = omega (arith, c .shared-slice-known4 .given 1)
+cast-fault c = search (octet-fits, c .shared-slice-known4 .given)
 
 shared-slice-read-fault-2 : tie.Need-shared-slice-read-fault-2
 shared-slice-read-fault-2 c = search needs
 
 cast-fault-2 : tie.Need-cast-fault-2
-cast-fault-2 c = omega (arith, c .shared-slice-known5 .given 2)
+cast-fault-2 c = search (octet-fits, c .shared-slice-known5 .given)
 
 sub-fault : tie.Need-sub-fault
 sub-fault c = search needs

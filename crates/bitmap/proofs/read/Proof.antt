@@ -2,7 +2,6 @@
 use borrow.Author.Needs.{needs}
 use Rattle.bitmap.proofs.read.Statement.{statement}
 use Rattle.bitmap.proofs.read.Tie as tie
-use native.Mathlib.Omega.{arith}
 use Rattle.bitmap.proofs.Exits.{reads}
 
 judge-requires : tie.Need-judge-requires
@@ -15,13 +14,13 @@ shared-slice-read-t6 : tie.Need-shared-slice-read-t6
 shared-slice-read-t6 c = search (reads, needs)
 
 cast-t7 : tie.Need-cast-t7
-cast-t7 c = omega (arith, c .shared-slice-known2 .given 1)
+cast-t7 c = search (reads, c .shared-slice-known2 .given)
 
 shared-slice-read-t9 : tie.Need-shared-slice-read-t9
 shared-slice-read-t9 c = search (reads, needs)
 
 cast-t10 : tie.Need-cast-t10
-cast-t10 c = omega (arith, c .shared-slice-known3 .given 2)
+cast-t10 c = search (reads, c .shared-slice-known3 .given)
 
 sub-count : tie.Need-sub-count
 sub-count c = search (reads, needs)
