@@ -1,12 +1,12 @@
 -- What the calls do, from their promises alone.
-use Prim.Native.Nat.{ℕ, _+_, _≤_, _<_}
+use Prim.Native.Nat.{ℕ, _+_, _≤_}
 use native.Mathlib.Omega.{arith}
-use mathlib.Core.Path.{_≡_, refl, sym, ap, ap₂, subst, _∙_}
+use mathlib.Core.Path.{_≡_, refl, sym, ap, ap₂, _∙_}
 use mathlib.Core.Logic.{_↔_}
-use mathlib.Core.List.{List, [], _∷_, _++_}
+use mathlib.Core.List.{List, [], _++_}
 use lib.ListN.{length, take, drop}
 use lib.Seq.{take-append-seam, take-length}
-use denote.Ref.{RefT, ptr, now}
+use denote.Ref.{RefT, now}
 use Rattle.bits.specs.declared.BitPlace.{BitPlace}
 use Rattle.bits.specs.declared.OctetCount.{OctetCount}
 use Rattle.bits.specs.Outcome.{Outcome, accepted, refused}
@@ -14,11 +14,11 @@ use Rattle.bits.specs.Bits.{Octets}
 use Rattle.bitmap.specs.declared.Reading.{Reading}
 use Rattle.bitmap.specs.declared.Reading.the-variants.{Read, Refused}
 use Rattle.bitmap.specs.declared.Writing.{Writing}
-use Rattle.bitmap.specs.declared.Writing.the-variants.{Wrote, Refused as Unwritten}
+use Rattle.bitmap.specs.declared.Writing.the-variants.{Wrote}
 use Rattle.bitmap.specs.Image.{Sizes, imageOctets, blackPixels}
-use Rattle.bitmap.specs.Bitmap.{Bitmap, WellFormed, writing, reading, writingInto}
+use Rattle.bitmap.specs.Bitmap.{Bitmap, WellFormed, writing, reading}
 use Rattle.bitmap.specs.Promises.{readAnswer, numbersOfReading, ReadPromise, imageOf, imageStart, ImagePromise, writeAnswer, lentAfter, WritePromise}
-use Rattle.bitmap.proofs.Rules.{bitmap, ReadingCase, WritingCase, reading-is, writing-is, read-written, read-spelt, read-right, write-read, read-well-formed}
+use Rattle.bitmap.proofs.Rules.{bitmap, WritingCase, writing-is, read-written, read-spelt, read-right, write-read, read-well-formed}
 
 -- ---- `read`
 

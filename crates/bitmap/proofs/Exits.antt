@@ -1,29 +1,25 @@
 -- What the public calls return keeps their promises.
-use Prim.Native.Nat.{ℕ, _+_, _-_, _*_, _/_, _≤_, _<_}
+use Prim.Native.Nat.{ℕ, _+_, _-_, _≤_, _<_}
 use native.Mathlib.Omega.{arith}
-use native.Mathlib.Nat.{add-comm, le-of-eq}
-use mathlib.Core.Path.{_≡_, refl, sym, ap, subst, _∙_}
-use mathlib.Core.List.{List, [], _∷_, _++_}
+use native.Mathlib.Nat.{add-comm}
+use mathlib.Core.Path.{_≡_, refl, sym, ap, _∙_}
+use mathlib.Core.List.{List, _++_}
 use lib.ListN.{length, getD, take, drop, length-take, length-drop}
-use lib.Seq.{take-all}
 use borrow.Author.Tests.{lt-leb, le-leb}
 use denote.Ref.{RefT, ptr, now}
 use mir.Val.{Fits}
 use mir.Syntax.{w8}
 use Rattle.bits.specs.Outcome.{Outcome, accepted, refused}
-use Rattle.bits.specs.Bits.{Octets}
 use Rattle.bits.proofs.Octets.{octets-of, octets-drop}
-use Rattle.bitmap.specs.declared.Reading.{Reading}
 use Rattle.bitmap.specs.declared.Reading.the-variants.{Read, Refused}
-use Rattle.bitmap.specs.declared.Writing.{Writing}
 use Rattle.bitmap.specs.declared.Writing.the-variants.{Wrote, Refused as Unwritten}
 use Rattle.bitmap.specs.Image.{Sizes, imageOctets, blackPixels, onesOf}
 use Rattle.bitmap.specs.Bitmap.{Bitmap, writing, judged, reading, writingInto, refusalOf}
-use Rattle.bitmap.specs.Promises.{readAnswer, readNumbers, numbersOfReading, ReadPromise, imageOf, imageStart, ImagePromise, writeAnswer, writeNumbers, numbersOfWriting, lentAfter, WritePromise}
+use Rattle.bitmap.specs.Promises.{ReadPromise, ImagePromise, WritePromise}
 use Rattle.bitmap.proofs.Sizing.{octets-most}
 use Rattle.bitmap.proofs.Pixels.{black-are-ones}
 use Rattle.bitmap.proofs.Judging.{octet-fits, rest}
-use Rattle.bitmap.proofs.Rules.{bitmap, Header, JudgedCase, ReadingCase, WritingCase, judged-is, reading-is, writing-is}
+use Rattle.bitmap.proofs.Rules.{bitmap, Header, JudgedCase, ReadingCase, judged-is, reading-is}
 
 -- ---- what a number of refusal says
 

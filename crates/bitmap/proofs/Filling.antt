@@ -3,7 +3,7 @@ use Prim.Native.Nat.{ℕ, suc, _+_, _-_, _≤_, _<_}
 use native.Mathlib.Omega.{arith}
 use native.Mathlib.Nat.{le-of-lt}
 use native.Mathlib.Numerals.{add-one}
-use mathlib.Core.Path.{_≡_, refl, sym, ap, _∙_}
+use mathlib.Core.Path.{_≡_, refl, ap, _∙_}
 use mathlib.Core.List.{List, [], _∷_, _++_, append-nil}
 use lib.ListN.{length, getD, take, drop, set, length-set, length-take, length-drop, length-append}
 use lib.Seq.{drop-cons, take-suc, set-at, append-snoc, length-take-le, take-length, drop-length, drop-drop}
@@ -61,7 +61,7 @@ room i w h d image out l = simp (length-take, length-drop, length-set) (omega ar
 pub filled : (i w h d : ℕ) (image out : List ℕ) {x : List ℕ} → length image + 4 ≤ length out
     → x ≡ image ++ drop (length image) (take (length (headed i w h d out) - 4) (drop 4 (headed i w h d out)))
     → take 4 (headed i w h d out) ++ (x ++ drop (length (headed i w h d out) - 4) (drop 4 (headed i w h d out)))
-      ≡ i ∷ w ∷ h ∷ d ∷ image ++ drop (length image + 4) out
+    ≡ i ∷ w ∷ h ∷ d ∷ image ++ drop (length image + 4) out
 filled i w h d image [] l e = let z : ⊥ = omega arith in absurd z
 filled i w h d image (a ∷ []) l e = let z : ⊥ = omega arith in absurd z
 filled i w h d image (a ∷ b ∷ []) l e = let z : ⊥ = omega arith in absurd z

@@ -1,17 +1,16 @@
 -- What the judges of an image and of a message find.
-use Prim.Native.Nat.{ℕ, _+_, _-_, _*_, _/_, _%_, _≤_, _<_}
+use Prim.Native.Nat.{ℕ, _-_, _≤_, _<_}
 use native.Mathlib.Omega.{arith}
-use mathlib.Core.Path.{_≡_, refl, sym, ap, _∙_}
-use mathlib.Core.Bool.{Bool, true, false, not, _&&_}
+use mathlib.Core.Path.{_≡_, refl, sym, _∙_}
+use mathlib.Core.Bool.{Bool, true, false, not}
 use mathlib.Core.List.{List}
 use native.Mathlib.Nat.{le-of-eq}
 use lib.ListN.{length, getD, take, drop, length-drop}
 use lib.Seq.{take-all}
-use lib.Dec.{leb, ltb, eqb}
 use mir.Val.{Fits}
 use mir.Syntax.{w8, w32}
 use borrow.Author.Tests.{lt-ltb, le-ltb, eq-eqb, ne-eqb, not-true, not-false}
-use Rattle.bitmap.specs.Image.{Sizes, sizesTaken, imageOctets}
+use Rattle.bitmap.specs.Image.{sizesTaken, imageOctets}
 use Rattle.bitmap.specs.Bitmap.{judged, reading, refusalOf}
 use Rattle.bitmap.proofs.Sizing.{taken-sizes}
 

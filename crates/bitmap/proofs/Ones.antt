@@ -1,13 +1,13 @@
 -- The ones of octets.
-use Prim.Native.Nat.{ℕ, zero, suc, _+_, _-_, _*_, _/_, _%_, _^_, _≤_, _<_}
+use Prim.Native.Nat.{ℕ, zero, suc, _+_, _*_, _≤_, _<_}
 use native.Mathlib.Omega.{arith}
 use native.Mathlib.Nat.{add-assoc, add-suc, add-zero}
 use native.Mathlib.Numerals.{add-one}
-use mathlib.Core.Path.{_≡_, refl, sym, ap, ap₂, _∙_}
+use mathlib.Core.Path.{_≡_, refl, sym, ap, _∙_}
 use mathlib.Core.List.{List, [], _∷_, _++_}
 use lib.ListN.{length, getD, take, drop}
 use lib.Seq.{take-add, drop-cons}
-use lib.Count.{ones, ones-step, ones-cat, ones-le}
+use lib.Count.{ones, ones-cat, ones-le}
 use Rattle.bits.specs.Bits.{Octets}
 use Rattle.bitmap.specs.Image.{onesOf}
 

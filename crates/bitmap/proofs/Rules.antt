@@ -1,19 +1,19 @@
 -- The rules of bitmaps by plain conditions: when each outcome is met, and that reading and writing undo each other.
-use Prim.Native.Nat.{ℕ, zero, suc, _+_, _-_, _%_, _≤_, _<_}
+use Prim.Native.Nat.{ℕ, _+_, _≤_, _<_}
 use native.Mathlib.Omega.{arith}
 use mathlib.Core.Path.{_≡_, refl, sym, ap, ap₂, subst, _∙_}
 use mathlib.Core.Logic.{_↔_}
 use mathlib.Core.Bool.{Bool, true, false, _&&_}
-use mathlib.Core.List.{List, [], _∷_, _++_}
+use mathlib.Core.List.{List, [], _∷_}
 use lib.ListN.{length, getD, drop}
 use lib.Dec.{ltb, leb, eqb}
-use borrow.Author.Tests.{ltb-true, ltb-false, leb-true, leb-false, eqb-true, eqb-false, eq-eqb, le-leb}
+use borrow.Author.Tests.{ltb-true, ltb-false, leb-true, leb-false, eqb-true, eqb-false, eq-eqb}
 use Rattle.bits.specs.Choice.{pick}
 use Rattle.bits.specs.Outcome.{Outcome, accepted, refused}
 use Rattle.bits.specs.Bits.{Octets}
 use Rattle.bits.proofs.Octets.{octets-drop}
 use Rattle.bitmap.specs.Image.{Sizes, sizesTaken, imageOctets}
-use Rattle.bitmap.specs.Bitmap.{Bitmap, WellFormed, writing, judged, reading, intoRoom, writingInto, refusalOf}
+use Rattle.bitmap.specs.Bitmap.{Bitmap, WellFormed, writing, judged, reading, intoRoom, writingInto}
 use Rattle.bitmap.proofs.Sizing.{both, taken-sizes, sizes-taken}
 
 -- ---- when each outcome is met

@@ -1,12 +1,12 @@
 -- The sizes that are taken: the test and the plain conditions.
-use Prim.Native.Nat.{ℕ, _+_, _*_, _/_, _%_, _≤_, _<_}
+use Prim.Native.Nat.{ℕ, _*_, _/_, _%_, _≤_}
 use native.Mathlib.Omega.{arith}
 use native.Mathlib.Nat.{mul-le-mul-left, mul-le-mul-right, le-trans}
-use mathlib.Core.Path.{_≡_, refl, sym, ap, _∙_}
+use mathlib.Core.Path.{_≡_, refl}
 use mathlib.Core.Bool.{Bool, true, false, _&&_}
 use lib.Dec.{leb, eqb}
 use borrow.Author.Tests.{leb-true, eqb-true, le-leb, eq-eqb}
-use Rattle.bitmap.specs.Image.{Sizes, sizesTaken, imageOctets}
+use Rattle.bitmap.specs.Image.{Sizes, sizesTaken}
 
 -- both sides of a test of two
 pub both : (a b : Bool) → (a && b) ≡ true → (a ≡ true) × (b ≡ true)

@@ -1,7 +1,7 @@
 -- What each public call promises: every number returned and every cell lent, on acceptance and on refusal.
 use Prim.Native.Nat.{ℕ, _+_}
 use mathlib.Core.Path.{_≡_}
-use mathlib.Core.List.{List, [], _++_}
+use mathlib.Core.List.{List, _++_}
 use lib.ListN.{length, take, drop}
 use denote.Ref.{RefT, ptr, now}
 use Rattle.bits.specs.Outcome.{Outcome, accepted, refused}
