@@ -1,4 +1,5 @@
 pub mod Image
 pub mod Bitmap
+pub mod Copy
 pub mod Promises
 pub mod Samples
