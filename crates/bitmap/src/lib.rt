@@ -5,7 +5,6 @@ ghost use lib.ListN.{length, take, drop};
 ghost use lib.Count.{ones};
 ghost use Rattle.bitmap.specs.Image.{sizesTaken, imageOctets, onesOf};
 ghost use Rattle.bitmap.specs.Bitmap.{writing, judged, reading, refusalOf};
-ghost use Rattle.bitmap.specs.Copy.{Copied};
 ghost use Rattle.bitmap.specs.Promises.{ReadPromise, ImagePromise, WritePromise};
 use bits::BitPlace;
 use bits::OctetCount;
@@ -176,92 +175,6 @@ pub fn image(msg: &[u8]) -> &[u8]
     &msg[0..0]
 }
 
-// ---- Octets that are copied to the front of a buffer.
-//
-// Two slices might overlap for all that the compiler knows, so that it makes no block copy of a plain
-// loop. It does where a local row stands between the two.
-
-// Copies octets one by one.
-fn copy(src: &[u8], dst: &mut [u8])
-    requires { ⌜ length (now src) ≤ length (now dst) ⌝ }
-    ensures { λ _. ⌜ now (dst .exit) ≡ now (src .entry) ++ drop (length (now (src .entry))) (now (dst .entry)) ⌝ }
-{
-    let mut i = 0;
-    while i < src.len() {
-        dst[i] = src[i];
-        i += 1;
-    }
-}
-
-// Copies octets by way of a row that is as long.
-fn copy_by(src: &[u8], row: &mut [u8], dst: &mut [u8])
-    requires { ⌜ (length (now src) ≡ length (now row)) × (length (now src) ≤ length (now dst)) ⌝ }
-    ensures { λ _. ⌜ now (dst .exit) ≡ now (src .entry) ++ drop (length (now (src .entry))) (now (dst .entry)) ⌝ }
-{
-    copy(src, row);
-    copy(row, dst);
-}
-
-// Copies the block of octets at a place to the same place.
-fn copy_block(src: &[u8], dst: &mut [u8], at: usize)
-    requires { ⌜ (at + 2048 ≤ length (now src)) × (length (now src) ≤ length (now dst)) ⌝ }
-    ensures { λ _. ⌜ Copied (now (src .entry)) (now (dst .entry)) (now (dst .exit)) at (at + 2048) ⌝ }
-{
-    let mut row = [0u8; 2048];
-    let end = at + 2048;
-    copy_by(&src[at..end], &mut row, &mut dst[at..]);
-}
-
-// Copies the row of octets at a place to the same place.
-fn copy_row(src: &[u8], dst: &mut [u8], at: usize)
-    requires { ⌜ (at + 64 ≤ length (now src)) × (length (now src) ≤ length (now dst)) ⌝ }
-    ensures { λ _. ⌜ Copied (now (src .entry)) (now (dst .entry)) (now (dst .exit)) at (at + 64) ⌝ }
-{
-    let mut row = [0u8; 64];
-    let end = at + 64;
-    copy_by(&src[at..end], &mut row, &mut dst[at..]);
-}
-
-// Copies as many whole blocks as there are, and answers their octets.
-fn copy_blocks(src: &[u8], dst: &mut [u8]) -> usize
-    requires { ⌜ length (now src) ≤ length (now dst) ⌝ }
-    ensures { λ r. ⌜ Copied (now (src .entry)) (now (dst .entry)) (now (dst .exit)) 0 r ⌝ }
-{
-    let mut i = 0;
-    while 2048 <= src.len() - i {
-        copy_block(src, dst, i);
-        i += 2048;
-    }
-    i
-}
-
-// Goes on by rows, and answers the octets that are then copied: all but fewer than 64.
-fn copy_rows(src: &[u8], dst: &mut [u8], from: usize) -> usize
-    requires { ⌜ (from ≤ length (now src)) × (length (now src) ≤ length (now dst)) ⌝ }
-    ensures { λ r. ⌜ Copied (now (src .entry)) (now (dst .entry)) (now (dst .exit)) from r × (length (now (src .entry)) < r + 64) ⌝ }
-{
-    let mut i = from;
-    while 64 <= src.len() - i {
-        copy_row(src, dst, i);
-        i += 64;
-    }
-    i
-}
-
-// Copies octets: blocks, then rows, and a last row that reaches back over the one before it.
-fn copy_all(src: &[u8], dst: &mut [u8])
-    requires { ⌜ length (now src) ≤ length (now dst) ⌝ }
-    ensures { λ _. ⌜ now (dst .exit) ≡ now (src .entry) ++ drop (length (now (src .entry))) (now (dst .entry)) ⌝ }
-{
-    if src.len() < 64 {
-        copy(src, dst);
-        return;
-    }
-    let i = copy_blocks(src, dst);
-    copy_rows(src, dst, i);
-    copy_row(src, dst, src.len() - 64);
-}
-
 // Writes the header and the image to the front of a buffer.
 fn fill(width: u8, height: u8, image: &[u8], out: &mut [u8])
     requires { ⌜ length (now image) + 4 ≤ length (now out) ⌝ }
@@ -271,7 +184,7 @@ fn fill(width: u8, height: u8, image: &[u8], out: &mut [u8])
     out[1] = width;
     out[2] = height;
     out[3] = 1;
-    copy_all(image, &mut out[4..]);
+    copying::copy(image, &mut out[4..]);
 }
 
 // Writes a bitmap of these sizes and this image to the front of a buffer.

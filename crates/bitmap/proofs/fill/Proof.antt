@@ -18,17 +18,17 @@ slice-write-out-3 c = simp length-set (omega arith)
 slice-write-out-4 : tie.Need-slice-write-out-4
 slice-write-out-4 c = simp length-set (omega arith)
 
-sub-copy-all : tie.Need-sub-copy-all
-sub-copy-all c = simp length-set (omega arith)
+sub-copy : tie.Need-sub-copy
+sub-copy c = simp length-set (omega arith)
 
-part-copy-all-start : tie.Need-part-copy-all-start
-part-copy-all-start c = simp length-set (omega arith)
+part-copy-start : tie.Need-part-copy-start
+part-copy-start c = simp length-set (omega arith)
 
-part-copy-all-end : tie.Need-part-copy-all-end
-part-copy-all-end c = search needs
+part-copy-end : tie.Need-part-copy-end
+part-copy-end c = search needs
 
-copy-all-requires : tie.Need-copy-all-requires
-copy-all-requires c κs = search (filling, needs)
+copy-requires : tie.Need-copy-requires
+copy-requires c κs = search (filling, needs)
 
 same-length : tie.Need-same-length
 same-length c = search (filling, needs)
@@ -44,9 +44,9 @@ fill-spec =
     slice-write-out-2
     slice-write-out-3
     slice-write-out-4
-    sub-copy-all
-    part-copy-all-start
-    part-copy-all-end
-    copy-all-requires
+    sub-copy
+    part-copy-start
+    part-copy-end
+    copy-requires
     same-length
     returns)

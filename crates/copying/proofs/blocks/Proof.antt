@@ -1,16 +1,16 @@
--- `bitmap::copy_rows` meets its contract. Each turn copies a row more; the octets left fall.
-use Rattle.bitmap.proofs.copy_rows.Statement.{statement}
-use Rattle.bitmap.proofs.copy_rows.Tie as tie
+-- `copying::blocks` meets its contract. Each turn copies a block more; the octets left fall.
+use Rattle.copying.proofs.blocks.Statement.{statement}
+use Rattle.copying.proofs.blocks.Tie as tie
 use borrow.Author.Needs.{needs}
 use Prim.Native.Nat.{_-_}
 use lib.ListN.{length}
-use Rattle.bitmap.proofs.Filling.{Going, going}
+use Rattle.copying.proofs.Copies.{Going, going}
 
 abbrev Inv-loop : tie.InvT-loop
-Inv-loop src dst₀ from i₀ dst i = Going src dst₀ dst i₀ i
+Inv-loop src dst₀ i₀ dst i = Going src dst₀ dst 0 i
 
 abbrev μ-loop : tie.MeasureT-loop
-μ-loop src dst₀ from i₀ dst i = length src - i
+μ-loop src dst₀ i₀ dst i = length src - i
 
 loop-holds : tie.Need-loop-holds Inv-loop μ-loop
 loop-holds c = search (going, needs)
@@ -18,8 +18,8 @@ loop-holds c = search (going, needs)
 sub-loop : tie.Need-sub-loop Inv-loop μ-loop
 sub-loop c = search (going, needs)
 
-copy-row-requires : tie.Need-copy-row-requires Inv-loop μ-loop
-copy-row-requires c κs = search (going, needs)
+block-requires : tie.Need-block-requires Inv-loop μ-loop
+block-requires c κs = search (going, needs)
 
 add-i : tie.Need-add-i Inv-loop μ-loop
 add-i c = search (going, needs)
@@ -36,15 +36,15 @@ same-length c = search (going, needs)
 returns : tie.Need-returns Inv-loop μ-loop
 returns c = search (going, needs)
 
-pub copy-rows-spec : {M : Type 1} → statement M
-copy-rows-spec =
+pub blocks-spec : {M : Type 1} → statement M
+blocks-spec =
     tie.close
     (tie.spec
     Inv-loop
     μ-loop
     loop-holds
     sub-loop
-    copy-row-requires
+    block-requires
     add-i
     loop-less
     loop-again

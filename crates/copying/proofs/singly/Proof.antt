@@ -1,10 +1,10 @@
--- `bitmap::copy` meets its contract. Each turn copies one octet more; the octets left fall.
-use Rattle.bitmap.proofs.copy.Statement.{statement}
-use Rattle.bitmap.proofs.copy.Tie as tie
+-- `copying::singly` meets its contract. Each turn copies one octet more; the octets left fall.
+use Rattle.copying.proofs.singly.Statement.{statement}
+use Rattle.copying.proofs.singly.Tie as tie
 use borrow.Author.Needs.{needs}
 use Prim.Native.Nat.{_-_}
 use lib.ListN.{length}
-use Rattle.bitmap.proofs.Filling.{Copying, copying}
+use Rattle.copying.proofs.Copies.{Copying, copying}
 
 abbrev Inv-loop : tie.InvT-loop
 Inv-loop src dst₀ i₀ dst i = Copying src dst₀ dst i
@@ -36,8 +36,8 @@ same-length c = search (copying, needs)
 returns : tie.Need-returns Inv-loop μ-loop
 returns c = search (copying, needs)
 
-pub copy-spec : {M : Type 1} → statement M
-copy-spec =
+pub singly-spec : {M : Type 1} → statement M
+singly-spec =
     tie.close
     (tie.spec
     Inv-loop
