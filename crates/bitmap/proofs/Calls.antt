@@ -14,10 +14,10 @@ use Rattle.bits.specs.Bits.{Octets}
 use Rattle.bitmap.specs.declared.Reading.{Reading}
 use Rattle.bitmap.specs.declared.Reading.the-variants.{Read, Refused}
 use Rattle.bitmap.specs.declared.Writing.{Writing}
-use Rattle.bitmap.specs.declared.Writing.the-variants.{Wrote}
+use Rattle.bitmap.specs.declared.Writing.the-variants.{Wrote, Refused as Unwritten}
 use Rattle.bitmap.specs.Image.{Sizes, imageOctets, blackPixels}
-use Rattle.bitmap.specs.Bitmap.{Bitmap, WellFormed, writing, reading}
-use Rattle.bitmap.specs.Promises.{readAnswer, numbersOfReading, ReadPromise, imageOf, imageStart, ImagePromise, writeAnswer, lentAfter, WritePromise}
+use Rattle.bitmap.specs.Bitmap.{Bitmap, WellFormed, writing, reading, writingInto}
+use Rattle.bitmap.specs.Promises.{readAnswer, numbersOfReading, ReadPromise, imageOf, imageStart, ImagePromise, writeAnswer, numbersOfWriting, lentAfter, WritePromise}
 use Rattle.bitmap.proofs.Rules.{bitmap, WritingCase, writing-is, read-written, read-spelt, read-right, write-read, read-well-formed}
 
 -- ---- `read`
@@ -139,6 +139,24 @@ pub write-leaves : (width height : ℕ) (image out : List ℕ) (n : OctetCount) 
 write-leaves width height image out n after p =
     let k = kept width height image out n after (writing-is (length out) width height image) (p .answer) (p .lent) in
     (k .octets, k .lent)
+
+same-fault : (n : ℕ) (p : BitPlace) (o : Outcome (List ℕ)) → Unwritten n p ≡ writeAnswer o → o ≡ refused n (p .0)
+same-fault n p (accepted w) e = let z : _≡_ {A = ℕ} 0 1 = cc in let n : ⊥ = omega arith in absurd n
+same-fault n p (refused k q) e =
+    ap₂ (λ (a b : ℕ). refused a b) (sym (ap (λ (r : Writing). numbersOfWriting r .refusal) e)) (sym (ap (λ (r : Writing). numbersOfWriting r .place) e))
+
+-- `write` refuses with the number and the place that the rules give
+pub write-refuses : (width height : ℕ) (image out : List ℕ) (r : Writing) (after : List ℕ) → WritePromise width height image out r after → (n : ℕ) (p : BitPlace)
+    → (r ≡ Unwritten n p) ↔ (writingInto (length out) width height image ≡ refused n (p .0))
+write-refuses width height image out r after h n p = (
+  λ e. same-fault n p (writingInto (length out) width height image) (sym e ∙ h .answer),
+  λ e. h .answer ∙ ap writeAnswer e,
+)
+
+-- what `write` refuses leaves the buffer as it was
+pub write-keeps : (width height : ℕ) (image out : List ℕ) (n : ℕ) (p : BitPlace) (after : List ℕ) → WritePromise width height image out (Unwritten n p) after → after ≡ out
+write-keeps width height image out n p after h =
+    h .lent ∙ ap (λ (o : Outcome (List ℕ)). lentAfter o out) (same-fault n p (writingInto (length out) width height image) (h .answer))
 
 -- ---- both ways round
 

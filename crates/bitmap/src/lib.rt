@@ -79,7 +79,7 @@ fn count_octet(x: u8) -> u32
     u8::count_ones(x)
 }
 
-// The ones of the eight octets at `i`, as one number. In this order it is one load.
+// The ones of the eight octets at `i`, counted as one number. With the first octet lowest it is one load.
 fn count_eight(s: &[u8], i: usize) -> u32
     requires { ⌜ i + 8 ≤ length (now s) ⌝ }
     ensures { λ r. ⌜ (r ≡ onesOf (take 8 (drop i (now (s .entry))))) × (r ≤ 64) ⌝ }
@@ -96,7 +96,7 @@ fn count_eight(s: &[u8], i: usize) -> u32
     )
 }
 
-// The ones of all octets but the last few that make no eight.
+// The ones of all octets but the last few that make no eight, eight octets a turn.
 fn count_eights(s: &[u8]) -> u32
     requires { ⌜ length (now s) ≤ 65536 ⌝ }
     ensures { λ r. ⌜ (r ≡ onesOf (take (length (now (s .entry)) - length (now (s .entry)) % 8) (now (s .entry)))) × (r ≤ 524288) ⌝ }
@@ -110,7 +110,7 @@ fn count_eights(s: &[u8]) -> u32
     n
 }
 
-// The ones of the octets from `i` on.
+// The ones of the octets from a place on, one octet a turn.
 fn count_from(s: &[u8], from: usize) -> u32
     requires { ⌜ (from ≤ length (now s)) × (length (now s) ≤ 65536) ⌝ }
     ensures { λ r. ⌜ (r ≡ onesOf (drop from (now (s .entry)))) × (r ≤ 524288) ⌝ }
