@@ -1,8 +1,8 @@
 -- The promises of `list` and `rows` decide every number, cell and row, and the two forms agree.
 use Prim.Native.Nat.{ℕ, zero, suc, _+_, _*_, _≤_, _<_}
 use native.Mathlib.Omega.{arith}
-use mathlib.Core.Path.{_≡_, refl, sym, ap, ap₂, subst, _∙_}
-use mathlib.Core.Bool.{Bool, true, false, _&&_}
+use mathlib.Core.Path.{_≡_, refl, sym, ap, _∙_}
+use mathlib.Core.Bool.{Bool, true, false}
 use mathlib.Core.List.{List, [], _∷_, _++_}
 use lib.ListN.{length, getD, drop, length-append, length-drop, List·getD-append}
 use lib.Dec.{leb}
@@ -14,12 +14,12 @@ use Rattle.tone.specs.Tone.{Tone}
 use Rattle.tone.specs.Reading.{readTone}
 use Rattle.playing.specs.declared.Entry.{Entry}
 use Rattle.playing.specs.declared.Listed.{Listed}
-use Rattle.playing.specs.declared.Listed.the-variants.{Made, Refused}
+use Rattle.playing.specs.declared.Listed.the-variants.{Made}
 use Rattle.playing.specs.Sounding.{packed, numbers, entriesOf}
 use Rattle.playing.specs.Ranges.{Bounded, AllBounded}
 use Rattle.playing.specs.Playing.{Listing, playingList}
 use Rattle.playing.specs.Listing.{anyTooLong, listed, fitsNumbers, fitsBoth, listTone}
-use Rattle.playing.specs.Promise.{numbersOf, entriesIn, listAnswer, cellsAfter, rowsAfter, ListPromise, RowsPromise}
+use Rattle.playing.specs.Promise.{entriesIn, listAnswer, cellsAfter, rowsAfter, ListPromise, RowsPromise}
 use Rattle.playing.proofs.Below.{both}
 use Rattle.playing.proofs.Bounds.{list-bounded}
 use Rattle.playing.proofs.Packing.{length-numbers, entries-numbers}
