@@ -448,7 +448,7 @@ impl Walk {
         let settings = Settings::at_start();
         Walk {
             settings,
-            beats: beats(settings.tempo),
+            beats: 63,
             at,
             cells: 0,
         }
