@@ -18,11 +18,12 @@ use Rattle.reading.specs.declared.Step.{Step}
 use Rattle.reading.specs.declared.Step.the-variants.{Good, Bad}
 use Rattle.reading.specs.declared.Opening.{Opening}
 use Rattle.reading.specs.declared.Opening.the-variants.{Opened, Closed}
-use Rattle.reading.specs.declared.Judged.the-variants.{Sound, Faulty as Unsound}
-use Rattle.reading.specs.Answers.{Within, place, stepAs, stepOf, entries, openingOf, judgedOf}
+use Rattle.reader.specs.declared.Judged.the-variants.{Sound, Faulty as Unsound}
+use Rattle.reading.specs.Answers.{Within, place, stepAs, stepOf, entries, openingOf}
+use Rattle.reader.specs.Judging.{judgedOf}
 use Rattle.reading.proofs.Steps.{step-there, step-bad}
 use Rattle.reading.proofs.Walks.{stays}
-use Rattle.reading.proofs.Judging.{judge-long, judge-closed, judge-within, judge-count, judge-bad, judge-more, judge-sound}
+use Rattle.reader.proofs.Judgements.{judge-long, judge-closed, judge-within, judge-count, judge-bad, judge-more, judge-sound}
 use Rattle.playing.specs.declared.Tally.{Tally}
 use Rattle.playing.specs.declared.Tally.the-variants.{Counted, Stopped}
 use Rattle.playing.specs.declared.Verdict.the-variants.{Listable, Faulty}

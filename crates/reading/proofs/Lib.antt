@@ -2,5 +2,5 @@ pub mod Elements
 pub mod Steps
 pub mod Walks
 pub mod Openings
-pub mod Judging
-pub mod Filling
+pub mod Rests
+pub mod Standing

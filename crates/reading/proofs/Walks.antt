@@ -106,7 +106,7 @@ module _ {m : List ℕ} {unicode : Bool} {n at p left c b : ℕ} {s : Step} (w :
       let r = step-bad (λ v. v) (anyOf (pick unicode 16 8) (bitsOf m) p) (sym g ∙ q ∙ ap (λ (x : ℕ). stepOf (anyOf x (bitsOf m) p)) (e .0)) in
       sym (w .goes ∙ (rw (one-less left h, r .1)))
 
-  pub text-on : {v o : ℕ} {f : BitPlace} → (o ≡ perCharacter unicode) × (o ≤ 2) → s ≡ Good v f → TextWalk m unicode n at (f .0) (left - 1) (c + o)
+  pub text-on : {v o : ℕ} {f : BitPlace} → (o ≡ perCharacter unicode) × (o ≤ 2) × (1 ≤ o) → s ≡ Good v f → TextWalk m unicode n at (f .0) (left - 1) (c + o)
   text-on {v} {o} {f} eo g =
       let there = step-there (anyOf b (bitsOf m) p) (sym g ∙ q) in
       record {

@@ -19,8 +19,6 @@ use Rattle.tone.specs.Table.{kind}
 use Rattle.tone.specs.Table.{InTable}
 use Rattle.tone.specs.Tone.{Pattern, Tone, Front, frontOf, cells}
 use Rattle.tone.specs.Writing.{entryBits, tableBits, frontBits}
-use Rattle.reading.specs.declared.Judged.{Judged}
-use Rattle.reading.specs.declared.Judged.the-variants.{Sound, Faulty}
 use Rattle.tone.specs.Reading.{Got, got, bad}
 
 -- a place within a message, whose bits a place can count
@@ -64,14 +62,6 @@ abbrev pub openingOf : Got Front → Opening
 openingOf (got f p) = Opened (f .song) (f .unicode) (length (f .title)) (f .count) (place p)
 openingOf (bad n p e) = Closed n (place p)
 
--- ---- a whole message
-
--- a tone that was judged, or the refusal: song type, UNICODE or not, the title's octets, the patterns, the entries, and the place of the first pattern
-abbrev pub judgedOf : Outcome Tone → Judged
-judgedOf (accepted t) =
-    Sound (t .song) (t .unicode) (length (t .title)) (length (t .patterns)) (entries (t .patterns)) (place (length (frontBits (frontOf t))))
-judgedOf (refused n p) = Faulty n (place p)
-
 -- ---- what stands at a place of a message that was judged
 
 -- the entry e stands at a place, and the bits r behind it
@@ -89,20 +79,3 @@ pub record SomeEntry (m : List ℕ) (at : ℕ) : Type 0 where
 pub record Passed (at e cell next : ℕ) : Type 0 where
   pub taken : cell ≡ e
   pub behind : next ≡ at + length (entryBits e)
-
--- each is an entry of the table
-abbrev pub Entries : List ℕ → Type 0
-Entries [] = Unit {0}
-Entries (e ∷ t) = InTable e × Entries t
-
--- the entries t stand at a place, one after the other
-pub record TableAt (m : List ℕ) (at : ℕ) (t : List ℕ) : Type 0 where
-  pub each : Entries t
-  pub behind : List Bool
-  pub here : drop at (bitsOf m) ≡ tableBits t ++ behind
-
--- the octets o stand at a place, one after the other
-pub record OctetsAt (m : List ℕ) (at : ℕ) (o : List ℕ) : Type 0 where
-  pub each : Octets o
-  pub behind : List Bool
-  pub here : drop at (bitsOf m) ≡ bitsOf o ++ behind

@@ -2,17 +2,15 @@ ghost use mathlib.Core.Path.{_≡_};
 ghost use Prim.Native.Nat.{ℕ, _+_, _*_, _^_, _≤_, _<_};
 ghost use lib.ListN.{length};
 ghost use lib.Dec.{eqb};
-ghost use Rattle.bits.specs.Lent.{over};
 ghost use Rattle.bits.specs.Choice.{pick};
 ghost use Rattle.bits.specs.Bits.{bitsOf, placeAfter};
 ghost use Rattle.tone.specs.Table.{width as widthOf, allowed as allowedOf};
 ghost use Rattle.tone.specs.Tone.{perCharacter, noneKnown, learn};
 ghost use Rattle.tone.specs.Reading.{element, anyOf, filled, soundPart, parts as partsDue, command, text as textDue, title as titleDue, titled as titledDue, front};
-ghost use Rattle.tone.specs.Reading.{headerDue, instructionDue, bodyDue, patternsDue, ending as endingDue, rest as restDue, readTone};
-ghost use Rattle.reading.specs.Answers.{Within, stepAs, stepOf, commandOf, noteIn, notes as notesOf, entries as entriesOf, openingOf, judgedOf, SomeEntry, EntryAt, Passed, TableAt, OctetsAt};
+ghost use Rattle.tone.specs.Reading.{headerDue, instructionDue, bodyDue, patternsDue, ending as endingDue, rest as restDue};
+ghost use Rattle.reading.specs.Answers.{Within, stepAs, stepOf, commandOf, noteIn, notes as notesOf, entries as entriesOf, openingOf, SomeEntry, EntryAt, Passed};
 ghost use mathlib.Core.Bool.{Bool};
 ghost use mathlib.Core.List.{List};
-ghost use Rattle.reading.specs.Promise.{tableOf, titleOf, ReadPromise};
 use bits::BitPlace;
 use bits::OctetCount;
 
@@ -47,38 +45,6 @@ pub enum Opening {
 pub struct Cell {
     pub cell: u32,
     pub next: BitPlace,
-}
-
-// A message that was judged: song type, UNICODE or not, the title's octets, patterns, table entries, and the place of the
-// first pattern; or the refusal.
-pub enum Judged {
-    Sound {
-        song: u32,
-        unicode: bool,
-        octets: u32,
-        patterns: u32,
-        entries: u32,
-        at: BitPlace,
-    },
-    Faulty {
-        number: u32,
-        at: BitPlace,
-    },
-}
-
-// What reading a message answers.
-pub enum Reading {
-    Read {
-        song: u32,
-        unicode: bool,
-        characters: u32,
-        patterns: u32,
-        entries: u32,
-    },
-    Refused {
-        number: u32,
-        place: BitPlace,
-    },
 }
 
 // How many bits are left from a place on.
@@ -129,7 +95,7 @@ pub fn due(msg: &[u8], at: BitPlace, w: u32, code: u32, number: u32) -> Step
 const WIDTHS: [u32; 6] = [14, 9, 2, 2, 5, 4];
 
 // How many payload bits a kind has.
-fn width(kind: u32) -> u32
+pub fn width(kind: u32) -> u32
     requires { ⌜ kind ≤ 5 ⌝ }
     ensures { λ r. ⌜ (r ≡ widthOf kind) × (r ≤ 14) ⌝ }
 {
@@ -137,7 +103,7 @@ fn width(kind: u32) -> u32
 }
 
 // Is the payload a code that the instruction table has?
-fn allowed(kind: u32, payload: u32) -> bool
+pub fn allowed(kind: u32, payload: u32) -> bool
     ensures { λ r. ⌜ r ≡ allowedOf kind payload ⌝ }
 {
     if kind == 1 {
@@ -388,8 +354,8 @@ fn character_bits(unicode: bool) -> u32
 }
 
 // The octets of a title's character.
-fn character_octets(unicode: bool) -> u32
-    ensures { λ r. ⌜ (r ≡ perCharacter unicode) × (r ≤ 2) ⌝ }
+pub fn character_octets(unicode: bool) -> u32
+    ensures { λ r. ⌜ (r ≡ perCharacter unicode) × (r ≤ 2) × (1 ≤ r) ⌝ }
 {
     if unicode { 2 } else { 1 }
 }
@@ -517,7 +483,7 @@ pub fn ending(msg: &[u8], at: BitPlace) -> Step
 // ---- a whole message
 
 // Patterns, filler and the end octet. The number is how many entries there are in the tone table.
-fn rest(msg: &[u8], at: BitPlace, n: u32) -> Step
+pub fn rest(msg: &[u8], at: BitPlace, n: u32) -> Step
     requires { ⌜ Within (now msg) (at .0) ⌝ }
     requires { ⌜ n ≤ 255 ⌝ }
     ensures { λ r. ⌜ r ≡ stepAs entriesOf (restDue n (bitsOf (now (msg .entry))) (at .0)) ⌝ }
@@ -534,50 +500,7 @@ fn rest(msg: &[u8], at: BitPlace, n: u32) -> Step
     }
 }
 
-// Judges a whole message, and changes nothing.
-pub fn judge(msg: &[u8]) -> Judged
-    ensures { λ r. ⌜ r ≡ judgedOf (readTone (now (msg .entry))) ⌝ }
-{
-    if 4096 < msg.len() {
-        return Judged::Faulty {
-            number: 1,
-            at: BitPlace(0),
-        };
-    }
-    match open(msg, BitPlace(0)) {
-        Opening::Closed { number, at: fault } => Judged::Faulty { number, at: fault },
-        Opening::Opened {
-            song,
-            unicode,
-            octets,
-            count,
-            next: at,
-        } => match rest(msg, at, count) {
-            Step::Bad { number, at: fault } => Judged::Faulty { number, at: fault },
-            Step::Good {
-                value: entries,
-                next: end,
-            } => {
-                if end.0 != bits::place_after(OctetCount(msg.len())).0 {
-                    return Judged::Faulty {
-                        number: 10,
-                        at: end,
-                    };
-                }
-                Judged::Sound {
-                    song,
-                    unicode,
-                    octets,
-                    patterns: count,
-                    entries,
-                    at,
-                }
-            }
-        },
-    }
-}
-
-// ---- filling, once a message is judged
+// ---- what stands in a message that was judged
 
 // The entry at a place where one stands.
 pub fn entry_at(msg: &[u8], at: BitPlace) -> Cell
@@ -591,36 +514,5 @@ pub fn entry_at(msg: &[u8], at: BitPlace) -> Cell
     Cell {
         cell: kind * 65536 + bits::part(x, 3, w),
         next: BitPlace(at.0 + 3 + w as usize),
-    }
-}
-
-// Writes the `n` entries that stand at a place to the table.
-fn fill_table(msg: &[u8], at: BitPlace, n: usize, table: &mut [u32])
-    requires { ⌜ Within (now msg) (at .0) ⌝ }
-    requires { ⌜ (n ≤ length (now table)) × (n ≡ length (tableOf (now msg))) × TableAt (now msg) (at .0) (tableOf (now msg)) ⌝ }
-    ensures { λ _. ⌜ now (table .exit) ≡ over (tableOf (now (msg .entry))) (now (table .entry)) ⌝ }
-{
-    let mut place = at;
-    let mut i: usize = 0;
-    while i < n {
-        let c = entry_at(msg, place);
-        table[i] = c.cell;
-        place = c.next;
-        i += 1;
-    }
-}
-
-// Writes the `n` octets that stand at a place to the title.
-fn fill_title(msg: &[u8], at: BitPlace, n: usize, title: &mut [u8])
-    requires { ⌜ Within (now msg) (at .0) ⌝ }
-    requires { ⌜ (n ≤ length (now title)) × (n ≡ length (titleOf (now msg))) × OctetsAt (now msg) (at .0) (titleOf (now msg)) ⌝ }
-    ensures { λ _. ⌜ now (title .exit) ≡ over (titleOf (now (msg .entry))) (now (title .entry)) ⌝ }
-{
-    let mut place = at;
-    let mut i: usize = 0;
-    while i < n {
-        title[i] = bits::part(bits::look(msg, place), 0, 8) as u8;
-        place = BitPlace(place.0 + 8);
-        i += 1;
     }
 }

@@ -20,7 +20,7 @@ use Rattle.tone.specs.Reading.{Got, got, bad, Reader, _>>=_, _>>_, retur
 use Rattle.tone.proofs.Exact.{Exact, Fine, exact-as, return-exact, element-exact, then-exact, then-assoc, fixed-exact}
 use Rattle.tone.proofs.Fronts.{front-exact}
 
-and-true : (a b : Bool) → (a && b) ≡ true → (a ≡ true) × (b ≡ true)
+pub and-true : (a b : Bool) → (a && b) ≡ true → (a ≡ true) × (b ≡ true)
 and-true true b h = (refl, h)
 and-true false b h = let z : _≡_ {A = ℕ} 0 1 = cc in absurd (omega arith)
 
@@ -55,7 +55,7 @@ zero-allowed : (k : ℕ) → allowed k 0 ≡ true
 unfolding allowed
 zero-allowed k = pick-elim (λ (b : Bool). b ≡ true) (eqb k 1) (λ _. refl) (λ _. pick-elim (λ (b : Bool). b ≡ true) (eqb k 3) (λ _. refl) (λ _. refl))
 
-is-instruction : (k : ℕ) → isInstruction k ≡ true → (1 ≤ k) × (k ≤ 5)
+pub is-instruction : (k : ℕ) → isInstruction k ≡ true → (1 ≤ k) × (k ≤ 5)
 is-instruction k h = let a = and-true (leb 1 k) (leb k 5) h in (leb-true 1 k (a .0), leb-true k 5 (a .1))
 
 pub instruction-exact : Exact instructionDue Instruction (λ _ e. entryBits e)
@@ -185,7 +185,7 @@ row-split n known (p ∷ ps) h =
       whole = refl;
     }
 
-tableBits-append : (s t : List ℕ) → tableBits (s ++ t) ≡ tableBits s ++ tableBits t
+pub tableBits-append : (s t : List ℕ) → tableBits (s ++ t) ≡ tableBits s ++ tableBits t
 tableBits-append [] t = refl
 tableBits-append (e ∷ s) t = ap (λ (x : List Bool). entryBits e ++ x) (tableBits-append s t) ∙ sym (append-assoc (entryBits e) (tableBits s) (tableBits t))
 

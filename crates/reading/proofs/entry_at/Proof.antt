@@ -2,7 +2,7 @@
 use borrow.Author.Needs.{needs}
 use Rattle.reading.proofs.entry_at.Statement.{statement}
 use Rattle.reading.proofs.entry_at.Tie as tie
-use Rattle.reading.proofs.Filling.{passed, some-kind}
+use Rattle.reading.proofs.Standing.{passed, some-kind}
 use Rattle.reading.proofs.Elements.{entry-fits}
 
 look-requires : tie.Need-look-requires

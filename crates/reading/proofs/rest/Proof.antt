@@ -2,7 +2,7 @@
 use borrow.Author.Needs.{needs}
 use Rattle.reading.proofs.rest.Statement.{statement}
 use Rattle.reading.proofs.rest.Tie as tie
-use Rattle.reading.proofs.Judging.{rests}
+use Rattle.reading.proofs.Rests.{rests}
 
 patterns-requires : tie.Need-patterns-requires
 patterns-requires c κs = search needs

@@ -1,0 +1,64 @@
+-- `reader::fill_title` meets its contract. Each turn takes up one octet.
+use Rattle.reader.proofs.fill_title.Statement.{statement}
+use Rattle.reader.proofs.fill_title.Tie as tie
+use borrow.Author.Needs.{needs}
+use Prim.Native.Nat.{_-_}
+use Rattle.reader.specs.Judging.{titleOf}
+use Rattle.reader.proofs.Filling.{TitleFill, titles}
+
+abbrev Inv-loop : tie.InvT-loop
+Inv-loop msg n title₀ place₀ i₀ title place i = TitleFill msg (titleOf msg) n title₀ title (place .0) i
+
+abbrev μ-loop : tie.MeasureT-loop
+μ-loop msg n title₀ place₀ i₀ title place i = n - i
+
+loop-holds : tie.Need-loop-holds Inv-loop μ-loop
+loop-holds c = search (titles, needs)
+
+look-requires : tie.Need-look-requires Inv-loop μ-loop
+look-requires c κs = search (titles, needs)
+
+part-requires : tie.Need-part-requires Inv-loop μ-loop
+part-requires c κs = search (titles, needs)
+
+cast-title : tie.Need-cast-title Inv-loop μ-loop
+cast-title c = search (titles, needs)
+
+slice-write-title : tie.Need-slice-write-title Inv-loop μ-loop
+slice-write-title c = search (titles, needs)
+
+add-t12 : tie.Need-add-t12 Inv-loop μ-loop
+add-t12 c = search (titles, needs)
+
+add-i : tie.Need-add-i Inv-loop μ-loop
+add-i c = search (titles, needs)
+
+loop-less : tie.Need-loop-less Inv-loop μ-loop
+loop-less c = search (titles, needs)
+
+loop-again : tie.Need-loop-again Inv-loop μ-loop
+loop-again c = search (titles, needs)
+
+same-length : tie.Need-same-length Inv-loop μ-loop
+same-length c = search (titles, needs)
+
+returns : tie.Need-returns Inv-loop μ-loop
+returns c = search (titles, needs)
+
+pub fill-title-spec : {M : Type 1} → statement M
+fill-title-spec =
+    tie.close
+    (tie.spec
+    Inv-loop
+    μ-loop
+    loop-holds
+    look-requires
+    part-requires
+    cast-title
+    slice-write-title
+    add-t12
+    add-i
+    loop-less
+    loop-again
+    same-length
+    returns)
