@@ -95,7 +95,7 @@ pub fn due(msg: &[u8], at: BitPlace, w: u32, code: u32, number: u32) -> Step
 const WIDTHS: [u32; 6] = [14, 9, 2, 2, 5, 4];
 
 // How many payload bits a kind has.
-fn width(kind: u32) -> u32
+pub fn width(kind: u32) -> u32
     requires { ⌜ kind ≤ 5 ⌝ }
     ensures { λ r. ⌜ (r ≡ widthOf kind) × (r ≤ 14) ⌝ }
 {
@@ -103,7 +103,7 @@ fn width(kind: u32) -> u32
 }
 
 // Is the payload a code that the instruction table has?
-fn allowed(kind: u32, payload: u32) -> bool
+pub fn allowed(kind: u32, payload: u32) -> bool
     ensures { λ r. ⌜ r ≡ allowedOf kind payload ⌝ }
 {
     if kind == 1 {

@@ -185,7 +185,7 @@ row-split n known (p ∷ ps) h =
       whole = refl;
     }
 
-tableBits-append : (s t : List ℕ) → tableBits (s ++ t) ≡ tableBits s ++ tableBits t
+pub tableBits-append : (s t : List ℕ) → tableBits (s ++ t) ≡ tableBits s ++ tableBits t
 tableBits-append [] t = refl
 tableBits-append (e ∷ s) t = ap (λ (x : List Bool). entryBits e ++ x) (tableBits-append s t) ∙ sym (append-assoc (entryBits e) (tableBits s) (tableBits t))
 
