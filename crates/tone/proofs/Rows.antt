@@ -20,11 +20,11 @@ use Rattle.tone.specs.Reading.{Got, got, bad, Reader, _>>=_, _>>_, retur
 use Rattle.tone.proofs.Exact.{Exact, Fine, exact-as, return-exact, element-exact, then-exact, then-assoc, fixed-exact}
 use Rattle.tone.proofs.Fronts.{front-exact}
 
-and-true : (a b : Bool) → (a && b) ≡ true → (a ≡ true) × (b ≡ true)
+pub and-true : (a b : Bool) → (a && b) ≡ true → (a ≡ true) × (b ≡ true)
 and-true true b h = (refl, h)
 and-true false b h = let z : _≡_ {A = ℕ} 0 1 = cc in absurd (omega arith)
 
-and-is : {a b : Bool} → a ≡ true → b ≡ true → (a && b) ≡ true
+pub and-is : {a b : Bool} → a ≡ true → b ≡ true → (a && b) ≡ true
 and-is p q = rw (p, q)
 
 -- ---- an instruction

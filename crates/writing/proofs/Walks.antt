@@ -104,7 +104,7 @@ at-body (suc n) known c (e ∷ t) =
 -- ---- what was accepted
 
 -- an outcome that was accepted was no refusal
-not-refused : {A : Type 0} {n p : ℕ} {a : A} → refused n p ≡ accepted a → ⊥
+pub not-refused : {A : Type 0} {n p : ℕ} {a : A} → refused n p ≡ accepted a → ⊥
 not-refused q = let z : _≡_ {A = ℕ} 0 1 = cc in omega arith
 
 pub instruction-told : (e : ℕ) {b : ℕ} → instructionLength e ≡ accepted b → Instruction e × (b ≡ entryLength e)

@@ -16,7 +16,7 @@ use Rattle.bits.proofs.Choice.{pick-elim}
 use Rattle.bits.proofs.Numbers.{shl-one}
 use Rattle.tone.specs.Table.{kind, payload, width, allowed, InTable}
 use Rattle.tone.specs.Tone.{specifier, partOf, recallable}
-use Rattle.tone.proofs.Rows.{width-most}
+use Rattle.tone.proofs.Rows.{and-true, width-most}
 use mir.Val.{Fits}
 use mir.Syntax.{w32}
 use Rattle.writing.specs.declared.Weighed.{Weighed}
@@ -25,10 +25,6 @@ use Rattle.writing.specs.Judging.{andThen, entryFine}
 use Rattle.writing.specs.Answers.{entryLength, headerLength, instructionLength, bodyLength, weighedOf}
 
 -- ---- an entry
-
-and-true : (a b : Bool) → (a && b) ≡ true → (a ≡ true) × (b ≡ true)
-and-true true b h = (refl, h)
-and-true false b h = let z : _≡_ {A = ℕ} 0 1 = cc in absurd (omega arith)
 
 -- an entry is fine exactly if the instruction table has it
 pub fine-in-table : (e : ℕ) → entryFine e ≡ true → InTable e
@@ -109,7 +105,7 @@ pub ruleset instructions = (instruction-six, instruction-header, instruction-fin
 -- ---- a header
 
 -- every header of 14 bits is in the table, and no other entry of kind 0
-header-in-table : (e : ℕ) → e < 16384 → InTable e
+pub header-in-table : (e : ℕ) → e < 16384 → InTable e
 unfolding width allowed
 header-in-table e h =
     let z : kind e ≡ 0 = omega arith in

@@ -5,6 +5,7 @@ use mathlib.Core.List.{List, [], _∷_}
 use lib.ListN.{length}
 use lib.Dec.{eqb}
 use Rattle.bits.specs.Choice.{pick}
+use Rattle.bits.specs.Bits.{placeAfter}
 use Rattle.bits.specs.Outcome.{Outcome, accepted, refused}
 use Rattle.tone.specs.Table.{kind, width}
 use Rattle.tone.specs.Tone.{recallable}
@@ -49,3 +50,7 @@ atMost bits = min bits 32769
 abbrev pub judgedOf : List ℕ → Outcome ℕ → Judged
 judgedOf t (accepted n) = Sound n (atMost (length (tableBits t)))
 judgedOf t (refused n p) = Faulty n
+
+-- how many bits stand ahead of the patterns, with so many octets of title: the command and the song type, the title and its length, the pattern count
+abbrev pub frontLength : ℕ → Bool → ℕ → ℕ
+frontLength song unicode octets = pick unicode 34 26 + (pick (eqb song 1) (4 + placeAfter octets) 0 + 8)
