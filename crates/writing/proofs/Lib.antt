@@ -5,3 +5,5 @@ pub mod Accepting
 pub mod Pieces
 pub mod Filling
 pub mod Told
+pub mod Unique
+pub mod Demand2
