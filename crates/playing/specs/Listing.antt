@@ -1,9 +1,9 @@
 -- A list made from a message.
-use Prim.Native.Nat.{ℕ, _+_, _*_, _^_}
-use mathlib.Core.Bool.{Bool, true, false, _||_}
-use mathlib.Core.List.{List, [], _∷_, _++_}
+use Prim.Native.Nat.{ℕ, _*_, _^_}
+use mathlib.Core.Bool.{Bool, false, _||_, _&&_}
+use mathlib.Core.List.{List, [], _∷_}
 use lib.ListN.{length}
-use lib.Dec.{leb, ltb}
+use lib.Dec.{leb}
 use Rattle.bits.specs.Choice.{pick}
 use Rattle.bits.specs.Outcome.{Outcome, accepted, refused}
 use Rattle.tone.specs.Tone.{Tone}
@@ -30,6 +30,10 @@ listed fits (refused n p) = refused n p
 -- a list fits so many numbers, two an entry
 abbrev pub fitsNumbers : ℕ → Listing → Bool
 fitsNumbers room g = leb (2 * length (g .entries)) room
+
+-- and so many rows, one an entry
+abbrev pub fitsBoth : ℕ → ℕ → Listing → Bool
+fitsBoth room rows g = fitsNumbers room g && leb (length (g .entries)) rows
 
 -- a message's list, with 1 to 10 as in reading
 unfoldable pub listTone : List ℕ → (Listing → Bool) → Outcome Listing

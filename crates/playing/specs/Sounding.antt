@@ -1,6 +1,7 @@
 -- The settings, and what each instruction makes of them.
-use Prim.Native.Nat.{ℕ, _+_, _*_}
-use mathlib.Core.List.{List, [], _∷_, _++_}
+use Prim.Native.Nat.{ℕ, zero, suc, _+_, _*_, _/_, _%_}
+use mathlib.Core.List.{List, [], _∷_}
+use lib.ListN.{getD, drop}
 use lib.Dec.{eqb}
 use Rattle.bits.specs.Choice.{pick}
 use Rattle.tone.specs.Table.{kind, payload, noteOf, durationOf, specifierOf}
@@ -39,3 +40,22 @@ packed r = r .note * 1024 + r .scale * 256 + r .style * 16 + r .volume
 abbrev pub numbers : List Entry → List ℕ
 numbers [] = []
 numbers (r ∷ rs) = packed r ∷ r .microseconds ∷ numbers rs
+
+-- an entry from its two numbers
+unfoldable pub unpacked : ℕ → ℕ → Entry
+unpacked first second = record {
+  note = first / 1024;
+  scale = first / 256 % 4;
+  style = first / 16 % 16;
+  volume = first % 16;
+  microseconds = second;
+}
+
+-- the entry at a position of a list in two-number form
+abbrev pub entryAt : List ℕ → ℕ → Entry
+entryAt l i = unpacked (getD l (i * 2) 0) (getD l (i * 2 + 1) 0)
+
+-- its first n entries
+abbrev pub entriesOf : ℕ → List ℕ → List Entry
+entriesOf zero l = []
+entriesOf (suc n) l = entryAt l 0 ∷ entriesOf n (drop 2 l)

@@ -1,4 +1,26 @@
 ghost use mathlib.Core.Path.{_≡_};
+ghost use mathlib.Core.List.{_++_};
+ghost use Prim.Native.Nat.{_+_, _*_, _≤_, _<_};
+ghost use lib.ListN.{length, drop};
+ghost use Rattle.bits.specs.Bits.{bitsOf};
+ghost use Rattle.bits.specs.Lent.{over};
+ghost use Rattle.tone.specs.Table.{durationOf, Instruction};
+ghost use Rattle.tone.specs.Tone.{noneKnown};
+ghost use Rattle.tone.specs.Reading.{patternsDue, rest as restDue, readTone};
+ghost use Rattle.reading.specs.Answers.{Within, noteIn, notes as notesOf};
+ghost use Rattle.playing.specs.Duration.{beats as beatsOf, units as unitsOf, microseconds as microsecondsOf};
+ghost use Rattle.playing.specs.Sounding.{atStart, applied as appliedTo, sounded as soundedBy, packed as packedOf, unpacked, numbers, entryAt, entriesOf};
+ghost use Rattle.playing.specs.Ranges.{InRange, Bounded};
+ghost use Rattle.playing.specs.Playing.{step, pass, passes, passesOf, noBodies, play};
+ghost use Rattle.playing.specs.Counting.{entryCount, markOf};
+ghost use Rattle.playing.specs.Filling.{bodyIn, behindIn, BodyAt, patternsIn, endIn, PatternsAt, partsAfter, behindPattern, Ready, Advanced};
+ghost use Rattle.playing.specs.Answers.{totalFrom, noCount, counted as countedOf, noted as notedOf, tallyAs, verdictOf};
+ghost use Rattle.playing.specs.Listing.{fitsNumbers, fitsBoth};
+ghost use Rattle.playing.specs.Promise.{ListPromise};
+use bits::BitPlace;
+use bits::OctetCount;
+use reading::Opening;
+use reading::Step;
 
 // The four settings, as codes.
 pub struct Settings {
@@ -15,4 +37,595 @@ pub struct Entry {
     pub style: u32,
     pub volume: u32,
     pub microseconds: u32,
+}
+
+// What is counted so far: the entries, the return mark, and whether a loop 15 has ended the list.
+pub struct Count {
+    pub entries: u32,
+    pub mark: u32,
+    pub ended: bool,
+}
+
+// What patterns come to: the entries of their list, its return mark and the place behind them; or the refusal.
+pub enum Tally {
+    Counted {
+        entries: u32,
+        mark: u32,
+        next: BitPlace,
+    },
+    Stopped {
+        number: u32,
+        at: BitPlace,
+    },
+}
+
+// A message that was judged: the entries of its list, the return mark, the patterns and the place of the first of them; or
+// the refusal.
+pub enum Verdict {
+    Listable {
+        entries: u32,
+        mark: u32,
+        patterns: u32,
+        at: BitPlace,
+    },
+    Faulty {
+        number: u32,
+        at: BitPlace,
+    },
+}
+
+// What making a list answers: its entries and its return mark, or the refusal.
+pub enum Listed {
+    Made { entries: u32, mark: u32 },
+    Refused { number: u32, place: BitPlace },
+}
+
+// A part's body: not yet defined, or the place and the number of its instructions.
+pub enum Part {
+    Unknown,
+    Known { at: BitPlace, count: u32 },
+}
+
+// How far filling has come: the settings, the beats of their tempo, the place in the message, and the cells filled.
+pub struct Walk {
+    pub settings: Settings,
+    pub beats: u32,
+    pub at: BitPlace,
+    pub cells: usize,
+}
+
+impl Settings {
+    // The defaults of 000.
+    pub fn at_start() -> Settings
+        ensures { λ r. ⌜ r ≡ atStart ⌝ }
+    {
+        Settings {
+            scale: 1,
+            style: 0,
+            tempo: 8,
+            volume: 7,
+        }
+    }
+
+    // The settings after an instruction.
+    pub fn applied(self, cell: u32) -> Settings
+        ensures { λ r. ⌜ r ≡ appliedTo self cell ⌝ }
+    {
+        let kind = cell / 65536;
+        let code = cell % 65536;
+        let mut next = self;
+        if kind == 2 {
+            next.scale = code;
+            return next;
+        }
+        if kind == 3 {
+            next.style = code;
+            return next;
+        }
+        if kind == 4 {
+            next.tempo = code;
+            return next;
+        }
+        if kind == 5 {
+            next.volume = code;
+            return next;
+        }
+        next
+    }
+}
+
+// Beats a minute, table 3.7-11 of 000.
+const BEATS: [u32; 32] = [
+    25,
+    28,
+    31,
+    35,
+    40,
+    45,
+    50,
+    56,
+    63,
+    70,
+    80,
+    90,
+    100,
+    112,
+    125,
+    140,
+    160,
+    180,
+    200,
+    225,
+    250,
+    285,
+    320,
+    355,
+    400,
+    450,
+    500,
+    565,
+    635,
+    715,
+    800,
+    900,
+];
+
+// The beats a minute of a tempo code.
+fn beats(tempo: u32) -> u32
+    requires { ⌜ tempo ≤ 31 ⌝ }
+    ensures { λ r. ⌜ r ≡ beatsOf tempo ⌝ }
+{
+    BEATS[tempo as usize]
+}
+
+// The units of a note: a full one has 384, each duration code halves them, and the specifier stretches them.
+fn units(duration: u32, specifier: u32) -> u32
+    requires { ⌜ duration ≤ 5 ⌝ }
+    ensures { λ r. ⌜ r ≡ unitsOf duration specifier ⌝ }
+{
+    let plain = 384u32 >> duration;
+    if specifier == 1 {
+        return plain * 3 / 2;
+    }
+    if specifier == 2 {
+        return plain * 7 / 4;
+    }
+    if specifier == 3 {
+        return plain * 2 / 3;
+    }
+    plain
+}
+
+// From units and beats to microseconds, rounded down.
+fn microseconds(units: u32, beats: u32) -> u32
+    requires { ⌜ (units ≤ 672) × (25 ≤ beats) ⌝ }
+    ensures { λ r. ⌜ r ≡ microsecondsOf units beats ⌝ }
+{
+    units * 625000 / beats
+}
+
+// The entry that a note or pause adds, from its payload. The caller keeps the beats of the tempo at hand.
+fn sounded(s: Settings, beats: u32, payload: u32) -> Entry
+    requires { ⌜ InRange s ⌝ }
+    requires { ⌜ (beats ≡ beatsOf (s .tempo)) × (durationOf payload ≤ 5) ⌝ }
+    ensures { λ r. ⌜ r ≡ soundedBy s payload ⌝ }
+{
+    let units = units(payload / 4 % 8, payload % 4);
+    Entry {
+        note: payload / 32,
+        scale: s.scale,
+        style: s.style,
+        volume: s.volume,
+        microseconds: microseconds(units, beats),
+    }
+}
+
+// An entry's first number.
+fn packed(r: Entry) -> u32
+    requires { ⌜ Bounded r ⌝ }
+    ensures { λ n. ⌜ n ≡ packedOf r ⌝ }
+{
+    r.note * 1024 + r.scale * 256 + r.style * 16 + r.volume
+}
+
+// An entry from its two numbers.
+fn entry_of(first: u32, second: u32) -> Entry
+    ensures { λ r. ⌜ r ≡ unpacked first second ⌝ }
+{
+    Entry {
+        note: first / 1024,
+        scale: first / 256 % 4,
+        style: first / 16 % 16,
+        volume: first % 16,
+        microseconds: second,
+    }
+}
+
+// The entry at a position of a list in two-number form.
+fn entry_at(list: &[u32], i: usize) -> Entry
+    requires { ⌜ i * 2 + 1 < length (now list) ⌝ }
+    ensures { λ r. ⌜ r ≡ entryAt (now (list .entry)) i ⌝ }
+{
+    entry_of(list[i * 2], list[i * 2 + 1])
+}
+
+// Fills the first `n` rows from a list in two-number form. The other rows stay.
+fn fill_rows(list: &[u32], n: usize, rows: &mut [Entry])
+    requires { ⌜ (n * 2 ≤ length (now list)) × (n ≤ length (now rows)) ⌝ }
+    ensures { λ _. ⌜ now (rows .exit) ≡ entriesOf n (now (list .entry)) ++ drop n (now (rows .entry)) ⌝ }
+{
+    let mut i = 0;
+    while i < n {
+        let e = entry_at(list, i);
+        rows[i] = e;
+        i += 1;
+    }
+}
+
+// ---- judging
+
+// The return mark where there is none.
+const NO_MARK: u32 = 4294967295;
+
+// How many passes a loop value lists.
+fn passes_of(value: u32) -> u32
+    requires { ⌜ value ≤ 15 ⌝ }
+    ensures { λ r. ⌜ (r ≡ passesOf value) × (1 ≤ r) × (r ≤ 15) ⌝ }
+{
+    if value == 15 { 1 } else { value + 1 }
+}
+
+// The mark of a loop-15 pass of so many notes that starts at `n`.
+fn mark_of(n: u32, notes: u32) -> u32
+    ensures { λ r. ⌜ r ≡ markOf n notes ⌝ }
+{
+    if notes == 0 { NO_MARK } else { n }
+}
+
+impl Count {
+    // Nothing is counted.
+    fn none() -> Count
+        ensures { λ r. ⌜ r ≡ noCount ⌝ }
+    {
+        Count {
+            entries: 0,
+            mark: NO_MARK,
+            ended: false,
+        }
+    }
+
+    // One pattern more, of so many notes and this loop value.
+    fn with(self, notes: u32, value: u32) -> Count
+        requires { ⌜ (self .entries ≤ 971550) × (notes ≤ 255) × (value ≤ 15) ⌝ }
+        ensures { λ r. ⌜ r ≡ countedOf self notes value ⌝ }
+    {
+        if self.ended {
+            return self;
+        }
+        let entries = self.entries + notes * passes_of(value);
+        if value == 15 {
+            return Count {
+                entries,
+                mark: mark_of(self.entries, notes),
+                ended: true,
+            };
+        }
+        Count {
+            entries,
+            mark: self.mark,
+            ended: false,
+        }
+    }
+}
+
+// The notes of the four bodies after a header and so many notes of its own.
+fn noted(notes: [u32; 4], header: u32, own: u32) -> [u32; 4]
+    ensures { λ r. ⌜ r ≡ notedOf notes header own ⌝ }
+{
+    if header % 256 == 0 {
+        return notes;
+    }
+    let mut after = notes;
+    after[(header / 4096 % 4) as usize] = own;
+    after
+}
+
+// Judges `n` patterns and counts the entries of their list.
+fn patterns(msg: &[u8], at: BitPlace, n: u32) -> Tally
+    requires { ⌜ Within (now msg) (at .0) ⌝ }
+    requires { ⌜ n ≤ 255 ⌝ }
+    ensures { λ r. ⌜ r ≡ tallyAs (totalFrom noBodies 0) (patternsDue n noneKnown (bitsOf (now (msg .entry))) (at .0)) ⌝ }
+{
+    let mut known = [false; 4];
+    let mut notes = [0u32; 4];
+    let mut place = at;
+    let mut left = n;
+    let mut count = Count::none();
+    while 0 < left {
+        match reading::header(msg, place, known) {
+            Step::Bad { number, at: fault } => {
+                return Tally::Stopped { number, at: fault };
+            }
+            Step::Good { value, next } => match reading::body(msg, next, value % 256) {
+                Step::Bad { number, at: fault } => {
+                    return Tally::Stopped { number, at: fault };
+                }
+                Step::Good {
+                    value: own,
+                    next: behind,
+                } => {
+                    let learned = reading::learned(known, value);
+                    known = learned;
+                    let after = noted(notes, value, own);
+                    notes = after;
+                    let sounding = after[(value / 4096 % 4) as usize];
+                    count = count.with(sounding, value / 256 % 16);
+                    place = behind;
+                    left -= 1;
+                }
+            },
+        }
+    }
+    Tally::Counted {
+        entries: count.entries,
+        mark: count.mark,
+        next: place,
+    }
+}
+
+// Judges patterns, filler and the end octet, and counts the entries of the list.
+fn rest(msg: &[u8], at: BitPlace, n: u32) -> Tally
+    requires { ⌜ Within (now msg) (at .0) ⌝ }
+    requires { ⌜ n ≤ 255 ⌝ }
+    ensures { λ r. ⌜ r ≡ tallyAs (totalFrom noBodies 0) (restDue n (bitsOf (now (msg .entry))) (at .0)) ⌝ }
+{
+    match patterns(msg, at, n) {
+        Tally::Stopped { number, at: fault } => Tally::Stopped { number, at: fault },
+        Tally::Counted {
+            entries,
+            mark,
+            next: behind,
+        } => match reading::ending(msg, behind) {
+            Step::Bad { number, at: fault } => Tally::Stopped { number, at: fault },
+            Step::Good { value: _, next } => Tally::Counted {
+                entries,
+                mark,
+                next,
+            },
+        },
+    }
+}
+
+// Judges a message for its list, and changes nothing.
+pub fn judge(msg: &[u8]) -> Verdict
+    ensures { λ r. ⌜ r ≡ verdictOf (readTone (now (msg .entry))) ⌝ }
+{
+    if 4096 < msg.len() {
+        return Verdict::Faulty {
+            number: 1,
+            at: BitPlace(0),
+        };
+    }
+    match reading::open(msg, BitPlace(0)) {
+        Opening::Closed { number, at: fault } => Verdict::Faulty { number, at: fault },
+        Opening::Opened {
+            song: _,
+            unicode: _,
+            octets: _,
+            count,
+            next: at,
+        } => match rest(msg, at, count) {
+            Tally::Stopped { number, at: fault } => Verdict::Faulty { number, at: fault },
+            Tally::Counted {
+                entries,
+                mark,
+                next: end,
+            } => {
+                if end.0 != bits::place_after(OctetCount(msg.len())).0 {
+                    return Verdict::Faulty {
+                        number: 10,
+                        at: end,
+                    };
+                }
+                Verdict::Listable {
+                    entries,
+                    mark,
+                    patterns: count,
+                    at,
+                }
+            }
+        },
+    }
+}
+
+// ---- filling, once a message is judged
+
+impl Walk {
+    // Nothing is filled, and the settings are those of the start.
+    fn start(at: BitPlace) -> Walk
+        ensures { λ r. ⌜ Ready r × (r .settings ≡ atStart) × (r .at ≡ at) × (r .cells ≡ 0) ⌝ }
+    {
+        let settings = Settings::at_start();
+        Walk {
+            settings,
+            beats: beats(settings.tempo),
+            at,
+            cells: 0,
+        }
+    }
+
+    // One instruction: a note or pause adds its entry, any other changes the settings.
+    fn step(self, cell: u32, next: BitPlace, list: &mut [u32]) -> Walk
+        requires { ⌜ Ready self ⌝ }
+        requires { ⌜ Instruction cell × (self .cells + 2 * noteIn cell ≤ length (now list)) ⌝ }
+        ensures { λ r. ⌜ Advanced (self .cells) (step (self .settings) cell) (next .0) (now (list .entry)) (now (list .exit)) r ⌝ }
+    {
+        let kind = cell / 65536;
+        let settings = self.settings;
+        let cells = self.cells;
+        if kind == 1 {
+            let r = sounded(settings, self.beats, cell % 65536);
+            list[cells] = packed(r);
+            list[cells + 1] = r.microseconds;
+            return Walk {
+                settings,
+                beats: self.beats,
+                at: next,
+                cells: cells + 2,
+            };
+        }
+        let after = settings.applied(cell);
+        if kind == 4 {
+            return Walk {
+                settings: after,
+                beats: beats(after.tempo),
+                at: next,
+                cells,
+            };
+        }
+        Walk {
+            settings: after,
+            beats: self.beats,
+            at: next,
+            cells,
+        }
+    }
+}
+
+// Fills in one pass of the `n` instructions that stand at a place.
+fn fill_pass(msg: &[u8], from: BitPlace, n: u32, list: &mut [u32], w: Walk) -> Walk
+    requires { ⌜ Ready w ⌝ }
+    requires { ⌜ BodyAt (now msg) (from .0) n (bodyIn (now msg) (from .0) n) (behindIn (now msg) (from .0) n) ⌝ }
+    requires { ⌜ w .cells + 2 * notesOf (bodyIn (now msg) (from .0) n) ≤ length (now list) ⌝ }
+    ensures { λ r. ⌜ Advanced (w .cells) (pass (w .settings) (bodyIn (now (msg .entry)) (from .0) n)) (behindIn (now (msg .entry)) (from .0) n) (now (list .entry)) (now (list .exit)) r ⌝ }
+{
+    let settings = w.settings;
+    let mut walk = Walk {
+        settings,
+        beats: w.beats,
+        at: from,
+        cells: w.cells,
+    };
+    let mut left = n;
+    while 0 < left {
+        let at = walk.at;
+        let c = reading::entry_at(msg, at);
+        walk = walk.step(c.cell, c.next, list);
+        left -= 1;
+    }
+    walk
+}
+
+// Fills in so many passes of the `n` instructions that stand at a place. The settings carry on.
+fn fill_passes(msg: &[u8], from: BitPlace, n: u32, times: u32, list: &mut [u32], w: Walk) -> Walk
+    requires { ⌜ Ready w ⌝ }
+    requires { ⌜ BodyAt (now msg) (from .0) n (bodyIn (now msg) (from .0) n) (behindIn (now msg) (from .0) n) ⌝ }
+    requires { ⌜ (1 ≤ times) × (times ≤ 15) × (w .cells + 2 * (notesOf (bodyIn (now msg) (from .0) n) * times) ≤ length (now list)) ⌝ }
+    ensures { λ r. ⌜ Advanced (w .cells) (passes times (w .settings) (bodyIn (now (msg .entry)) (from .0) n)) (behindIn (now (msg .entry)) (from .0) n) (now (list .entry)) (now (list .exit)) r ⌝ }
+{
+    let mut walk = fill_pass(msg, from, n, list, w);
+    let mut left = times - 1;
+    while 0 < left {
+        walk = fill_pass(msg, from, n, list, walk);
+        left -= 1;
+    }
+    walk
+}
+
+// The four parts after a header, whose own instructions stand at `next`: a definition replaces the part of its id.
+fn parts_after(parts: [Part; 4], header: u32, next: BitPlace) -> [Part; 4]
+    ensures { λ r. ⌜ r ≡ partsAfter parts header next ⌝ }
+{
+    if header % 256 == 0 {
+        return parts;
+    }
+    let mut after = parts;
+    after[(header / 4096 % 4) as usize] = Part::Known {
+        at: next,
+        count: header % 256,
+    };
+    after
+}
+
+// Where the next header stands: a recall has no instructions of its own.
+fn behind_pattern(header: u32, next: BitPlace, reached: BitPlace) -> BitPlace
+    ensures { λ r. ⌜ r ≡ behindPattern header next reached ⌝ }
+{
+    if header % 256 == 0 { next } else { reached }
+}
+
+// Fills in the list of the `n` patterns that stand at a place.
+fn fill_list(msg: &[u8], at: BitPlace, n: u32, list: &mut [u32])
+    requires { ⌜ PatternsAt (now msg) (at .0) n (patternsIn (now msg) (at .0) n) (endIn (now msg) (at .0) n) ⌝ }
+    requires { ⌜ 2 * entryCount noBodies (patternsIn (now msg) (at .0) n) ≤ length (now list) ⌝ }
+    ensures { λ _. ⌜ now (list .exit) ≡ over (numbers (play atStart noBodies 0 (patternsIn (now (msg .entry)) (at .0) n) .entries)) (now (list .entry)) ⌝ }
+{
+    let mut parts = [Part::Unknown; 4];
+    let mut place = at;
+    let mut walk = Walk::start(at);
+    let mut left = n;
+    while 0 < left {
+        let head = reading::entry_at(msg, place);
+        let header = head.cell;
+        let after = parts_after(parts, header, head.next);
+        parts = after;
+        let part = after[(header / 4096 % 4) as usize];
+        let value = header / 256 % 16;
+        match part {
+            Part::Unknown => {
+                return;
+            }
+            Part::Known { at: from, count } => {
+                walk = fill_passes(msg, from, count, passes_of(value), list, walk);
+            }
+        }
+        if value == 15 {
+            return;
+        }
+        place = behind_pattern(header, head.next, walk.at);
+        left -= 1;
+    }
+}
+
+// ---- the calls
+
+// Makes the list of a message in two-number form, where it has at most `most` entries.
+fn list_within(msg: &[u8], list: &mut [u32], most: usize) -> Listed
+    ensures { λ r. ⌜ ListPromise (now (msg .entry)) (fitsBoth (length (now (list .entry))) most) (now (list .entry)) (now (list .exit)) r ⌝ }
+{
+    match judge(msg) {
+        Verdict::Faulty { number, at: fault } => Listed::Refused {
+            number,
+            place: fault,
+        },
+        Verdict::Listable {
+            entries,
+            mark,
+            patterns,
+            at,
+        } => {
+            if list.len() / 2 < entries as usize {
+                return Listed::Refused {
+                    number: 11,
+                    place: BitPlace(0),
+                };
+            }
+            if most < entries as usize {
+                return Listed::Refused {
+                    number: 11,
+                    place: BitPlace(0),
+                };
+            }
+            fill_list(msg, at, patterns, list);
+            Listed::Made { entries, mark }
+        }
+    }
+}
+
+// Makes the list of a message in two-number form.
+pub fn list(msg: &[u8], list: &mut [u32]) -> Listed
+    ensures { λ r. ⌜ ListPromise (now (msg .entry)) (fitsNumbers (length (now (list .entry)))) (now (list .entry)) (now (list .exit)) r ⌝ }
+{
+    let room = list.len();
+    list_within(msg, list, room)
 }

@@ -5,8 +5,8 @@ ghost use Prim.Native.Nat.{ℕ, _+_, _*_, _^_, _≤_, _<_};
 ghost use lib.ListN.{length};
 ghost use Rattle.bits.specs.Bits.{bitsOf, placeAfter};
 ghost use Rattle.bits.specs.Lent.{over};
-ghost use Rattle.tone.specs.Reading.{readTone};
-ghost use Rattle.reading.specs.Answers.{Within};
+ghost use Rattle.tone.specs.Reading.{readTone, front as frontDue, rest as restDue};
+ghost use Rattle.reading.specs.Answers.{Within, openingOf, stepAs, entries as entriesOf};
 ghost use Rattle.reader.specs.Judging.{judgedOf, TableAt, OctetsAt, tableOf, titleOf};
 ghost use Rattle.reader.specs.Promise.{ReadPromise};
 use bits::BitPlace;
@@ -46,6 +46,61 @@ pub enum Reading {
     },
 }
 
+// A message and the place reached in it.
+pub struct Reader<'a> {
+    pub msg: &'a [u8],
+    pub at: BitPlace,
+}
+
+// A reader at the start of a message.
+pub fn start<'a>(msg: &'a [u8]) -> Reader<'a>
+    ensures { λ r. ⌜ (r .msg ≡ msg .entry) × (r .at .0 ≡ 0) ⌝ }
+{
+    Reader {
+        msg,
+        at: BitPlace(0),
+    }
+}
+
+// The front that stands at a reader's place.
+pub fn front<'a>(r: Reader<'a>) -> Opening
+    requires { ⌜ Within (now (r .msg)) (r .at .0) ⌝ }
+    ensures { λ o. ⌜ o ≡ openingOf (frontDue (bitsOf (now (r .entry .msg))) (r .entry .at .0)) ⌝ }
+{
+    reading::open(r.msg, r.at)
+}
+
+// The front of a message.
+pub fn front_of(msg: &[u8]) -> Opening
+    requires { ⌜ Within (now msg) 0 ⌝ }
+    ensures { λ o. ⌜ o ≡ openingOf (frontDue (bitsOf (now (msg .entry))) 0) ⌝ }
+{
+    front(start(msg))
+}
+
+// The same message at another place.
+pub fn moved<'a>(r: Reader<'a>, at: BitPlace) -> Reader<'a>
+    ensures { λ q. ⌜ (q .msg ≡ r .entry .msg) × (q .at ≡ at) ⌝ }
+{
+    Reader { msg: r.msg, at }
+}
+
+// The patterns, filler and end octet that stand at a reader's place.
+pub fn rest<'a>(r: Reader<'a>, count: u32) -> Step
+    requires { ⌜ Within (now (r .msg)) (r .at .0) × (count ≤ 255) ⌝ }
+    ensures { λ s. ⌜ s ≡ stepAs entriesOf (restDue count (bitsOf (now (r .entry .msg))) (r .entry .at .0)) ⌝ }
+{
+    reading::rest(r.msg, r.at, count)
+}
+
+// The patterns of a message, from a place on.
+pub fn rest_of(msg: &[u8], at: BitPlace, count: u32) -> Step
+    requires { ⌜ Within (now msg) (at .0) × (count ≤ 255) ⌝ }
+    ensures { λ s. ⌜ s ≡ stepAs entriesOf (restDue count (bitsOf (now (msg .entry))) (at .0)) ⌝ }
+{
+    rest(moved(start(msg), at), count)
+}
+
 // Judges a whole message, and changes nothing.
 pub fn judge(msg: &[u8]) -> Judged
     ensures { λ r. ⌜ r ≡ judgedOf (readTone (now (msg .entry))) ⌝ }
@@ -56,7 +111,7 @@ pub fn judge(msg: &[u8]) -> Judged
             at: BitPlace(0),
         };
     }
-    match reading::open(msg, BitPlace(0)) {
+    match front_of(msg) {
         Opening::Closed { number, at: fault } => Judged::Faulty { number, at: fault },
         Opening::Opened {
             song,
@@ -64,7 +119,7 @@ pub fn judge(msg: &[u8]) -> Judged
             octets,
             count,
             next: at,
-        } => match reading::rest(msg, at, count) {
+        } => match rest_of(msg, at, count) {
             Step::Bad { number, at: fault } => Judged::Faulty { number, at: fault },
             Step::Good {
                 value: entries,

@@ -55,7 +55,7 @@ zero-allowed : (k : ℕ) → allowed k 0 ≡ true
 unfolding allowed
 zero-allowed k = pick-elim (λ (b : Bool). b ≡ true) (eqb k 1) (λ _. refl) (λ _. pick-elim (λ (b : Bool). b ≡ true) (eqb k 3) (λ _. refl) (λ _. refl))
 
-is-instruction : (k : ℕ) → isInstruction k ≡ true → (1 ≤ k) × (k ≤ 5)
+pub is-instruction : (k : ℕ) → isInstruction k ≡ true → (1 ≤ k) × (k ≤ 5)
 is-instruction k h = let a = and-true (leb 1 k) (leb k 5) h in (leb-true 1 k (a .0), leb-true k 5 (a .1))
 
 pub instruction-exact : Exact instructionDue Instruction (λ _ e. entryBits e)

@@ -7,8 +7,8 @@ use Rattle.reader.proofs.Judgements.{judgements}
 returns : tie.Need-returns
 returns c = search (judgements, needs)
 
-open-requires : tie.Need-open-requires
-open-requires c κs = search needs
+front-of-requires : tie.Need-front-of-requires
+front-of-requires c κs = search needs
 
 enum-known-number : tie.Need-enum-known-number
 enum-known-number c = search needs
@@ -16,8 +16,8 @@ enum-known-number c = search needs
 enum-known-song : tie.Need-enum-known-song
 enum-known-song c = search needs
 
-rest-requires : tie.Need-rest-requires
-rest-requires c κs = search (judgements, needs)
+rest-of-requires : tie.Need-rest-of-requires
+rest-of-requires c κs = search (judgements, needs)
 
 enum-known-number-2 : tie.Need-enum-known-number-2
 enum-known-number-2 c = search needs
@@ -45,10 +45,10 @@ judge-spec =
     tie.close
     (tie.spec
     returns
-    open-requires
+    front-of-requires
     enum-known-number
     enum-known-song
-    rest-requires
+    rest-of-requires
     enum-known-number-2
     enum-known-entries
     place-after-requires

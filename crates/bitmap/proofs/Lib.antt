@@ -1,0 +1,12 @@
+pub mod Sums
+pub mod Ones
+pub mod Counting
+pub mod Pixels
+pub mod Sizing
+pub mod Judging
+pub mod Filling
+pub mod Rules
+pub mod Exits
+pub mod Calls
+pub mod Unique
+pub mod Samples

@@ -1,0 +1,15 @@
+-- The sample messages of bitmaps hold of the rules.
+use mathlib.Core.Path.{refl}
+use Rattle.bitmap.specs.Image.{sizesTaken, imageOctets, pixel, sum, blackPixels}
+use Rattle.bitmap.specs.Bitmap.{judged, reading}
+use Rattle.bitmap.specs.Samples.{P11, P12}
+
+-- 00 08 02 01 FF 01: 9 black pixels
+pub p11 : P11
+unfolding sizesTaken imageOctets pixel sum blackPixels judged reading
+p11 = refl
+
+-- one octet short: 16
+pub p12 : P12
+unfolding sizesTaken imageOctets judged reading
+p12 = refl

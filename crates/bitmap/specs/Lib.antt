@@ -1,0 +1,4 @@
+pub mod Image
+pub mod Bitmap
+pub mod Promises
+pub mod Samples

@@ -1,0 +1,11 @@
+pub mod Bodies
+pub mod Demand3
+pub mod Pieces
+pub mod Skips
+pub mod Copies
+pub mod Heads
+pub mod Builds
+pub mod Rebuilt
+pub mod Changes
+pub mod Planning
+pub mod Finishing

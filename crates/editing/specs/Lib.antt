@@ -1,0 +1,5 @@
+pub mod Change
+pub mod Editing
+pub mod Places
+pub mod Plan
+pub mod Promise

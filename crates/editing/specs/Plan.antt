@@ -1,0 +1,55 @@
+-- The plan of an edit: why it is refused, or what is put where.
+use Prim.Native.Nat.{ℕ, _+_, _*_, _^_, _≤_, _<_}
+use mathlib.Core.Path.{_≡_}
+use mathlib.Core.Bool.{Bool, _&&_}
+use mathlib.Core.List.{List}
+use lib.ListN.{length}
+use lib.Dec.{leb}
+use Rattle.bits.specs.Choice.{pick}
+use Rattle.bits.specs.Bits.{bitsOf, placeAfter}
+use Rattle.bits.specs.Outcome.{Outcome, accepted, refused}
+use Rattle.tone.specs.Tone.{cells, Formed}
+use Rattle.tone.specs.Writing.{songBits, mostOctets}
+use Rattle.editing.specs.declared.Edit.{Edit}
+use Rattle.editing.specs.declared.Plan.{Plan}
+use Rattle.editing.specs.declared.Plan.the-variants.{Halt, Go}
+use Rattle.editing.specs.Change.{inBody, empties, overfills, changed}
+use Rattle.editing.specs.Editing.{editTone}
+use Rattle.editing.specs.Places.{toneOf, Accepted, joined}
+
+-- deleting a part's only instruction is 13, inserting into a part of 255 is 14, and anything else 0
+abbrev pub overdoneOf : Edit → ℕ → ℕ
+overdoneOf ed n = pick (empties ed n) 13 (pick (overfills ed n) 14 0)
+
+-- the ground against an edit at i of n instructions: 12, 13, 14, or 0 for none
+abbrev pub groundOf : Edit → ℕ → ℕ → ℕ
+groundOf ed i n = pick (leb 1 n && inBody ed i n) (overdoneOf ed n) 12
+
+-- an accepted message, the place of its first pattern, its patterns and its entries
+pub record Known (m : List ℕ) (first p e : ℕ) : Type 0 where
+  pub stands : Accepted m first
+  pub short : length m ≤ mostOctets
+  pub patterns : p ≡ length (toneOf m .patterns)
+  pub entries : e ≡ length (cells (toneOf m .patterns))
+
+-- these places and pieces are in order, and within the message
+pub record CanBuild (m : List ℕ) (head cell at behind end w v : ℕ) : Type 0 where
+  pub ahead : head + 17 ≤ at
+  pub inside : at ≤ placeAfter (length m)
+  pub order : behind ≤ end
+  pub ends : end ≤ placeAfter (length m)
+  pub header : cell < 2 ^ 17
+  pub width : w ≤ 17
+  pub value : v < 2 ^ w
+
+-- the edit is accepted, and these places and pieces spell the changed tone's song
+pub record Going (m : List ℕ) (ed : Edit) (k i head cell at behind end w v : ℕ) : Type 0 where
+  pub accepts : editTone ed k i (toneOf m) ≡ accepted (changed ed k i (toneOf m))
+  pub formed : Formed (changed ed k i (toneOf m))
+  pub spells : joined (bitsOf m) head cell at w v behind end ≡ songBits (changed ed k i (toneOf m))
+  pub can : CanBuild m head cell at behind end w v
+
+-- what a plan says of an edit
+abbrev pub Plans : List ℕ → Edit → ℕ → ℕ → Plan → Type 0
+Plans m ed k i (Halt n) = editTone ed k i (toneOf m) ≡ refused n 0
+Plans m ed k i (Go head cell spot piece) = Going m ed k i (head .0) cell (spot .at .0) (spot .behind .0) (spot .end .0) (piece .width) (piece .value)

@@ -1,0 +1,535 @@
+ghost use mathlib.Core.Path.{_≡_};
+ghost use mathlib.Core.Bool.{Bool, true, false};
+ghost use mathlib.Core.List.{List, [], _∷_, _++_};
+ghost use Prim.Native.Nat.{ℕ, _+_, _-_, _*_, _^_, _≤_, _<_};
+ghost use lib.ListN.{length, take, drop};
+ghost use Rattle.bits.specs.Bits.{bitsN, bitsOf, placeAfter, octetsTo};
+ghost use Rattle.bits.specs.Lent.{over};
+ghost use Rattle.bits.specs.Sink.{written, InHand, Put};
+ghost use Rattle.tone.specs.Table.{width as widthOf, allowed as allowedOf};
+ghost use Rattle.tone.specs.Writing.{tableBits};
+ghost use Rattle.reading.specs.Answers.{Within};
+ghost use Rattle.reader.specs.Judging.{TableAt};
+ghost use Rattle.editing.specs.Change.{isNew as isNewOf, carriesNew, carried, removed as removedOf, inBody};
+ghost use Rattle.tone.specs.Tone.{Tone};
+ghost use Rattle.editing.specs.Places.{SomeTable, Puts, toneOf, Accepted, HeadAt, SpotIn, Begun, Built, headed, reached, pieced, joined};
+ghost use lib.IntN.{pos, _-ℤ_};
+ghost use Rattle.bits.specs.Outcome.{accepted};
+ghost use Rattle.tone.specs.Tone.{Formed};
+ghost use Rattle.tone.specs.Writing.{songBits, toneOctets, WellFormed};
+ghost use Rattle.editing.specs.Editing.{cleared, inBuffer, withList};
+ghost use Rattle.editing.specs.Promise.{Leaves, EditPromise};
+ghost use Rattle.editing.specs.Plan.{overdoneOf, groundOf, Known, CanBuild, Plans};
+use bits::BitPlace;
+use bits::OctetCount;
+use bits::Sink;
+use playing::Listed;
+use reader::Judged;
+
+// What an edit does at an instruction: replace it, insert before it, or delete it. The new instruction is one table entry.
+pub enum Edit {
+    Replace(u32),
+    Insert(u32),
+    Delete,
+}
+
+// What an edit answers: the new length, the entries of the new list, its return mark and the change in octets; or the refusal.
+pub enum Answer {
+    Edited {
+        length: OctetCount,
+        entries: u32,
+        mark: u32,
+        change: i32,
+    },
+    Refused {
+        number: u32,
+        place: BitPlace,
+    },
+}
+
+// ---- the new instruction
+
+// Is the entry an instruction of kind 1 to 5 whose code is in the table?
+fn is_new(cell: u32) -> bool
+    ensures { λ r. ⌜ r ≡ isNewOf cell ⌝ }
+{
+    let kind = cell / 65536;
+    let payload = cell % 65536;
+    if kind < 1 {
+        return false;
+    }
+    if 5 < kind {
+        return false;
+    }
+    if payload < 1u32 << reading::width(kind) {
+        return reading::allowed(kind, payload);
+    }
+    false
+}
+
+// Does the edit carry such an instruction, where it carries one?
+fn carries_new(edit: Edit) -> bool
+    ensures { λ r. ⌜ r ≡ carriesNew edit ⌝ }
+{
+    match edit {
+        Edit::Replace(cell) => is_new(cell),
+        Edit::Insert(cell) => is_new(cell),
+        Edit::Delete => true,
+    }
+}
+
+// The bits that an edit puts: how many, and the number that they spell.
+pub struct Piece {
+    pub width: u32,
+    pub value: u32,
+}
+
+// The bits of an instruction.
+fn piece_of(cell: u32) -> Piece
+    requires { ⌜ isNewOf cell ≡ true ⌝ }
+    ensures { λ r. ⌜ Puts (cell ∷ []) (r .width) (r .value) ⌝ }
+{
+    let kind = cell / 65536;
+    let w = reading::width(kind);
+    Piece {
+        width: 3 + w,
+        value: (kind << w) + cell % 65536,
+    }
+}
+
+// The bits that an edit puts: those of its instruction, or none.
+fn carried_piece(edit: Edit) -> Piece
+    requires { ⌜ carriesNew edit ≡ true ⌝ }
+    ensures { λ r. ⌜ Puts (carried edit) (r .width) (r .value) ⌝ }
+{
+    match edit {
+        Edit::Replace(cell) => piece_of(cell),
+        Edit::Insert(cell) => piece_of(cell),
+        Edit::Delete => Piece { width: 0, value: 0 },
+    }
+}
+
+// How many instructions an edit takes away.
+fn removed(edit: Edit) -> usize
+    ensures { λ r. ⌜ (r ≡ removedOf edit) × (r ≤ 1) ⌝ }
+{
+    match edit {
+        Edit::Replace(_) => 1,
+        Edit::Insert(_) => 0,
+        Edit::Delete => 1,
+    }
+}
+
+// ---- places
+
+// The place behind `n` entries that stand at a place.
+fn skip(msg: &[u8], at: BitPlace, n: usize) -> BitPlace
+    requires { ⌜ Within (now msg) (at .0) ⌝ }
+    requires { ⌜ SomeTable (now msg) (at .0) n ⌝ }
+    ensures { λ r. ⌜ ((t : List ℕ) → TableAt (now (msg .entry)) (at .0) t → n ≤ length t → r .0 ≡ at .0 + length (tableBits (take n t))) ⌝ }
+{
+    let mut place = at;
+    let mut i: usize = 0;
+    while i < n {
+        let c = reading::entry_at(msg, place);
+        place = c.next;
+        i += 1;
+    }
+    place
+}
+
+// The header of a pattern: its place, its entry, the place behind it, and how many entries stand ahead of it.
+pub struct Head {
+    pub at: BitPlace,
+    pub cell: u32,
+    pub next: BitPlace,
+    pub ahead: usize,
+}
+
+// The header of pattern `k` of an accepted message whose first pattern stands at a place.
+fn find_header(msg: &[u8], first: BitPlace, k: usize) -> Head
+    requires { ⌜ Within (now msg) (first .0) ⌝ }
+    requires { ⌜ Accepted (now msg) (first .0) ⌝ }
+    requires { ⌜ k < length (toneOf (now msg) .patterns) ⌝ }
+    ensures { λ r. ⌜ HeadAt (toneOf (now (msg .entry))) k (r .at .0) (r .cell) (r .next .0) (r .ahead) ⌝ }
+{
+    let mut place = first;
+    let mut ahead: usize = 0;
+    let mut j: usize = 0;
+    while j < k {
+        let c = reading::entry_at(msg, place);
+        let n = (c.cell % 256) as usize;
+        let next = c.next;
+        place = skip(msg, next, n);
+        ahead += 1 + n;
+        j += 1;
+    }
+    let c = reading::entry_at(msg, place);
+    let next = c.next;
+    Head {
+        at: place,
+        cell: c.cell,
+        next,
+        ahead,
+    }
+}
+
+// Where an instruction stands, where what is left behind it does, and where the patterns end.
+pub struct Spot {
+    pub at: BitPlace,
+    pub behind: BitPlace,
+    pub end: BitPlace,
+}
+
+// The places behind `i` entries, behind `r` more and behind `n` more.
+fn find_spot(msg: &[u8], next: BitPlace, i: usize, r: usize, n: usize) -> Spot
+    requires { ⌜ Within (now msg) (next .0) ⌝ }
+    requires { ⌜ SomeTable (now msg) (next .0) (i + r + n) ⌝ }
+    ensures { λ s. ⌜ ((t : List ℕ) → TableAt (now (msg .entry)) (next .0) t → i + r + n ≤ length t → SpotIn t (next .0) i r n (s .at .0) (s .behind .0) (s .end .0)) ⌝ }
+{
+    let at = skip(msg, next, i);
+    let behind = skip(msg, at, r);
+    let end = skip(msg, behind, n);
+    Spot { at, behind, end }
+}
+
+// ---- copying
+
+// Copies the first `n` octets.
+fn copy_octets(from: &[u8], n: usize, to: &mut [u8])
+    requires { ⌜ (n ≤ length (now from)) × (n ≤ length (now to)) ⌝ }
+    ensures { λ _. ⌜ now (to .exit) ≡ over (take n (now (from .entry))) (now (to .entry)) ⌝ }
+{
+    let mut i: usize = 0;
+    while i < n {
+        to[i] = from[i];
+        i += 1;
+    }
+}
+
+// Puts the `n` bits that stand at a place.
+fn copy_bits(msg: &[u8], at: BitPlace, n: usize, out: &mut [u8], sink: Sink) -> Sink
+    requires { ⌜ InHand (sink .n) (sink .acc) ⌝ }
+    requires { ⌜ (at .0 + n ≤ placeAfter (length (now msg))) × (length (now msg) < 2 ^ 60) × (placeAfter (sink .octets .0) + sink .n + n ≤ placeAfter (length (now out))) ⌝ }
+    ensures { λ r. ⌜ Put (written (now (out .entry)) (sink .octets .0) (sink .n) (sink .acc)) (take n (drop (at .0) (bitsOf (now (msg .entry))))) (placeAfter (sink .octets .0) + sink .n + n) (now (out .entry)) (now (out .exit)) (r .octets .0) (r .n) (r .acc) ⌝ }
+{
+    let mut s = sink;
+    let mut place = at.0;
+    let mut left = n;
+    while 24 <= left {
+        s = bits::put(out, s, 24, bits::look(msg, BitPlace(place)));
+        place += 24;
+        left -= 24;
+    }
+    if left == 0 {
+        return s;
+    }
+    let x = bits::look(msg, BitPlace(place));
+    bits::put(out, s, left as u32, bits::part(x, 0, left as u32))
+}
+
+// Copies the first `n` bits of a message to the start of a buffer.
+fn copy_front(msg: &[u8], n: usize, out: &mut [u8]) -> Sink
+    requires { ⌜ (n ≤ placeAfter (length (now msg))) × (length (now msg) < 2 ^ 60) × (n ≤ placeAfter (length (now out))) ⌝ }
+    ensures { λ r. ⌜ Begun (take n (bitsOf (now (msg .entry)))) (now (out .exit)) (r .octets .0) (r .n) (r .acc) ⌝ }
+{
+    let whole = bits::octets_before(BitPlace(n));
+    copy_octets(msg, whole.0, out);
+    let at = bits::place_after(whole);
+    let s = Sink {
+        octets: whole,
+        n: 0,
+        acc: 0,
+    };
+    copy_bits(msg, at, n - at.0, out, s)
+}
+
+// ---- building a message anew
+
+// The bits ahead of a header, and the header.
+fn put_header(msg: &[u8], head: usize, cell: u32, out: &mut [u8]) -> Sink
+    requires { ⌜ (head ≤ placeAfter (length (now msg))) × (length (now msg) < 2 ^ 60) × (cell < 2 ^ 17) × (head + 17 ≤ placeAfter (length (now out))) ⌝ }
+    ensures { λ r. ⌜ Begun (headed (bitsOf (now (msg .entry))) head cell) (now (out .exit)) (r .octets .0) (r .n) (r .acc) ⌝ }
+{
+    let s = copy_front(msg, head, out);
+    bits::put(out, s, 17, cell)
+}
+
+// Then the bits up to a place.
+fn put_ahead(msg: &[u8], head: usize, cell: u32, at: usize, out: &mut [u8]) -> Sink
+    requires { ⌜ (head + 17 ≤ at) × (at ≤ placeAfter (length (now msg))) × (length (now msg) < 2 ^ 60) × (cell < 2 ^ 17) × (at ≤ placeAfter (length (now out))) ⌝ }
+    ensures { λ r. ⌜ Begun (reached (bitsOf (now (msg .entry))) head cell at) (now (out .exit)) (r .octets .0) (r .n) (r .acc) ⌝ }
+{
+    let s = put_header(msg, head, cell, out);
+    let behind = head + 17;
+    copy_bits(msg, BitPlace(behind), at - behind, out, s)
+}
+
+// Then a piece.
+fn put_piece(msg: &[u8], head: usize, cell: u32, at: usize, piece: Piece, out: &mut [u8]) -> Sink
+    requires { ⌜ (head + 17 ≤ at) × (at ≤ placeAfter (length (now msg))) × (length (now msg) < 2 ^ 60) × (cell < 2 ^ 17) × (at + piece .width ≤ placeAfter (length (now out))) ⌝ }
+    requires { ⌜ (piece .width ≤ 17) × (piece .value < 2 ^ piece .width) ⌝ }
+    ensures { λ r. ⌜ Begun (pieced (bitsOf (now (msg .entry))) head cell at (piece .width) (piece .value)) (now (out .exit)) (r .octets .0) (r .n) (r .acc) ⌝ }
+{
+    let s = put_ahead(msg, head, cell, at, out);
+    bits::put(out, s, piece.width, piece.value)
+}
+
+// Then the bits behind it up to the patterns' end, filler and the end octet.
+fn build(
+    msg: &[u8],
+    header: BitPlace,
+    cell: u32,
+    spot: Spot,
+    piece: Piece,
+    out: &mut [u8],
+) -> OctetCount
+    requires { ⌜ (header .0 + 17 ≤ spot .at .0) × (spot .at .0 ≤ placeAfter (length (now msg))) × (length (now msg) < 2 ^ 60) × (cell < 2 ^ 17) ⌝ }
+    requires { ⌜ (piece .width ≤ 17) × (piece .value < 2 ^ piece .width) × (spot .behind .0 ≤ spot .end .0) × (spot .end .0 ≤ placeAfter (length (now msg))) ⌝ }
+    requires { ⌜ octetsTo (spot .at .0 + piece .width + (spot .end .0 - spot .behind .0)) + 1 ≤ length (now out) ⌝ }
+    ensures { λ r. ⌜ Built (joined (bitsOf (now (msg .entry))) (header .0) cell (spot .at .0) (piece .width) (piece .value) (spot .behind .0) (spot .end .0)) (now (out .exit)) (r .0) ⌝ }
+{
+    let s = put_piece(msg, header.0, cell, spot.at.0, piece, out);
+    let behind = spot.behind;
+    let n = spot.end.0 - behind.0;
+    let t = copy_bits(msg, behind, n, out, s);
+    bits::seal(out, t)
+}
+
+// ---- the plan
+
+// How many instructions an edit puts.
+fn added(edit: Edit) -> u32
+    ensures { λ r. ⌜ (r ≡ length (carried edit)) × (r ≤ 1) ⌝ }
+{
+    match edit {
+        Edit::Replace(_) => 1,
+        Edit::Insert(_) => 1,
+        Edit::Delete => 0,
+    }
+}
+
+// Is the position that of one of `n` instructions? Insert at the count appends.
+fn in_body(edit: Edit, i: usize, n: usize) -> bool
+    ensures { λ r. ⌜ r ≡ inBody edit i n ⌝ }
+{
+    match edit {
+        Edit::Replace(_) => i < n,
+        Edit::Insert(_) => i <= n,
+        Edit::Delete => i < n,
+    }
+}
+
+// Deleting a part's only instruction is 13, inserting into a part of 255 is 14.
+fn overdone(edit: Edit, n: usize) -> u32
+    ensures { λ r. ⌜ r ≡ overdoneOf edit n ⌝ }
+{
+    match edit {
+        Edit::Replace(_) => 0,
+        Edit::Insert(_) => {
+            if n == 255 {
+                return 14;
+            }
+            0
+        }
+        Edit::Delete => {
+            if n == 1 {
+                return 13;
+            }
+            0
+        }
+    }
+}
+
+// The ground against an edit at position `i` of `n` instructions, 0 for none. A recall has none of its own.
+fn ground(edit: Edit, i: usize, n: usize) -> u32
+    ensures { λ r. ⌜ r ≡ groundOf edit i n ⌝ }
+{
+    if n < 1 {
+        return 12;
+    }
+    if in_body(edit, i, n) {
+        return overdone(edit, n);
+    }
+    12
+}
+
+// Why an edit is refused, or what is put where.
+pub enum Plan {
+    Halt(u32),
+    Go {
+        header: BitPlace,
+        cell: u32,
+        spot: Spot,
+        piece: Piece,
+    },
+}
+
+// The plan of an edit of an accepted message of so many patterns and entries, whose first pattern stands at a place.
+fn plan_edit(
+    msg: &[u8],
+    first: BitPlace,
+    patterns: usize,
+    entries: usize,
+    edit: Edit,
+    k: usize,
+    i: usize,
+) -> Plan
+    requires { ⌜ Within (now msg) (first .0) ⌝ }
+    requires { ⌜ Known (now msg) (first .0) patterns entries ⌝ }
+    ensures { λ r. ⌜ Plans (now (msg .entry)) edit k i r ⌝ }
+{
+    if !carries_new(edit) {
+        return Plan::Halt(6);
+    }
+    if patterns <= k {
+        return Plan::Halt(12);
+    }
+    let h = find_header(msg, first, k);
+    let fault = ground(edit, i, (h.cell % 256) as usize);
+    if fault != 0 {
+        return Plan::Halt(fault);
+    }
+    let r = removed(edit);
+    let header = h.at;
+    let next = h.next;
+    let spot = find_spot(msg, next, i, r, entries - h.ahead - 1 - i - r);
+    Plan::Go {
+        header,
+        cell: h.cell + added(edit) - r as u32,
+        spot,
+        piece: carried_piece(edit),
+    }
+}
+
+// ---- the edit
+
+// The change in octets: the new length minus the old.
+fn change(new: OctetCount, old: OctetCount) -> i32
+    requires { ⌜ (new .0 ≤ 4096) × (old .0 ≤ 4096) ⌝ }
+    ensures { λ r. ⌜ r ≡ pos (new .0) -ℤ pos (old .0) ⌝ }
+{
+    new.0 as i32 - old.0 as i32
+}
+
+// Zeros from one place of a buffer up to another.
+fn clear(buf: &mut [u8], from: usize, to: usize)
+    requires { ⌜ to ≤ length (now buf) ⌝ }
+    ensures { λ _. ⌜ now (buf .exit) ≡ cleared from to (now (buf .entry)) ⌝ }
+{
+    let mut i = from;
+    while i < to {
+        buf[i] = 0;
+        i += 1;
+    }
+}
+
+// Puts a message that was built, and its list, in place of the old ones; or the list refuses, and nothing changes.
+fn finish(buf: &mut [u8], used: OctetCount, new: &[u8], list: &mut [u32]) -> Answer
+    requires { ⌜ (used .0 ≤ length (now buf)) × (used .0 ≤ 4096) × (length (now new) ≤ length (now buf)) × (length (now new) ≤ 4096) ⌝ }
+    ensures { λ r. ⌜ ((t : Tone) → WellFormed t → toneOctets t ≡ now (new .entry) → Leaves (withList (length (now (list .entry))) (accepted t)) (used .0) (now (buf .entry)) (now (list .entry)) (now (buf .exit)) (now (list .exit)) r) ⌝ }
+{
+    match playing::list(new, list) {
+        Listed::Refused { number, place } => Answer::Refused { number, place },
+        Listed::Made { entries, mark } => {
+            let n = new.len();
+            copy_octets(new, n, buf);
+            clear(buf, n, used.0);
+            Answer::Edited {
+                length: OctetCount(n),
+                entries,
+                mark,
+                change: change(OctetCount(n), used),
+            }
+        }
+    }
+}
+
+// Carries out a plan: the message is built apart, and then put in place.
+fn carry_out(
+    buf: &mut [u8],
+    used: OctetCount,
+    header: BitPlace,
+    cell: u32,
+    spot: Spot,
+    piece: Piece,
+    list: &mut [u32],
+) -> Answer
+    requires { ⌜ (used .0 ≤ length (now buf)) × (used .0 ≤ 4096) × CanBuild (take (used .0) (now buf)) (header .0) cell (spot .at .0) (spot .behind .0) (spot .end .0) (piece .width) (piece .value) ⌝ }
+    ensures { λ r. ⌜ ((t : Tone) → Formed t → joined (bitsOf (take (used .0) (now (buf .entry)))) (header .0) cell (spot .at .0) (piece .width) (piece .value) (spot .behind .0) (spot .end .0) ≡ songBits t → Leaves (withList (length (now (list .entry))) (inBuffer (length (now (buf .entry))) t)) (used .0) (now (buf .entry)) (now (list .entry)) (now (buf .exit)) (now (list .exit)) r) ⌝ }
+{
+    let end = spot.at.0 + piece.width as usize + (spot.end.0 - spot.behind.0);
+    let length = bits::octets_to(BitPlace(end)).0 + 1;
+    if 4096 < length {
+        return Answer::Refused {
+            number: 1,
+            place: BitPlace(0),
+        };
+    }
+    if buf.len() < length {
+        return Answer::Refused {
+            number: 11,
+            place: BitPlace(0),
+        };
+    }
+    let mut scratch = [0u8; 4096];
+    let old = used.0;
+    let n = build(&buf[..old], header, cell, spot, piece, &mut scratch);
+    let new = n.0;
+    finish(buf, used, &scratch[..new], list)
+}
+
+// Edits the message that lies in the first `used` octets of a lent buffer, and fills a lent list.
+pub fn edit_message(
+    buf: &mut [u8],
+    used: OctetCount,
+    edit: Edit,
+    pattern: usize,
+    instruction: usize,
+    list: &mut [u32],
+) -> Answer
+    ensures { λ r. ⌜ EditPromise (now (buf .entry)) (used .0) edit pattern instruction (now (list .entry)) (now (buf .exit)) (now (list .exit)) r ⌝ }
+{
+    let old = used.0;
+    if buf.len() < old {
+        return Answer::Refused {
+            number: 1,
+            place: BitPlace(0),
+        };
+    }
+    match reader::judge(&buf[..old]) {
+        Judged::Faulty { number, at: fault } => Answer::Refused {
+            number,
+            place: fault,
+        },
+        Judged::Sound {
+            song: _,
+            unicode: _,
+            octets: _,
+            patterns,
+            entries,
+            at,
+        } => {
+            match plan_edit(
+                &buf[..old],
+                at,
+                patterns as usize,
+                entries as usize,
+                edit,
+                pattern,
+                instruction,
+            ) {
+                Plan::Halt(number) => Answer::Refused {
+                    number,
+                    place: BitPlace(0),
+                },
+                Plan::Go {
+                    header,
+                    cell,
+                    spot,
+                    piece,
+                } => carry_out(buf, used, header, cell, spot, piece, list),
+            }
+        }
+    }
+}

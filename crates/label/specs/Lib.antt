@@ -1,0 +1,2 @@
+pub mod Label
+pub mod Promises

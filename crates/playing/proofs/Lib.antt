@@ -1,0 +1,15 @@
+pub mod Below
+pub mod Durations
+pub mod Joining
+pub mod Loops
+pub mod Recalls
+pub mod Counts
+pub mod Bounds
+pub mod Grounds
+pub mod Packing
+pub mod Settling
+pub mod Tallies
+pub mod Verdicts
+pub mod Walking
+pub mod Fillings
+pub mod Outcomes

@@ -1,0 +1,285 @@
+-- Patterns are judged and counted, one a turn.
+use Prim.Native.Nat.{ℕ, zero, suc, _+_, _-_, _*_, _≤_, _<_}
+use native.Mathlib.Omega.{arith}
+use native.Mathlib.Nat.{add-zero, add-assoc, mul-one, mul-le-mul, le-trans}
+use mathlib.Core.Path.{_≡_, refl, sym, ap, ap₂, _∙_}
+use mathlib.Core.Bool.{Bool, true, false}
+use mathlib.Core.List.{List, [], _∷_, _++_, map}
+use lib.ListN.{length, getD, set, replicate, List·getD-map}
+use lib.Dec.{eqb}
+use borrow.Author.Tests.{eqb-true, eq-eqb, ne-eqb}
+use Rattle.bits.specs.Choice.{pick}
+use Rattle.bits.specs.Bits.{bitsOf}
+use Rattle.bits.specs.declared.BitPlace.{BitPlace}
+use Rattle.bits.proofs.Choice.{pick-cong, pick-elim}
+use Rattle.bits.proofs.Octets.{length-bitsOf}
+use Rattle.tone.specs.Tone.{Pattern, specifier, loopOf, partOf, pattern, noneKnown, learn}
+use Rattle.tone.specs.Reading.{Got, got, bad, onward, headerDue, bodyDue, patternsDue}
+use Rattle.tone.proofs.Rows.{header-exact, body-exact}
+use Rattle.reading.specs.declared.Step.{Step}
+use Rattle.reading.specs.declared.Step.the-variants.{Good, Bad}
+use Rattle.reading.specs.Answers.{place, stepAs, stepOf, notes}
+use Rattle.reading.proofs.Steps.{step-there, step-good, step-bad}
+use Rattle.reading.proofs.Walks.{stays}
+use Rattle.playing.specs.declared.Settings.{Settings}
+use Rattle.playing.specs.declared.Entry.{Entry}
+use Rattle.playing.specs.declared.Count.{Count}
+use Rattle.playing.specs.declared.Tally.the-variants.{Counted, Stopped}
+use Rattle.playing.specs.Playing.{Remembered, unknown, known, recalled, noBodies, noMark, markAt, Listing, passesOf, bodyOf, remember, patternPlayed, play}
+use Rattle.playing.specs.Counting.{entryCount, markOf, markFrom}
+use Rattle.playing.specs.Answers.{Total, totalFrom, noCount, counted, noted, tallyAs}
+use Rattle.playing.proofs.Counts.{pattern-count}
+use Rattle.playing.proofs.Recalls.{knownOf, remember-length, body-sounding, learn-read}
+use Rattle.playing.proofs.Bounds.{Body, Bodies, bodies-start, bodies-kept, body-kept, notes-most, passes-most}
+
+-- ---- the mark
+
+once-only : (loop : ℕ) → loop ≡ 15 → passesOf loop ≡ 1
+unfolding passesOf
+once-only loop h = rw (eq-eqb loop 15 h)
+
+mark-length : (n : ℕ) (rs : List Entry) → markAt n rs ≡ markOf n (length rs)
+mark-length n [] = refl
+mark-length n (r ∷ rs) = rw (ne-eqb (suc (length rs)) 0 (λ e. omega arith))
+
+picked-mark : (t : Bool) (g h : Listing) → pick t g h .mark ≡ pick t (g .mark) (h .mark)
+picked-mark true g h = refl
+picked-mark false g h = refl
+
+-- the mark of a list is where counting alone puts it
+pub list-mark : (s : Settings) (bodies : List Remembered) (n : ℕ) (ps : List Pattern) → play s bodies n ps .mark ≡ markFrom bodies n ps
+list-mark s bodies n [] = refl
+list-mark s bodies n (p ∷ ps) =
+    let d = patternPlayed s bodies p in
+    let k = notes (bodyOf bodies p) in
+    let m = n + length (d .entries) in
+    let more = play (d .after) (remember bodies p) m ps in
+    picked-mark (eqb (p .loop) 15) (record { entries = d .entries; mark = markAt n (d .entries) }) (record { entries = d .entries ++ more .entries; mark = more .mark })
+    ∙ pick-cong (eqb (p .loop) 15)
+    (λ h. mark-length n (d .entries) ∙ ap (markOf n) (pattern-count s bodies p ∙ one-time h))
+    (λ h. list-mark (d .after) (remember bodies p) m ps ∙ ap (λ (x : ℕ). markFrom (remember bodies p) (n + x) ps) (pattern-count s bodies p))
+  where
+    one-time : eqb (p .loop) 15 ≡ true → notes (bodyOf bodies p) * passesOf (p .loop) ≡ notes (bodyOf bodies p)
+    one-time h = rw (once-only (p .loop) (eqb-true (p .loop) 15 h)) (mul-one (notes (bodyOf bodies p)))
+
+-- ---- what is counted, resumed
+
+-- what a count comes to with the patterns that are left
+abbrev pub resumed : Count → List Remembered → List Pattern → Total
+resumed c bodies ps = pick (c .ended) (record { entries = c .entries; mark = c .mark }) (totalFrom bodies (c .entries) ps)
+
+-- one pattern
+resumed-one : (c : Count) (bodies : List Remembered) (p : Pattern) (ps : List Pattern)
+    → resumed c bodies (p ∷ ps) ≡ resumed (counted c (notes (bodyOf bodies p)) (p .loop)) (remember bodies p) ps
+unfolding counted
+resumed-one c bodies p ps = go (c .ended) (eqb (p .loop) 15)
+  where
+    go : (t u : Bool) →
+        let k = notes (bodyOf bodies p) in
+        let m = k * passesOf (p .loop) in
+        let more = entryCount (remember bodies p) ps in
+        let c′ : Count = pick t (record { entries = c .entries; mark = c .mark; ended = t }) (pick u (record { entries = c .entries + m; mark = markOf (c .entries) k; ended = true }) (record { entries = c .entries + m; mark = c .mark; ended = false })) in
+        _≡_ {A = Total} (pick t (record { entries = c .entries; mark = c .mark }) (record { entries = c .entries + (m + pick u 0 more); mark = pick u (markOf (c .entries) k) (markFrom (remember bodies p) (c .entries + m) ps) }))
+        (resumed c′ (remember bodies p) ps)
+    go true u = refl
+    go false true = ap (λ (x : ℕ). record { entries = c .entries + x; mark = markOf (c .entries) (notes (bodyOf bodies p)) }) (add-zero (notes (bodyOf bodies p) * passesOf (p .loop)))
+    go false false =
+        let m = notes (bodyOf bodies p) * passesOf (p .loop) in
+        ap (λ (x : ℕ). record { entries = x; mark = markFrom (remember bodies p) (c .entries + m) ps }) (sym (add-assoc (c .entries) m (entryCount (remember bodies p) ps)))
+
+-- ---- answers that count
+
+tally-cong : {f g : List Pattern → Total} (x : Got (List Pattern)) → ((ps : List Pattern) → f ps ≡ g ps) → tallyAs f x ≡ tallyAs g x
+tally-cong (got ps p) h = ap (λ (v : Total). Counted (v .entries) (v .mark) (place p)) (h ps)
+tally-cong (bad n p e) h = refl
+
+tally-map : (f : List Pattern → Total) (q : Pattern) (x : Got (List Pattern)) → tallyAs f (onward x (λ ps p. got (q ∷ ps) p) bad) ≡ tallyAs (λ ps. f (q ∷ ps)) x
+tally-map f q (got ps p) = refl
+tally-map f q (bad n p e) = refl
+
+-- one pattern is read
+tally-step : (k : ℕ) (c : Count) (bodies : List Remembered) (seen : List Bool) (l : List Bool) (p : ℕ) {h q : ℕ} {b : List ℕ} {r : ℕ} → headerDue seen l p ≡ got h q → bodyDue (specifier h) l q ≡ got b r
+    → tallyAs (resumed c bodies) (patternsDue (suc k) seen l p)
+    ≡ tallyAs (resumed (counted c (notes (bodyOf bodies (pattern h b))) (loopOf h)) (remember bodies (pattern h b))) (patternsDue k (learn seen h) l r)
+unfolding patternsDue
+tally-step k c bodies seen l p {h} {q} {b} {r} e f =
+    rw (e, f) (tally-map (resumed c bodies) (pattern h b) (patternsDue k (learn seen h) l r) ∙ tally-cong (patternsDue k (learn seen h) l r) (resumed-one c bodies (pattern h b)))
+
+-- ---- the notes of the four bodies
+
+abbrev notesOf : Remembered → ℕ
+notesOf r = notes (recalled r)
+
+abbrev allNotes : List Remembered → List ℕ
+allNotes = map notesOf
+
+set-notes : (bodies : List Remembered) (i : ℕ) (r : Remembered) → set (allNotes bodies) i (notesOf r) ≡ allNotes (set bodies i r)
+set-notes [] i r = refl
+set-notes (x ∷ bodies) zero r = refl
+set-notes (x ∷ bodies) (suc i) r = ap (λ (l : List ℕ). notesOf x ∷ l) (set-notes bodies i r)
+
+-- a definition's notes replace those of its id
+noted-remembers : (bodies : List Remembered) (h : ℕ) (b : List ℕ) → length b ≡ specifier h → noted (allNotes bodies) h (notes b) ≡ allNotes (remember bodies (pattern h b))
+unfolding remember
+noted-remembers bodies h b e = rw (← e) (go (eqb (length b) 0))
+  where
+    go : (t : Bool) → pick t (allNotes bodies) (set (allNotes bodies) (partOf h) (notes b)) ≡ allNotes (pick t bodies (set bodies (partOf h) (known b)))
+    go true = refl
+    go false = set-notes bodies (partOf h) (known b)
+
+-- then the notes of its id are those of the body that sounds
+notes-sounding : (bodies : List Remembered) (h : ℕ) (b : List ℕ) → length bodies ≡ 4 → getD (allNotes (remember bodies (pattern h b))) (partOf h) 0 ≡ notes (bodyOf bodies (pattern h b))
+notes-sounding bodies h b four = List·getD-map notesOf (remember bodies (pattern h b)) (partOf h) unknown ∙ ap notes (body-sounding bodies h b four)
+
+-- ---- one pattern more
+
+-- the entries of a pattern
+pub notes-times : (k r : ℕ) → k ≤ 255 → r ≤ 15 → k * r ≤ 255 * 15
+notes-times k r h l = mul-le-mul h l
+
+pub count-ended : (c : Count) (k v : ℕ) → c .ended ≡ true → c ≡ counted c k v
+unfolding counted
+count-ended c k v h = rw h
+
+module _ (c : Count) (k v : ℕ) {r : ℕ} (h : c .ended ≡ false) (l : (r ≡ passesOf v) × (1 ≤ r) × (r ≤ 15)) where
+  pub count-last : {m : ℕ} → v ≡ 15 → m ≡ markOf (c .entries) k → record { entries = c .entries + k * r; mark = m; ended = true } ≡ counted c k v
+  unfolding counted
+  count-last {m} e f = rw (h, eq-eqb v 15 e, ← f, ← l .0)
+
+  pub count-more : (v ≡ 15 → ⊥) → record { entries = c .entries + k * r; mark = c .mark; ended = false } ≡ counted c k v
+  unfolding counted
+  count-more e = rw (h, ne-eqb v 15 e, ← l .0)
+
+pub ruleset counts = (count-ended, count-last, count-more)
+
+counted-most : (c : Count) (k v : ℕ) → k ≤ 255 → v ≤ 15 → counted c k v .entries ≤ c .entries + 3825
+unfolding counted
+counted-most c k v h l =
+    let m = notes-times k (passesOf v) h (passes-most v (omega arith)) in
+    pick-elim (λ (d : Count). d .entries ≤ c .entries + 3825) (c .ended) (λ _. omega arith) (λ _.
+    pick-elim (λ (d : Count). d .entries ≤ c .entries + 3825) (eqb v 15) (λ _. omega arith) (λ _. omega arith))
+
+-- while listing goes on there is no mark
+abbrev Unmarked : Count → Type 0
+Unmarked c = c .ended ≡ false → c .mark ≡ noMark
+
+counted-unmarked : (c : Count) (k v : ℕ) → Unmarked c → Unmarked (counted c k v)
+unfolding counted
+counted-unmarked c k v h = pick-elim Unmarked (c .ended) (λ _. h) (λ e. pick-elim Unmarked (eqb v 15) (λ _ z. absurd (true-false z)) (λ _ _. h e))
+  where
+    true-false : true ≡ false → ⊥
+    true-false z = let y : _≡_ {A = ℕ} 0 1 = cc in omega arith
+
+resumed-none : (c : Count) (bodies : List Remembered) → Unmarked c → resumed c bodies [] ≡ record { entries = c .entries; mark = c .mark }
+resumed-none c bodies h =
+    pick-elim (λ (t : Total). t ≡ record { entries = c .entries; mark = c .mark }) (c .ended) (λ _. refl)
+    (λ e. λ i. record { entries = add-zero (c .entries) i; mark = sym (h e) i })
+
+-- ---- the loop
+
+-- with `left` patterns to come at p, from the bodies that are remembered and what is counted
+pub record TallyWalk (m : List ℕ) (n at : ℕ) (seen : List Bool) (noteds : List ℕ) (p left : ℕ) (c : Count) : Type 0 where
+  pub inside : p ≤ 8 * length m
+  pub fewer : c .entries + 3825 * left ≤ 3825 * n
+  pub least : left ≤ n
+  pub bodies : List Remembered
+  pub four : length bodies ≡ 4
+  pub fine : Bodies bodies
+  pub unmarked : Unmarked c
+  pub heard : seen ≡ knownOf bodies
+  pub hummed : noteds ≡ allNotes bodies
+  pub goes : tallyAs (totalFrom noBodies 0) (patternsDue n noneKnown (bitsOf m) at) ≡ tallyAs (resumed c bodies) (patternsDue left seen (bitsOf m) p)
+
+pub tally-begins : (m : List ℕ) (n at : ℕ) {c : Count} → at ≤ 8 * length m → c ≡ noCount → TallyWalk m n at noneKnown (replicate 4 0) at n c
+tally-begins m n at h e = record {
+  inside = h;
+  fewer = rw e (omega arith);
+  least = omega arith;
+  bodies = noBodies;
+  four = refl;
+  fine = bodies-start;
+  unmarked = rw e (λ _. refl);
+  heard = refl;
+  hummed = refl;
+  goes = rw e refl;
+}
+
+pub tally-done : {m : List ℕ} {n at : ℕ} {seen : List Bool} {noteds : List ℕ} {left : ℕ} {c : Count} {q : BitPlace} → TallyWalk m n at seen noteds (q .0) left c → left ≤ 0
+    → Counted (c .entries) (c .mark) q ≡ tallyAs (totalFrom noBodies 0) (patternsDue n noneKnown (bitsOf m) at)
+unfolding patternsDue
+tally-done {left = left} {c = c} {q = q} w h =
+    let e : left ≡ 0 = omega arith in
+    sym (w .goes ∙ (rw e (ap (λ (v : Total). Counted (v .entries) (v .mark) q) (resumed-none c (w .bodies) (w .unmarked)))))
+
+module _ {m : List ℕ} {n at : ℕ} {seen : List Bool} {noteds : List ℕ} {p left : ℕ} {c : Count} (w : TallyWalk m n at seen noteds p left c) where
+  module _ {s : Step} (h : 0 < left) (q : s ≡ stepOf (headerDue seen (bitsOf m) p)) where
+    one-less : left ≡ suc (left - 1)
+    one-less = omega arith
+
+    pub tally-bad : {k : ℕ} {f : BitPlace} → s ≡ Bad k f → Stopped k f ≡ tallyAs (totalFrom noBodies 0) (patternsDue n noneKnown (bitsOf m) at)
+    unfolding patternsDue
+    tally-bad g =
+        let b = step-bad (λ v. v) (headerDue seen (bitsOf m) p) (sym g ∙ q) in
+        sym (w .goes ∙ (rw (one-less, b .1)))
+
+    module _ {v : ℕ} {f : BitPlace} (g : s ≡ Good v f) where
+      header-there : headerDue seen (bitsOf m) p ≡ got v (f .0)
+      header-there = step-there (headerDue seen (bitsOf m) p) (sym g ∙ q)
+
+      pub tally-inside : f .0 ≤ 8 * length m
+      tally-inside = stays (header-exact seen) m p (w .inside) header-there
+
+      module _ {t : Step} (q′ : t ≡ stepAs notes (bodyDue (specifier v) (bitsOf m) (f .0))) where
+        pub tally-body-bad : {k : ℕ} {f′ : BitPlace} → t ≡ Bad k f′ → Stopped k f′ ≡ tallyAs (totalFrom noBodies 0) (patternsDue n noneKnown (bitsOf m) at)
+        unfolding patternsDue
+        tally-body-bad g′ =
+            let b = step-bad notes (bodyDue (specifier v) (bitsOf m) (f .0)) (sym g′ ∙ q′) in
+            sym (w .goes ∙ (rw (one-less, header-there, b .1)))
+
+        module _ {own : ℕ} {f′ : BitPlace} {noteds′ : List ℕ} (g′ : t ≡ Good own f′) (e : noteds′ ≡ noted noteds v own) where
+          read : (b : List ℕ) × (bodyDue (specifier v) (bitsOf m) (f .0) ≡ got b (f′ .0)) × (own ≡ notes b)
+          read = step-good notes (bodyDue (specifier v) (bitsOf m) (f .0)) (sym g′ ∙ q′)
+
+          size : length (read .0) ≡ specifier v
+          size = body-exact (specifier v) .sound (bitsOf m) (f .0) (rw (length-bitsOf m) tally-inside) (read .1) .good .size
+
+          body : Body (read .0)
+          body = (body-exact (specifier v) .sound (bitsOf m) (f .0) (rw (length-bitsOf m) tally-inside) (read .1) .good .each, omega (arith, size))
+
+          after : List Remembered
+          after = remember (w .bodies) (pattern v (read .0))
+
+          hummed-after : noteds′ ≡ allNotes after
+          unfolding after
+          hummed-after = e ∙ ap₂ (λ (l : List ℕ) (x : ℕ). noted l v x) (w .hummed) (read .2) ∙ noted-remembers (w .bodies) v (read .0) size
+
+          sounding : getD noteds′ (partOf v) 0 ≡ notes (bodyOf (w .bodies) (pattern v (read .0)))
+          unfolding after
+          sounding = ap (λ (l : List ℕ). getD l (partOf v) 0) hummed-after ∙ notes-sounding (w .bodies) v (read .0) (w .four)
+
+          -- what sounds has few notes
+          pub tally-notes : getD noteds′ (partOf v) 0 ≤ 255
+          tally-notes = rw sounding (le-trans (notes-most (bodyOf (w .bodies) (pattern v (read .0)))) (body-kept (w .bodies) (w .fine) (pattern v (read .0)) body .1))
+
+          pub tally-on : {seen′ : List Bool} {c′ : Count} → seen′ ≡ learn seen v → c′ ≡ counted c (getD noteds′ (partOf v) 0) (loopOf v) → TallyWalk m n at seen′ noteds′ (f′ .0) (left - 1) c′
+          unfolding after
+          tally-on {seen′} {c′} l k =
+              let d = c′ in
+              let k′ : c′ ≡ counted c (notes (bodyOf (w .bodies) (pattern v (read .0)))) (loopOf v) = k ∙ ap (λ (x : ℕ). counted c x (loopOf v)) sounding in
+              let most : c′ .entries ≤ c .entries + 3825 = rw k (counted-most c (getD noteds′ (partOf v) 0) (loopOf v) tally-notes (omega arith)) in
+              record {
+                inside = stays (body-exact (specifier v)) m (f .0) tally-inside (read .1);
+                fewer = omega (arith, w .fewer);
+                least = omega (arith, w .least);
+                bodies = after;
+                four = remember-length (w .bodies) (pattern v (read .0)) ∙ w .four;
+                fine = bodies-kept (w .bodies) (w .fine) (pattern v (read .0)) body;
+                unmarked = rw k (counted-unmarked c (getD noteds′ (partOf v) 0) (loopOf v) (w .unmarked));
+                heard = l ∙ ap (λ (x : List Bool). learn x v) (w .heard) ∙ learn-read (w .bodies) v (read .0) size;
+                hummed = hummed-after;
+                goes = w .goes ∙ ap (λ (x : ℕ). tallyAs (resumed c (w .bodies)) (patternsDue x seen (bitsOf m) p)) one-less
+                    ∙ tally-step (left - 1) c (w .bodies) seen (bitsOf m) p header-there (read .1)
+                    ∙ ap₂ (λ (x : Count) (y : List Bool). tallyAs (resumed x after) (patternsDue (left - 1) y (bitsOf m) (f′ .0))) (sym k′) (sym l);
+              }
+
+pub ruleset tallies = (tally-begins, tally-done, tally-bad, tally-inside, tally-body-bad, tally-notes, tally-on)

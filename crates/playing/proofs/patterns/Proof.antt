@@ -1,0 +1,98 @@
+-- `playing::patterns` meets its contract. What is left to read falls with each turn.
+use Rattle.playing.proofs.patterns.Statement.{statement}
+use Rattle.playing.proofs.patterns.Tie as tie
+use borrow.Author.Needs.{needs}
+use Rattle.playing.proofs.Tallies.{TallyWalk, tallies}
+
+abbrev Inv-loop : tie.InvT-loop
+Inv-loop msg n known₀ notes₀ place₀ left₀ count₀ known notes place left count = TallyWalk msg n (place₀ .0) known notes (place .0) left count
+
+abbrev μ-loop : tie.MeasureT-loop
+μ-loop msg n known₀ notes₀ place₀ left₀ count₀ known notes place left count = left
+
+none-requires : tie.Need-none-requires Inv-loop μ-loop
+none-requires c κs = search (tallies, needs)
+
+loop-holds : tie.Need-loop-holds Inv-loop μ-loop
+loop-holds c = search (tallies, needs)
+
+header-requires : tie.Need-header-requires Inv-loop μ-loop
+header-requires c κs = search (tallies, needs)
+
+enum-known-number : tie.Need-enum-known-number Inv-loop μ-loop
+enum-known-number c = search (tallies, needs)
+
+returns : tie.Need-returns Inv-loop μ-loop
+returns c = search (tallies, needs)
+
+enum-known-value : tie.Need-enum-known-value Inv-loop μ-loop
+enum-known-value c = search (tallies, needs)
+
+body-requires : tie.Need-body-requires Inv-loop μ-loop
+body-requires c κs = search (tallies, needs)
+
+enum-known-number-2 : tie.Need-enum-known-number-2 Inv-loop μ-loop
+enum-known-number-2 c = search (tallies, needs)
+
+returns-2 : tie.Need-returns-2 Inv-loop μ-loop
+returns-2 c = search (tallies, needs)
+
+enum-known-own : tie.Need-enum-known-own Inv-loop μ-loop
+enum-known-own c = search (tallies, needs)
+
+learned-requires : tie.Need-learned-requires Inv-loop μ-loop
+learned-requires c κs = search (tallies, needs)
+
+noted-requires : tie.Need-noted-requires Inv-loop μ-loop
+noted-requires c κs = search (tallies, needs)
+
+cast-sounding : tie.Need-cast-sounding Inv-loop μ-loop
+cast-sounding c = search (tallies, needs)
+
+mul-sounding : tie.Need-mul-sounding Inv-loop μ-loop
+mul-sounding c = search (tallies, needs)
+
+array-read-sounding : tie.Need-array-read-sounding Inv-loop μ-loop
+array-read-sounding c = search (tallies, needs)
+
+with-requires : tie.Need-with-requires Inv-loop μ-loop
+with-requires c κs = search (tallies, needs)
+
+sub-left : tie.Need-sub-left Inv-loop μ-loop
+sub-left c = search (tallies, needs)
+
+loop-less : tie.Need-loop-less Inv-loop μ-loop
+loop-less c = search (tallies, needs)
+
+loop-again : tie.Need-loop-again Inv-loop μ-loop
+loop-again c = search (tallies, needs)
+
+returns-3 : tie.Need-returns-3 Inv-loop μ-loop
+returns-3 c = search (tallies, needs)
+
+pub patterns-spec : {M : Type 1} → statement M
+patterns-spec =
+    tie.close
+    (tie.spec
+    Inv-loop
+    μ-loop
+    none-requires
+    loop-holds
+    header-requires
+    enum-known-number
+    returns
+    enum-known-value
+    body-requires
+    enum-known-number-2
+    returns-2
+    enum-known-own
+    learned-requires
+    noted-requires
+    cast-sounding
+    mul-sounding
+    array-read-sounding
+    with-requires
+    sub-left
+    loop-less
+    loop-again
+    returns-3)

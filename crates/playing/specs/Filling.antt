@@ -1,0 +1,82 @@
+-- What filling a list is handed, and what it leaves.
+use Prim.Native.Nat.{ℕ, _+_, _*_, _≤_}
+use mathlib.Core.Path.{_≡_}
+use mathlib.Core.List.{List, []}
+use lib.ListN.{length, set}
+use lib.Seq.{sets}
+use lib.Dec.{eqb}
+use Rattle.bits.specs.Choice.{pick}
+use Rattle.bits.specs.Bits.{bitsOf}
+use Rattle.bits.specs.declared.BitPlace.{BitPlace}
+use Rattle.tone.specs.Tone.{Pattern, specifier, partOf, noneKnown}
+use Rattle.tone.specs.Reading.{Got, got, bad, bodyDue, patternsDue}
+use Rattle.reading.specs.Answers.{Within}
+use Rattle.playing.specs.declared.Part.{Part}
+use Rattle.playing.specs.declared.Part.the-variants.{Known}
+use Rattle.playing.specs.declared.Walk.{Walk}
+use Rattle.playing.specs.Duration.{beats}
+use Rattle.playing.specs.Sounding.{numbers}
+use Rattle.playing.specs.Ranges.{InRange}
+use Rattle.playing.specs.Playing.{Played}
+
+-- ---- what stands in a message
+
+-- what was read, or d
+abbrev pub valueOr : {A : Type 0} → A → Got A → A
+valueOr d (got a p) = a
+valueOr d (bad n p e) = d
+
+-- the place behind it
+abbrev pub behindOr : {A : Type 0} → Got A → ℕ
+behindOr (got a p) = p
+behindOr (bad n p e) = p
+
+-- the n instructions at a place
+abbrev pub bodyIn : List ℕ → ℕ → ℕ → List ℕ
+bodyIn m at n = valueOr [] (bodyDue n (bitsOf m) at)
+
+-- the place behind them
+abbrev pub behindIn : List ℕ → ℕ → ℕ → ℕ
+behindIn m at n = behindOr (bodyDue n (bitsOf m) at)
+
+-- n instructions stand at a place: the body b, and the place q behind it
+pub record BodyAt (m : List ℕ) (at n : ℕ) (b : List ℕ) (q : ℕ) : Type 0 where
+  pub within : Within m at
+  pub short : n ≤ 255
+  pub reads : bodyDue n (bitsOf m) at ≡ got b q
+
+-- the n patterns at a place, of which none is defined ahead
+abbrev pub patternsIn : List ℕ → ℕ → ℕ → List Pattern
+patternsIn m at n = valueOr [] (patternsDue n noneKnown (bitsOf m) at)
+
+-- the place behind them
+abbrev pub endIn : List ℕ → ℕ → ℕ → ℕ
+endIn m at n = behindOr (patternsDue n noneKnown (bitsOf m) at)
+
+-- n patterns stand at a place
+pub record PatternsAt (m : List ℕ) (at n : ℕ) (ps : List Pattern) (q : ℕ) : Type 0 where
+  pub within : Within m at
+  pub reads : patternsDue n noneKnown (bitsOf m) at ≡ got ps q
+
+-- the four parts after a header, whose own instructions stand at next: a definition replaces the part of its id
+abbrev pub partsAfter : List Part → ℕ → BitPlace → List Part
+partsAfter parts h next = pick (eqb (specifier h) 0) parts (set parts (partOf h) (Known next (specifier h)))
+
+-- where the next header stands: a recall has no instructions of its own
+abbrev pub behindPattern : ℕ → BitPlace → BitPlace → BitPlace
+behindPattern h next reached = pick (eqb (specifier h) 0) next reached
+
+-- ---- how far filling has come
+
+-- the settings are in range, and the beats are those of the tempo
+pub record Ready (w : Walk) : Type 0 where
+  pub range : InRange (w .settings)
+  pub tuned : w .beats ≡ beats (w .settings .tempo)
+
+-- behind the first i cells d was played: its entries are written, and the next place is q
+pub record Advanced (i : ℕ) (d : Played) (q : ℕ) (old new : List ℕ) (r : Walk) : Type 0 where
+  pub settings : r .settings ≡ d .after
+  pub ready : Ready r
+  pub place : r .at .0 ≡ q
+  pub cells : r .cells ≡ i + 2 * length (d .entries)
+  pub list : new ≡ sets old i (numbers (d .entries))
