@@ -11,13 +11,14 @@ use borrow.Author.Tests.{le-leb, eq-eqb, ne-eqb, eqb-true, eqb-false, leb-true}
 use Rattle.bits.specs.Choice.{pick}
 use Rattle.bits.specs.Bits.{Octets}
 use Rattle.bits.specs.Outcome.{Outcome, accepted, refused}
+use Rattle.bits.proofs.Choice.{pick-elim}
 use Rattle.tone.specs.Table.{kind}
 use Rattle.tone.specs.Tone.{Tone, frontOf, cells, patternsOf, recallable, perCharacter, characters, Titled, FrontFormed, Formed}
 use Rattle.tone.specs.Writing.{toneLength, mostOctets, WellFormed}
 use Rattle.tone.proofs.Fronts.{or-true, one-or-two, song-fine}
 use Rattle.tone.proofs.Rows.{and-true, and-is}
 use Rattle.tone.proofs.Tables.{patterns-of-cells}
-use Rattle.writing.specs.Judging.{andThen, songFine, titleFine, entryFine, Stage, start, entryJudged, entriesJudged, endJudged, judgeTable, sized, toneOf, writeTone}
+use Rattle.writing.specs.Judging.{andThen, demand, songFine, titleFine, entryFine, Stage, start, entryJudged, entriesJudged, endJudged, judgeTable, sized, toneOf, writeTone}
 use Rattle.writing.proofs.Walks.{not-refused}
 use Rattle.writing.proofs.GoodTables.{GoodTable, judged-is-good, good-is-judged}
 
@@ -92,7 +93,7 @@ module _ (song : ℕ) (unicode : Bool) (title table : List ℕ) (room : ℕ) whe
   unfolding sized
   sized-fits t q = go (leb (toneLength tone) mostOctets) (leb (toneLength tone) room) refl refl q
     where
-      go : (a b : Bool) → leb (toneLength tone) mostOctets ≡ a → leb (toneLength tone) room ≡ b → pick a (pick b (accepted tone) (refused 11 0)) (refused 1 0) ≡ accepted t
+      go : (a b : Bool) → leb (toneLength tone) mostOctets ≡ a → leb (toneLength tone) room ≡ b → demand a 1 (demand b 11 (accepted tone)) ≡ accepted t
           → (tone ≡ t) × (toneLength tone ≤ mostOctets) × (toneLength tone ≤ room)
       go true true f g h = (cc, leb-true (toneLength tone) mostOctets f, leb-true (toneLength tone) room g)
       go true false f g h = absurd (not-refused h)
@@ -104,7 +105,7 @@ module _ (song : ℕ) (unicode : Bool) (title table : List ℕ) (room : ℕ) whe
   passed t q = go (songFine song) (titleFine song unicode title) (judgeTable table) refl refl refl q
     where
       go : (a b : Bool) (x : Outcome ℕ) → songFine song ≡ a → titleFine song unicode title ≡ b → judgeTable table ≡ x
-          → pick a (pick b (andThen x (λ _. sized room tone)) (refused 17 0)) (refused 4 0) ≡ accepted t → Passed song unicode title table room t
+          → demand a 4 (demand b 17 (andThen x (λ _. sized room tone))) ≡ accepted t → Passed song unicode title table room t
       go true true (accepted n) f g h r =
           let s = sized-fits t r in
           record { same = s .0; basicOrTemporary = one-or-two song f; titleGood = g; count = n; good = judged-is-good table n h; most = s .1; fits = s .2 }
@@ -148,18 +149,17 @@ then-zero : {A B : Type 0} {x : Outcome A} (f : A → Outcome B) → AtZero x �
 then-zero f (none {a = a}) k = k a
 then-zero f there k = there
 
-pick-zero : {A : Type 0} (b : Bool) {x y : Outcome A} → AtZero x → AtZero y → AtZero (pick b x y)
-pick-zero true h k = h
-pick-zero false h k = k
+demand-zero : {A : Type 0} (b : Bool) (n : ℕ) {x : Outcome A} → AtZero x → AtZero (demand b n x)
+demand-zero true n h = h
+demand-zero false n h = there
 
 entry-zero : (s : Stage) (e : ℕ) → AtZero (entryJudged s e)
 unfolding entryJudged
 entry-zero s e =
-    pick-zero (entryFine e)
-    (pick-zero (eqb (s .due) 0)
-    (pick-zero (eqb (kind e) 0) (pick-zero (recallable (s .known) e) none there) there)
-    (pick-zero (eqb (kind e) 0) there none))
-    there
+    demand-zero (entryFine e) 6
+    (pick-elim AtZero (eqb (s .due) 0)
+    (λ _. demand-zero (eqb (kind e) 0) 18 (demand-zero (recallable (s .known) e) 7 none))
+    (λ _. demand-zero (leb 1 (kind e)) 18 none))
 
 entries-zero : (s : Stage) (t : List ℕ) → AtZero (entriesJudged s t)
 unfolding entriesJudged
@@ -170,7 +170,7 @@ table-zero : (t : List ℕ) → AtZero (judgeTable t)
 unfolding judgeTable endJudged
 table-zero t =
     then-zero endJudged (entries-zero start t)
-    (λ s. pick-zero (eqb (s .due) 0) (pick-zero (eqb (s .begun) 0) there (pick-zero (leb (s .begun) 255) none there)) there)
+    (λ s. demand-zero (eqb (s .due) 0) 18 (demand-zero (leb 1 (s .begun)) 5 (demand-zero (leb (s .begun) 255) 18 none)))
 
 place-zero : {A : Type 0} {x : Outcome A} {n p : ℕ} → AtZero x → x ≡ refused n p → p ≡ 0
 place-zero none q = absurd (not-refused (sym q))
@@ -186,10 +186,8 @@ unfolding writeTone sized
 write-place song unicode title table room q =
     let l = toneLength (toneOf song unicode title table) in
     place-zero
-    (pick-zero (songFine song)
-    (pick-zero (titleFine song unicode title)
+    (demand-zero (songFine song) 4
+    (demand-zero (titleFine song unicode title) 17
     (then-zero (λ _. sized room (toneOf song unicode title table)) (table-zero table)
-    (λ _. pick-zero (leb l mostOctets) (pick-zero (leb l room) none there) there))
-    there)
-    there)
+    (λ _. demand-zero (leb l mostOctets) 1 (demand-zero (leb l room) 11 none)))))
     q

@@ -16,7 +16,7 @@ use Rattle.tone.specs.Table.{kind, payload, width, InTable, Instruction}
 use Rattle.tone.specs.Tone.{Pattern, specifier, header, pattern, cells, patternsOf, noneKnown, recallable, learn, Instructions, Sound, Sequence}
 use Rattle.tone.proofs.Rows.{header-small, header-pattern}
 use Rattle.tone.proofs.Tables.{patterns-of-cells}
-use Rattle.writing.specs.Judging.{andThen, entryFine, entriesJudged, endJudged, start, judgeTable}
+use Rattle.writing.specs.Judging.{andThen, demand, entryFine, entriesJudged, endJudged, start, judgeTable}
 use Rattle.writing.specs.Answers.{entryLength, headerLength, instructionLength, bodyLength}
 use Rattle.writing.proofs.Weights.{in-table-fine, header-in-table}
 use Rattle.writing.proofs.Walks.{stage, fromStage, at-header, at-body, not-refused, header-told, body-told, BodyTold}
@@ -33,12 +33,12 @@ pub record Good (known : List Bool) (c n : ℕ) (t : List ℕ) : Type 0 where
 -- the end of a table that is judged good
 end-good : (known : List Bool) (c n : ℕ) → endJudged (stage 0 known c) ≡ accepted n → (n ≡ c) × (1 ≤ c) × (c ≤ 255)
 unfolding endJudged
-end-good known c n q = go (eqb c 0) (leb c 255) refl refl q
+end-good known c n q = go (leb 1 c) (leb c 255) refl refl q
   where
-    go : (z m : Bool) → eqb c 0 ≡ z → leb c 255 ≡ m → pick z (refused 5 0) (pick m (accepted c) (refused 18 0)) ≡ accepted n → (n ≡ c) × (1 ≤ c) × (c ≤ 255)
-    go true m e l h = absurd (not-refused h)
-    go false true e l h = let k = eqb-false c 0 e in (cc, omega arith, leb-true c 255 l)
-    go false false e l h = absurd (not-refused h)
+    go : (s m : Bool) → leb 1 c ≡ s → leb c 255 ≡ m → demand s 5 (demand m 18 (accepted c)) ≡ accepted n → (n ≡ c) × (1 ≤ c) × (c ≤ 255)
+    go true true e l h = (cc, leb-true 1 c e, leb-true c 255 l)
+    go true false e l h = absurd (not-refused h)
+    go false m e l h = absurd (not-refused h)
 
 -- one pattern in front of those behind it
 in-front : (known : List Bool) (c n e : ℕ) (t : List ℕ) {b : ℕ} → (e < 16384) × (recallable known e ≡ true) × (b ≡ entryLength e) → {k : ℕ} → BodyTold (specifier e) t k
@@ -83,10 +83,7 @@ good-from (suc m) known c n (e ∷ t) h q =
 -- what patterns make is judged good
 instruction-good : (e : ℕ) → Instruction e → instructionLength e ≡ accepted (entryLength e)
 unfolding instructionLength
-instruction-good e h =
-    let k = h .some in
-    let z : kind e ≡ 0 → ⊥ = λ q. omega arith in
-    rw (in-table-fine e (h .inTable), ne-eqb (kind e) 0 z)
+instruction-good e h = rw (in-table-fine e (h .inTable), le-leb 1 (kind e) (h .some))
 
 body-good : (b t : List ℕ) → Instructions b → (k : ℕ) × (bodyLength (length b) (b ++ t) ≡ accepted k)
 unfolding bodyLength
@@ -142,8 +139,7 @@ judged-is-good t n q =
 pub good-is-judged : (ps : List Pattern) → Sequence noneKnown ps → 1 ≤ length ps → length ps ≤ 255 → judgeTable (cells ps) ≡ accepted (length ps)
 unfolding judgeTable endJudged
 good-is-judged ps h s m =
-    let z : length ps ≡ 0 → ⊥ = λ q. omega arith in
-    cells-from noneKnown 0 ps h ∙ (rw (zero-add (length ps), ne-eqb (length ps) 0 z, le-leb (length ps) 255 m))
+    cells-from noneKnown 0 ps h ∙ (rw (zero-add (length ps), le-leb 1 (length ps) s, le-leb (length ps) 255 m))
 
 -- so a table is accepted, with so many patterns, exactly if it is good
 pub good-exactly : (t : List ℕ) (n : ℕ) → (judgeTable t ≡ accepted n) ↔ GoodTable t n

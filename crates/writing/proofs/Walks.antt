@@ -9,7 +9,7 @@ use mathlib.Core.List.{List, [], _∷_, _++_}
 use lib.ListN.{length, getD, take, drop, length-append, length-drop, drop-of-length-le}
 use lib.Seq.{drop-cons, drop-drop, take-add, take-all}
 use lib.Dec.{leb, ltb, eqb}
-use borrow.Author.Tests.{le-leb, lt-leb, eq-eqb, ne-eqb, eqb-true, eqb-false}
+use borrow.Author.Tests.{le-leb, lt-leb, eq-eqb, ne-eqb, eqb-true, leb-true}
 use mir.Val.{Fits}
 use mir.Syntax.{w32, w64}
 use Rattle.bits.specs.Choice.{pick}
@@ -22,7 +22,7 @@ use Rattle.writing.specs.declared.Weighed.{Weighed}
 use Rattle.writing.specs.declared.Weighed.the-variants.{Bits, Fault}
 use Rattle.writing.specs.declared.Judged.{Judged}
 use Rattle.writing.specs.declared.Judged.the-variants.{Sound, Faulty}
-use Rattle.writing.specs.Judging.{andThen, entryFine, Stage, headerJudged, instructionJudged, entryJudged, entriesJudged, endJudged, start, judgeTable}
+use Rattle.writing.specs.Judging.{andThen, demand, entryFine, Stage, headerJudged, instructionJudged, entryJudged, entriesJudged, endJudged, start, judgeTable}
 use Rattle.writing.specs.Answers.{entryLength, headerLength, instructionLength, bodyLength, weighedOf, atMost, judgedOf}
 use Rattle.writing.proofs.Weights.{fine-in-table, header-bound, weighed-bits, weighed-fault}
 
@@ -41,8 +41,8 @@ pub header-step : (known : List Bool) (c e : ℕ) → entryJudged (stage 0 known
 unfolding entryJudged headerLength
 header-step known c e = go (entryFine e) (eqb (kind e) 0) (recallable known e)
   where
-    go : (a b r : Bool) → pick a (pick b (pick r (accepted (stage (specifier e) (learn known e) (suc c))) (refused 7 0)) (refused 18 0)) (refused 6 0)
-        ≡ andThen (pick a (pick b (pick r (accepted (entryLength e)) (refused 7 0)) (refused 18 0)) (refused 6 0)) (λ _. accepted (stage (specifier e) (learn known e) (suc c)))
+    go : (a b r : Bool) → demand a 6 (demand b 18 (demand r 7 (accepted (stage (specifier e) (learn known e) (suc c)))))
+        ≡ andThen (demand a 6 (demand b 18 (demand r 7 (accepted (entryLength e))))) (λ _. accepted (stage (specifier e) (learn known e) (suc c)))
     go true true true = refl
     go true true false = refl
     go true false r = refl
@@ -54,10 +54,10 @@ unfolding entryJudged instructionLength
 instruction-step n known c e =
     let z : suc n ≡ 0 → ⊥ = λ q. omega arith in
     let m : suc n - 1 ≡ n = omega arith in
-    rw (ne-eqb (suc n) 0 z, m) (go (entryFine e) (eqb (kind e) 0))
+    rw (ne-eqb (suc n) 0 z, m) (go (entryFine e) (leb 1 (kind e)))
   where
-    go : (a b : Bool) → pick a (pick b (refused 18 0) (accepted (stage n known c))) (refused 6 0)
-        ≡ andThen (pick a (pick b (refused 18 0) (accepted (entryLength e))) (refused 6 0)) (λ _. accepted (stage n known c))
+    go : (a b : Bool) → demand a 6 (demand b 18 (accepted (stage n known c)))
+        ≡ andThen (demand a 6 (demand b 18 (accepted (entryLength e)))) (λ _. accepted (stage n known c))
     go true true = refl
     go true false = refl
     go false b = refl
@@ -109,13 +109,11 @@ not-refused q = let z : _≡_ {A = ℕ} 0 1 = cc in omega arith
 
 pub instruction-told : (e : ℕ) {b : ℕ} → instructionLength e ≡ accepted b → Instruction e × (b ≡ entryLength e)
 unfolding instructionLength
-instruction-told e {b} q = go (entryFine e) (eqb (kind e) 0) refl refl q
+instruction-told e {b} q = go (entryFine e) (leb 1 (kind e)) refl refl q
   where
-    go : (s t : Bool) → entryFine e ≡ s → eqb (kind e) 0 ≡ t → pick s (pick t (refused 18 0) (accepted (entryLength e))) (refused 6 0) ≡ accepted b → Instruction e × (b ≡ entryLength e)
-    go true true f k h = absurd (not-refused h)
-    go true false f k h =
-        let n = eqb-false (kind e) 0 k in
-        (record { inTable = fine-in-table e f; some = omega arith }, cc)
+    go : (s t : Bool) → entryFine e ≡ s → leb 1 (kind e) ≡ t → demand s 6 (demand t 18 (accepted (entryLength e))) ≡ accepted b → Instruction e × (b ≡ entryLength e)
+    go true true f k h = (record { inTable = fine-in-table e f; some = leb-true 1 (kind e) k }, cc)
+    go true false f k h = absurd (not-refused h)
     go false t f k h = absurd (not-refused h)
 
 pub header-told : (known : List Bool) (e : ℕ) {b : ℕ} → headerLength known e ≡ accepted b → (e < 16384) × (recallable known e ≡ true) × (b ≡ entryLength e)
@@ -123,7 +121,7 @@ unfolding headerLength
 header-told known e {b} q = go (entryFine e) (eqb (kind e) 0) (recallable known e) refl refl refl q
   where
     go : (s t r : Bool) → entryFine e ≡ s → eqb (kind e) 0 ≡ t → recallable known e ≡ r
-        → pick s (pick t (pick r (accepted (entryLength e)) (refused 7 0)) (refused 18 0)) (refused 6 0) ≡ accepted b → (e < 16384) × (recallable known e ≡ true) × (b ≡ entryLength e)
+        → demand s 6 (demand t 18 (demand r 7 (accepted (entryLength e)))) ≡ accepted b → (e < 16384) × (recallable known e ≡ true) × (b ≡ entryLength e)
     go true true true f k g h = (header-bound e (fine-in-table e f) (eqb-true (kind e) 0 k), g, cc)
     go true true false f k g h = absurd (not-refused h)
     go true false r f k g h = absurd (not-refused h)
@@ -186,20 +184,23 @@ module _ {table : List ℕ} {known : List Bool} {patterns bits i : ℕ} (w : Row
     unfolding entriesJudged
     ends = w .goes ∙ (rw (drop-of-length-le table {i = i} h))
 
+    some : (patterns ≡ 0 → ⊥) → 1 ≤ patterns
+    some s = omega arith
+
     pub row-none : patterns ≡ 0 → Faulty 5 ≡ judgedOf table (judgeTable table)
     unfolding endJudged
-    row-none z = faulty table {p = 0} (ends ∙ (rw (eq-eqb patterns 0 z)))
+    row-none z = faulty table {p = 0} (ends ∙ (rw (lt-leb 1 patterns (omega arith))))
 
     module _ (s : patterns ≡ 0 → ⊥) where
       pub row-many : 255 < patterns → Faulty 18 ≡ judgedOf table (judgeTable table)
       unfolding endJudged
-      row-many m = faulty table {p = 0} (ends ∙ (rw (ne-eqb patterns 0 s, lt-leb patterns 255 m)))
+      row-many m = faulty table {p = 0} (ends ∙ (rw (le-leb 1 patterns (some s), lt-leb patterns 255 m)))
 
       pub row-sound : patterns ≤ 255 → Sound patterns bits ≡ judgedOf table (judgeTable table)
       unfolding endJudged
       row-sound m =
           let a : take i table ≡ table = take-all i table h in
-          rw (ends, ne-eqb patterns 0 s, le-leb patterns 255 m) (ap (λ (x : ℕ). Sound patterns x) (w .weighs ∙ (rw a refl)))
+          rw (ends, le-leb 1 patterns (some s), le-leb patterns 255 m) (ap (λ (x : ℕ). Sound patterns x) (w .weighs ∙ (rw a refl)))
 
   module _ {s : Weighed} (k : i < length table) (q : s ≡ weighedOf (headerLength known (getD table i 0))) where
     next : fromStage (stage 0 known patterns) (drop i table)

@@ -21,7 +21,7 @@ use mir.Val.{Fits}
 use mir.Syntax.{w32}
 use Rattle.writing.specs.declared.Weighed.{Weighed}
 use Rattle.writing.specs.declared.Weighed.the-variants.{Bits, Fault}
-use Rattle.writing.specs.Judging.{andThen, entryFine}
+use Rattle.writing.specs.Judging.{andThen, demand, entryFine}
 use Rattle.writing.specs.Answers.{entryLength, headerLength, instructionLength, bodyLength, weighedOf}
 
 -- ---- an entry
@@ -92,13 +92,11 @@ module _ (e : ℕ) {r : ℕ} (h : r ≡ pick (entryFine e) (entryLength e) 0) wh
   module _ (s : r ≡ 0 → ⊥) where
     pub instruction-header : e < 65536 → Fault 18 ≡ weighedOf (instructionLength e)
     unfolding instructionLength
-    instruction-header k = rw (is-fine s, eq-eqb (kind e) 0 (omega arith))
+    instruction-header k = rw (is-fine s, lt-leb 1 (kind e) (omega arith))
 
     pub instruction-fine : 65536 ≤ e → Bits r ≡ weighedOf (instructionLength e)
     unfolding instructionLength
-    instruction-fine k =
-        let n : kind e ≡ 0 → ⊥ = λ q. omega arith in
-        rw (is-fine s, ne-eqb (kind e) 0 n, h, is-fine s) refl
+    instruction-fine k = rw (is-fine s, le-leb 1 (kind e) (omega arith), h, is-fine s) refl
 
 pub ruleset instructions = (instruction-six, instruction-header, instruction-fine)
 
@@ -172,11 +170,11 @@ plus-plus a b (refused n p) = refl
 
 instruction-most : (e : ℕ) {b : ℕ} → instructionLength e ≡ accepted b → b ≤ 17
 unfolding instructionLength
-instruction-most e {b} q = go (entryFine e) (eqb (kind e) 0) q
+instruction-most e {b} q = go (entryFine e) (leb 1 (kind e)) q
   where
-    go : (s t : Bool) → pick s (pick t (refused 18 0) (accepted (entryLength e))) (refused 6 0) ≡ accepted b → b ≤ 17
-    go true true h = let z : _≡_ {A = ℕ} 0 1 = cc in absurd (omega arith)
-    go true false h = let k : entryLength e ≡ b = cc in omega (arith, length-most e)
+    go : (s t : Bool) → demand s 6 (demand t 18 (accepted (entryLength e))) ≡ accepted b → b ≤ 17
+    go true true h = let k : entryLength e ≡ b = cc in omega (arith, length-most e)
+    go true false h = let z : _≡_ {A = ℕ} 0 1 = cc in absurd (omega arith)
     go false t h = let z : _≡_ {A = ℕ} 0 1 = cc in absurd (omega arith)
 
 -- with `left` instructions due at i, and so many bits so far

@@ -3,7 +3,7 @@ use Prim.Native.Nat.{ℕ, zero, suc, _+_, min}
 use mathlib.Core.Bool.{Bool}
 use mathlib.Core.List.{List, [], _∷_}
 use lib.ListN.{length}
-use lib.Dec.{eqb}
+use lib.Dec.{leb, eqb}
 use Rattle.bits.specs.Choice.{pick}
 use Rattle.bits.specs.Bits.{placeAfter}
 use Rattle.bits.specs.Outcome.{Outcome, accepted, refused}
@@ -14,22 +14,19 @@ use Rattle.writing.specs.declared.Weighed.{Weighed}
 use Rattle.writing.specs.declared.Weighed.the-variants.{Bits, Fault}
 use Rattle.writing.specs.declared.Judged.{Judged}
 use Rattle.writing.specs.declared.Judged.the-variants.{Sound, Faulty}
-use Rattle.writing.specs.Judging.{andThen, entryFine}
+use Rattle.writing.specs.Judging.{andThen, demand, entryFine}
 
 -- an entry's bits: its id and its payload
 abbrev pub entryLength : ℕ → ℕ
 entryLength e = 3 + width (kind e)
 
--- the bits of a header where one is due: 6 where it is not in the instruction table, 18 for an instruction, 7 for a recall with nothing earlier of that id
+-- the bits of a header where one is due: 6, 18 and 7 as the rules have them
 unfoldable pub headerLength : List Bool → ℕ → Outcome ℕ
-headerLength known e =
-    pick (entryFine e)
-    (pick (eqb (kind e) 0) (pick (recallable known e) (accepted (entryLength e)) (refused 7 0)) (refused 18 0))
-    (refused 6 0)
+headerLength known e = demand (entryFine e) 6 (demand (eqb (kind e) 0) 18 (demand (recallable known e) 7 (accepted (entryLength e))))
 
--- the bits of an instruction where one is due: 6 where it is not in the instruction table, 18 for a header
+-- the bits of an instruction where one is due: 6 and 18
 unfoldable pub instructionLength : ℕ → Outcome ℕ
-instructionLength e = pick (entryFine e) (pick (eqb (kind e) 0) (refused 18 0) (accepted (entryLength e))) (refused 6 0)
+instructionLength e = demand (entryFine e) 6 (demand (leb 1 (kind e)) 18 (accepted (entryLength e)))
 
 -- the bits of so many instructions: 18 where the table ends before them
 unfoldable pub bodyLength : ℕ → List ℕ → Outcome ℕ

@@ -15,6 +15,10 @@ abbrev pub andThen : {A B : Type 0} → Outcome A → (A → Outcome B) → Outc
 andThen (accepted a) f = f a
 andThen (refused n p) f = refused n p
 
+-- a rule that must hold, the refusal where it does not, and what follows
+abbrev pub demand : {A : Type 0} → Bool → ℕ → Outcome A → Outcome A
+demand holds number next = pick holds next (refused number 0)
+
 -- ---- the song type and the title
 
 -- basic or temporary
@@ -45,39 +49,34 @@ start = record { due = 0; known = noneKnown; begun = 0 }
 -- where a header is due: 18 for an instruction, 7 for a recall with nothing earlier of that id
 abbrev pub headerJudged : Stage → ℕ → Outcome Stage
 headerJudged s e =
-    pick (eqb (kind e) 0)
-    (pick (recallable (s .known) e)
-    (accepted (record { due = specifier e; known = learn (s .known) e; begun = suc (s .begun) }))
-    (refused 7 0))
-    (refused 18 0)
+    demand (eqb (kind e) 0) 18
+    (demand (recallable (s .known) e) 7
+    (accepted (record { due = specifier e; known = learn (s .known) e; begun = suc (s .begun) })))
 
 -- where an instruction is due: 18 for a header
 abbrev pub instructionJudged : Stage → ℕ → Outcome Stage
 instructionJudged s e =
-    pick (eqb (kind e) 0)
-    (refused 18 0)
+    demand (leb 1 (kind e)) 18
     (accepted (record { due = s .due - 1; known = s .known; begun = s .begun }))
 
--- an entry: 6 where it is not in the instruction table, and then its kind
+-- an entry: 6 where it is not in the instruction table, and then by what is due
 unfoldable pub entryJudged : Stage → ℕ → Outcome Stage
 entryJudged s e =
-    pick (entryFine e)
+    demand (entryFine e) 6
     (pick (eqb (s .due) 0) (headerJudged s e) (instructionJudged s e))
-    (refused 6 0)
 
 -- the entries in turn
 unfoldable pub entriesJudged : Stage → List ℕ → Outcome Stage
 entriesJudged s [] = accepted s
 entriesJudged s (e ∷ t) = andThen (entryJudged s e) (λ s′. entriesJudged s′ t)
 
--- behind the last entry: 18 for a cut body, 5 for no pattern, 18 for too many; else how many patterns there are
+-- behind the last entry: 18 for a cut body, 5 for no pattern, 18 for more than 255; else how many patterns there are
 unfoldable pub endJudged : Stage → Outcome ℕ
 endJudged s =
-    pick (eqb (s .due) 0)
-    (pick (eqb (s .begun) 0)
-    (refused 5 0)
-    (pick (leb (s .begun) 255) (accepted (s .begun)) (refused 18 0)))
-    (refused 18 0)
+    demand (eqb (s .due) 0) 18
+    (demand (leb 1 (s .begun)) 5
+    (demand (leb (s .begun) 255) 18
+    (accepted (s .begun))))
 
 -- a whole table: how many patterns it has
 unfoldable pub judgeTable : List ℕ → Outcome ℕ
@@ -88,9 +87,9 @@ judgeTable t = andThen (entriesJudged start t) endJudged
 -- the message's size: 1 above 4,096 octets, 11 above the room
 unfoldable pub sized : ℕ → Tone → Outcome Tone
 sized room t =
-    pick (leb (toneLength t) mostOctets)
-    (pick (leb (toneLength t) room) (accepted t) (refused 11 0))
-    (refused 1 0)
+    demand (leb (toneLength t) mostOctets) 1
+    (demand (leb (toneLength t) room) 11
+    (accepted t))
 
 -- what is to be written, as a tone
 abbrev pub toneOf : ℕ → Bool → List ℕ → List ℕ → Tone
@@ -99,8 +98,6 @@ toneOf song unicode title table = record { song = song; unicode = unicode; title
 -- writing a tone into so many octets of room: 4, 17, the table's refusals, 1, 11
 unfoldable pub writeTone : ℕ → Bool → List ℕ → List ℕ → ℕ → Outcome Tone
 writeTone song unicode title table room =
-    pick (songFine song)
-    (pick (titleFine song unicode title)
-    (andThen (judgeTable table) (λ _. sized room (toneOf song unicode title table)))
-    (refused 17 0))
-    (refused 4 0)
+    demand (songFine song) 4
+    (demand (titleFine song unicode title) 17
+    (andThen (judgeTable table) (λ _. sized room (toneOf song unicode title table))))
