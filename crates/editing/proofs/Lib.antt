@@ -9,3 +9,5 @@ pub mod Rebuilt
 pub mod Changes
 pub mod Planning
 pub mod Finishing
+pub mod Exactly
+pub mod Unique
