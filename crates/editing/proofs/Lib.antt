@@ -11,3 +11,4 @@ pub mod Planning
 pub mod Finishing
 pub mod Exactly
 pub mod Unique
+pub mod Calls
