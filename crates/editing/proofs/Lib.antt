@@ -9,3 +9,6 @@ pub mod Rebuilt
 pub mod Changes
 pub mod Planning
 pub mod Finishing
+pub mod Exactly
+pub mod Unique
+pub mod Calls
