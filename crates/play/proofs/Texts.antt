@@ -161,9 +161,9 @@ line-end out₀ start list n {out} {at} {i} t h =
       long = t .long;
       holds = sym (append-nil (take at out)) ∙ (ap (λ (l : List ℕ). take at out ++ l) (sym y) ∙ t .holds);
     }
-    where
-      add-nothing : (a : ℕ) (l : List ℕ) → l ≡ [] → a + length l ≡ a
-      add-nothing a l e = rw e (omega arith)
+  where
+    add-nothing : (a : ℕ) (l : List ℕ) → l ≡ [] → a + length l ≡ a
+    add-nothing a l e = rw e (omega arith)
 
 -- the buffer has room for the next line, and the list has its numbers
 pub line-room : {out₀ : List ℕ} {start : ℕ} {list : List ℕ} {n : ℕ} {out : List ℕ} {at i : ℕ} → Lining out₀ start list n out at i → i < n

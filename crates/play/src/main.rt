@@ -221,22 +221,32 @@ fn answer(msg: &[u8], list: &mut [u32], text: &mut [u8]) -> usize
     }
 }
 
-// Prints the answer to a message. There is room for 4,096 entries of two numbers, and 28 octets of text for each number.
-fn show(msg: &[u8]) {
-    let mut list = [0u32; 8192];
-    let mut text = [0u8; 229440];
-    let n = answer(msg, &mut list, &mut text);
+// Writes the text, the first octets of a buffer.
+fn write_text(text: &[u8], n: usize)
+    requires { ⌜ n ≤ length (now text) ⌝ }
+{
     let all = io::write_all(STDOUT_FILENO, &text[..n]);
     if !all {
         io::write_all(STDERR_FILENO, b"play: standard output cannot be written\n");
     }
 }
 
+// Prints the answer to a message, the first octets of a buffer. There is room for 4,096 entries of two numbers, and for 28
+// octets of text for each number.
+fn show(buf: &[u8], n: OctetCount)
+    requires { ⌜ n .0 ≤ length (now buf) ⌝ }
+{
+    let mut list = [0u32; 8192];
+    let mut text = [0u8; 229440];
+    let end = answer(&buf[..n.0], &mut list, &mut text);
+    write_text(&text, end);
+}
+
 // One octet more than a message may have is enough to refuse it.
 fn main() {
     let mut msg = [0u8; 4097];
     match read_input(&mut msg) {
-        Input::Octets(n) => show(&msg[..n.0]),
+        Input::Octets(n) => show(&msg, n),
         Input::Unreadable => {
             io::write_all(STDERR_FILENO, b"play: standard input cannot be read\n");
         }
