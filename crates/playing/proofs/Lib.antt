@@ -13,3 +13,4 @@ pub mod Verdicts
 pub mod Walking
 pub mod Fillings
 pub mod Outcomes
+pub mod Agreeing

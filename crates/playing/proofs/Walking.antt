@@ -35,11 +35,9 @@ use Rattle.playing.proofs.Bounds.{range-start, range-applied, sounded-b
 
 -- ---- the start
 
-pub start-slow : {s : Settings} → s ≡ atStart → s .tempo ≤ 31
-start-slow e = rw e (omega arith)
-
-pub start-ready : {s : Settings} {b : ℕ} (p : BitPlace) → s ≡ atStart → b ≡ beats (s .tempo) → Ready (record { settings = s; beats = b; at = p; cells = 0 })
-start-ready p e f = record { range = rw e range-start; tuned = f }
+pub start-ready : {s : Settings} (p : BitPlace) → s ≡ atStart → Ready (record { settings = s; beats = 63; at = p; cells = 0 })
+unfolding beats
+start-ready p e = rw e (record { range = range-start; tuned = refl })
 
 -- ---- one instruction
 

@@ -26,6 +26,10 @@ abbrev pub numbersOf : Listed → Numbers
 numbersOf (Made n k) = record { refusal = 0; place = 0; entries = n; mark = k }
 numbersOf (Refused n p) = record { refusal = n; place = p .0; entries = 0; mark = 0 }
 
+-- how many entries were made
+abbrev pub entriesIn : Listed → ℕ
+entriesIn r = numbersOf r .entries
+
 -- the answer to an outcome
 abbrev pub listAnswer : Outcome Listing → Listed
 listAnswer (accepted g) = Made (length (g .entries)) (g .mark)

@@ -16,7 +16,7 @@ ghost use Rattle.playing.specs.Counting.{entryCount, markOf};
 ghost use Rattle.playing.specs.Filling.{bodyIn, behindIn, BodyAt, patternsIn, endIn, PatternsAt, partsAfter, behindPattern, Ready, Advanced};
 ghost use Rattle.playing.specs.Answers.{totalFrom, noCount, counted as countedOf, noted as notedOf, tallyAs, verdictOf};
 ghost use Rattle.playing.specs.Listing.{fitsNumbers, fitsBoth};
-ghost use Rattle.playing.specs.Promise.{ListPromise};
+ghost use Rattle.playing.specs.Promise.{entriesIn, ListPromise, RowsPromise};
 use bits::BitPlace;
 use bits::OctetCount;
 use reading::Opening;
@@ -31,6 +31,7 @@ pub struct Settings {
 }
 
 // An entry of the playing list, as the mixer receives it.
+#[repr(C)]
 pub struct Entry {
     pub note: u32,
     pub scale: u32,
@@ -448,7 +449,7 @@ impl Walk {
         let settings = Settings::at_start();
         Walk {
             settings,
-            beats: beats(settings.tempo),
+            beats: 63,
             at,
             cells: 0,
         }
@@ -628,4 +629,27 @@ pub fn list(msg: &[u8], list: &mut [u32]) -> Listed
 {
     let room = list.len();
     list_within(msg, list, room)
+}
+
+// How many entries were made.
+fn entries_in(r: Listed) -> usize
+    ensures { λ n. ⌜ n ≡ entriesIn r ⌝ }
+{
+    match r {
+        Listed::Made { entries, mark: _ } => entries as usize,
+        Listed::Refused {
+            number: _,
+            place: _,
+        } => 0,
+    }
+}
+
+// Makes the list of a message in both forms.
+pub fn rows(msg: &[u8], list: &mut [u32], rows: &mut [Entry]) -> Listed
+    ensures { λ r. ⌜ RowsPromise (now (msg .entry)) (now (list .entry)) (now (rows .entry)) (now (list .exit)) (now (rows .exit)) r ⌝ }
+{
+    let r = list_within(msg, list, rows.len());
+    let n = entries_in(r);
+    fill_rows(list, n, rows);
+    r
 }

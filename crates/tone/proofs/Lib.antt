@@ -4,3 +4,5 @@ pub mod Rows
 pub mod Demand2
 pub mod Refusals
 pub mod Tables
+pub mod Instructions
+pub mod Recalls
