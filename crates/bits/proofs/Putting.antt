@@ -103,3 +103,22 @@ seal-is at₀ n₀ {old} {kept} {buf} {at} {n} {acc} h p =
       size = omega (arith, p .place, p .hand .short);
       rest = p .rest;
     }
+
+-- ---- one row of bits behind another
+
+-- no bits more
+pub put-none : (buf : List ℕ) (at n acc : ℕ) → InHand n acc → Put (written buf at n acc) [] (8 * at + n) buf buf at n acc
+put-none buf at n acc h = record { bits = sym (append-nil (written buf at n acc)); place = refl; hand = h; rest = refl }
+
+-- some, and then others
+pub put-then : {old a b : List Bool} {end end′ : ℕ} {kept buf buf′ : List ℕ} {at n acc at′ n′ acc′ : ℕ} → Put old a end kept buf at n acc
+    → Put (written buf at n acc) b end′ buf buf′ at′ n′ acc′ → end ≤ end′ → Put old (a ++ b) end′ kept buf′ at′ n′ acc′
+put-then {old} {a} {b} {kept = kept} {buf = buf} {buf′ = buf′} {at = at} {at′ = at′} p q h =
+    let k : at + (at′ - at) ≡ at′ = omega (arith, p .place, q .place, q .hand .short) in
+    let d : (l : List ℕ) → drop at′ l ≡ drop (at′ - at) (drop at l) = λ l. sym (drop-drop (at′ - at) at l ∙ ap (λ (x : ℕ). drop x l) k) in
+    record {
+      bits = q .bits ∙ ap (λ (x : List Bool). x ++ b) (p .bits) ∙ append-assoc old a b;
+      place = q .place;
+      hand = q .hand;
+      rest = q .rest ∙ d buf ∙ ap (drop (at′ - at)) (p .rest) ∙ sym (d kept);
+    }

@@ -1,3 +1,4 @@
 pub mod Judgements
 pub mod Filling
 pub mod Told
+pub mod Unique

@@ -21,7 +21,7 @@ use Rattle.tone.specs.Writing.{programming, unicodePart, sound, commandL
 use Rattle.tone.specs.Reading.{Reader, _>>=_, _>>_, return, element, anyOf, part, fillerBit, lengthOctet, filled, whetherUnicode, soundPart, parts, command, songType, allowedCharacter, character, text, title, patternCount, counted, titled, typed, front}
 use Rattle.tone.proofs.Exact.{Exact, Fine, exact-as, return-exact, element-exact, then-exact, then-assoc, fixed-exact}
 
-or-true : (a b : Bool) → (a || b) ≡ true → (a ≡ true) ⊎ (b ≡ true)
+pub or-true : (a b : Bool) → (a || b) ≡ true → (a ≡ true) ⊎ (b ≡ true)
 or-true true b h = inl refl
 or-true false b h = inr h
 
@@ -202,7 +202,7 @@ title-exact song unicode hs = go (eqb song 1) refl
 
 -- ---- the whole front
 
-song-fine : (n : ℕ) → 1 ≤ n → n ≤ 2 → (eqb n 1 || eqb n 2) ≡ true
+pub song-fine : (n : ℕ) → 1 ≤ n → n ≤ 2 → (eqb n 1 || eqb n 2) ≡ true
 song-fine zero a b = let z : ⊥ = omega arith in absurd z
 song-fine (suc zero) a b = refl
 song-fine (suc (suc zero)) a b = refl

@@ -24,7 +24,7 @@ pub and-true : (a b : Bool) → (a && b) ≡ true → (a ≡ true) × (b ≡ tru
 and-true true b h = (refl, h)
 and-true false b h = let z : _≡_ {A = ℕ} 0 1 = cc in absurd (omega arith)
 
-and-is : {a b : Bool} → a ≡ true → b ≡ true → (a && b) ≡ true
+pub and-is : {a b : Bool} → a ≡ true → b ≡ true → (a && b) ≡ true
 and-is p q = rw (p, q)
 
 -- ---- an instruction

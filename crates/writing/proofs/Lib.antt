@@ -1,0 +1,9 @@
+pub mod Weights
+pub mod Walks
+pub mod GoodTables
+pub mod Accepting
+pub mod Pieces
+pub mod Filling
+pub mod Told
+pub mod Unique
+pub mod Demand2

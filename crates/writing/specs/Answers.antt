@@ -1,0 +1,56 @@
+-- What the code answers of a table that it judges.
+use Prim.Native.Nat.{ℕ, zero, suc, _+_, min}
+use mathlib.Core.Bool.{Bool}
+use mathlib.Core.List.{List, [], _∷_}
+use lib.ListN.{length}
+use lib.Dec.{eqb}
+use Rattle.bits.specs.Choice.{pick}
+use Rattle.bits.specs.Bits.{placeAfter}
+use Rattle.bits.specs.Outcome.{Outcome, accepted, refused}
+use Rattle.tone.specs.Table.{kind, width}
+use Rattle.tone.specs.Tone.{recallable}
+use Rattle.tone.specs.Writing.{tableBits}
+use Rattle.writing.specs.declared.Weighed.{Weighed}
+use Rattle.writing.specs.declared.Weighed.the-variants.{Bits, Fault}
+use Rattle.writing.specs.declared.Judged.{Judged}
+use Rattle.writing.specs.declared.Judged.the-variants.{Sound, Faulty}
+use Rattle.writing.specs.Judging.{andThen, entryFine}
+
+-- an entry's bits: its id and its payload
+abbrev pub entryLength : ℕ → ℕ
+entryLength e = 3 + width (kind e)
+
+-- the bits of a header where one is due: 6 where it is not in the instruction table, 18 for an instruction, 7 for a recall with nothing earlier of that id
+unfoldable pub headerLength : List Bool → ℕ → Outcome ℕ
+headerLength known e =
+    pick (entryFine e)
+    (pick (eqb (kind e) 0) (pick (recallable known e) (accepted (entryLength e)) (refused 7 0)) (refused 18 0))
+    (refused 6 0)
+
+-- the bits of an instruction where one is due: 6 where it is not in the instruction table, 18 for a header
+unfoldable pub instructionLength : ℕ → Outcome ℕ
+instructionLength e = pick (entryFine e) (pick (eqb (kind e) 0) (refused 18 0) (accepted (entryLength e))) (refused 6 0)
+
+-- the bits of so many instructions: 18 where the table ends before them
+unfoldable pub bodyLength : ℕ → List ℕ → Outcome ℕ
+bodyLength zero t = accepted 0
+bodyLength (suc n) [] = refused 18 0
+bodyLength (suc n) (e ∷ t) = andThen (instructionLength e) (λ b. andThen (bodyLength n t) (λ c. accepted (b + c)))
+
+-- the bits, or the refusal's number
+abbrev pub weighedOf : Outcome ℕ → Weighed
+weighedOf (accepted b) = Bits b
+weighedOf (refused n p) = Fault n
+
+-- bits are counted up to one more than a message of 4,096 octets has
+abbrev pub atMost : ℕ → ℕ
+atMost bits = min bits 32769
+
+-- the patterns and the bits of a table that is accepted, or the refusal's number
+abbrev pub judgedOf : List ℕ → Outcome ℕ → Judged
+judgedOf t (accepted n) = Sound n (atMost (length (tableBits t)))
+judgedOf t (refused n p) = Faulty n
+
+-- how many bits stand ahead of the patterns, with so many octets of title: the command and the song type, the title and its length, the pattern count
+abbrev pub frontLength : ℕ → Bool → ℕ → ℕ
+frontLength song unicode octets = pick unicode 34 26 + (pick (eqb song 1) (4 + placeAfter octets) 0 + 8)

@@ -1,0 +1,4 @@
+pub mod Judging
+pub mod Answers
+pub mod Appending
+pub mod Promise
