@@ -16,15 +16,19 @@ use Rattle.tone.specs.Tone.{perCharacter}
 use Rattle.reader.specs.declared.Reading.{Reading}
 use Rattle.reader.specs.declared.Reading.the-variants.{Read, Refused}
 use Rattle.reader.specs.Promise.{numbers as readNumbers, ReadPromise}
+use Rattle.writing.specs.declared.Writing.{Writing}
+use Rattle.writing.specs.declared.Writing.the-variants.{Written, Refused as Unspelt}
+use Rattle.writing.specs.Promise.{numbers as writeNumbers, WritePromise}
 use Rattle.label.specs.declared.Supplier.{Supplier}
 use Rattle.label.specs.declared.Supplier.the-variants.{Title, StandIn}
 use Rattle.label.specs.Label.{leftOctets, standsIn, labelOf}
 use Rattle.label.specs.Promises.{numbers as labelNumbers, SuppliedPromise}
 use Rattle.label.proofs.Exits.{left-inside}
+use Rattle.playing.specs.declared.Entry.{Entry}
 use Rattle.playing.specs.declared.Listed.{Listed}
 use Rattle.playing.specs.declared.Listed.the-variants.{Made, Refused as Unlisted}
 use Rattle.playing.specs.Listing.{fitsNumbers}
-use Rattle.playing.specs.Promise.{numbersOf as listNumbers, ListPromise}
+use Rattle.playing.specs.Promise.{numbersOf as listNumbers, ListPromise, RowsPromise}
 use Rattle.editing.specs.declared.Edit.{Edit}
 use Rattle.editing.specs.declared.Answer.{Answer}
 use Rattle.editing.specs.declared.Answer.the-variants.{Edited, Refused as Unedited}
@@ -38,7 +42,7 @@ use Rattle.bitmap.specs.Promises.{ReadPromise as BitmapReadPromise, WritePromis
 use Rattle.ohakelm.specs.declared.LabelAnswer.{LabelAnswer}
 use Rattle.ohakelm.specs.declared.ListAnswer.{ListAnswer}
 use Rattle.ohakelm.specs.declared.EditAnswer.{EditAnswer}
-use Rattle.ohakelm.specs.Promise.{readAs, ReadExport, LabelExport, listedAs, ListExport, editedAs, EditExport, bitmapAs, BitmapReadExport, bitmapWrittenAs, BitmapWriteExport}
+use Rattle.ohakelm.specs.Promise.{readAs, ReadExport, writtenAs, WriteExport, LabelExport, listedAs, ListExport, RowsExport, editedAs, EditExport, bitmapAs, BitmapReadExport, bitmapWrittenAs, BitmapWriteExport}
 
 -- ---- reading a tone
 
@@ -52,6 +56,17 @@ module _ {m table title table′ title′ : List ℕ} {x : Reading} (p : ReadPro
   tone-read g = record { answer = ap (λ (y : Reading). readAs (readNumbers y)) (sym g) ∙ ap readAs (p .said); leavesTable = p .leavesTable; leavesTitle = p .leavesTitle }
 
 pub ruleset tones = (tone-refused, tone-read)
+
+-- ---- writing a tone
+
+module _ {song : ℕ} {unicode : Bool} {title table out out′ : List ℕ} {x : Writing} (p : WritePromise song unicode title table out out′ x) where
+  pub tone-unwritten : {n : ℕ} {f : BitPlace} → x ≡ Unspelt n f → WriteExport song unicode title table out out′ (record { refusal = n; place = f .0; octets = 0 })
+  tone-unwritten g = record { answer = ap (λ (y : Writing). writtenAs (writeNumbers y)) (sym g) ∙ ap writtenAs (p .said); leaves = p .leaves }
+
+  pub tone-written : {n : OctetCount} → x ≡ Written n → WriteExport song unicode title table out out′ (record { refusal = 0; place = 0; octets = n .0 })
+  tone-written g = record { answer = ap (λ (y : Writing). writtenAs (writeNumbers y)) (sym g) ∙ ap writtenAs (p .said); leaves = p .leaves }
+
+pub ruleset writings = (tone-unwritten, tone-written)
 
 -- ---- the label
 
@@ -100,6 +115,10 @@ list-made g = ap (λ (y : Listed). listedAs (listNumbers y)) (sym g)
 
 pub list-told : {m list list′ : List ℕ} {x : Listed} {r : ListAnswer} → ListPromise m (fitsNumbers (length list)) list list′ x → r ≡ listedAs (listNumbers x) → ListExport m list list′ r
 list-told p e = record { answer = e ∙ ap listedAs (p .said); leaves = p .leaves }
+
+pub rows-told : {m list : List ℕ} {rows : List Entry} {list′ : List ℕ} {rows′ : List Entry} {x : Listed} {r : ListAnswer}
+    → RowsPromise m list rows list′ rows′ x → r ≡ listedAs (listNumbers x) → RowsExport m list rows list′ rows′ r
+rows-told p e = record { answer = e ∙ ap listedAs (p .listed .said); leaves = p .listed .leaves; leavesRows = p .leaves }
 
 pub ruleset lists = (list-refused, list-made, list-told)
 

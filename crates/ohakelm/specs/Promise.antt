@@ -8,10 +8,13 @@ use Rattle.bits.specs.Choice.{pick}
 use Rattle.bits.specs.Outcome.{Outcome, accepted, refused}
 use Rattle.tone.specs.Tone.{Tone}
 use Rattle.reader.specs.Promise.{Numbers as ReadNumbers, numbers as readNumbers, readInto, readAnswer, tableAfter, titleAfter}
+use Rattle.writing.specs.Judging.{writeTone}
+use Rattle.writing.specs.Promise.{Numbers as WriteNumbers, numbers as writeNumbers, writeAnswer, octetsAfter}
 use Rattle.label.specs.Label.{standsIn, labelOf}
+use Rattle.playing.specs.declared.Entry.{Entry}
 use Rattle.playing.specs.Playing.{Listing}
-use Rattle.playing.specs.Listing.{listTone, fitsNumbers}
-use Rattle.playing.specs.Promise.{Numbers as ListNumbers, numbersOf as listNumbers, listAnswer, cellsAfter}
+use Rattle.playing.specs.Listing.{listTone, fitsNumbers, fitsBoth}
+use Rattle.playing.specs.Promise.{Numbers as ListNumbers, numbersOf as listNumbers, listAnswer, cellsAfter, rowsAfter}
 use Rattle.editing.specs.declared.Edit.{Edit}
 use Rattle.editing.specs.Editing.{Edited, editMessage, bufferAfter, listAfter}
 use Rattle.editing.specs.Promise.{Numbers as EditNumbers, editNumbers}
@@ -44,6 +47,17 @@ pub record ReadExport (m table title table′ title′ : List ℕ) (r : ToneAnsw
   pub leavesTable : table′ ≡ tableAfter (readInto m (length title) (length table)) table
   pub leavesTitle : title′ ≡ titleAfter (readInto m (length title) (length table)) title
 
+-- ---- writing a tone
+
+-- the numbers of a tone that was written, as the answer holds them
+abbrev pub writtenAs : WriteNumbers → WrittenAnswer
+writtenAs n = record { refusal = n .refusal; place = n .place; octets = n .octets }
+
+-- `ohakelm_write`: every number and every octet of the buffer
+pub record WriteExport (song : ℕ) (unicode : Bool) (title table out out′ : List ℕ) (r : WrittenAnswer) : Type 0 where
+  pub answer : r ≡ writtenAs (writeNumbers (writeAnswer (writeTone song unicode title table (length out))))
+  pub leaves : out′ ≡ octetsAfter (writeTone song unicode title table (length out)) out
+
 -- ---- the label
 
 -- `ohakelm_label`: the buffer that supplies the label, and the stretch of it that is the label
@@ -65,6 +79,16 @@ listInto m room = listTone m (fitsNumbers room)
 pub record ListExport (m list list′ : List ℕ) (r : ListAnswer) : Type 0 where
   pub answer : r ≡ listedAs (listNumbers (listAnswer (listInto m (length list))))
   pub leaves : list′ ≡ cellsAfter (listInto m (length list)) list
+
+-- the list of a message, into so many numbers and so many rows
+abbrev pub listBoth : List ℕ → ℕ → ℕ → Outcome Listing
+listBoth m room rows = listTone m (fitsBoth room rows)
+
+-- `ohakelm_rows`: every number, every cell of the list and every row
+pub record RowsExport (m list : List ℕ) (rows : List Entry) (list′ : List ℕ) (rows′ : List Entry) (r : ListAnswer) : Type 0 where
+  pub answer : r ≡ listedAs (listNumbers (listAnswer (listBoth m (length list) (length rows))))
+  pub leaves : list′ ≡ cellsAfter (listBoth m (length list) (length rows)) list
+  pub leavesRows : rows′ ≡ rowsAfter (listBoth m (length list) (length rows)) rows
 
 -- ---- edits
 

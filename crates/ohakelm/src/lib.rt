@@ -4,13 +4,15 @@ ghost use lib.ListN.{length};
 ghost use Rattle.playing.specs.Promise.{numbersOf as listNumbers};
 ghost use Rattle.editing.specs.Promise.{numbersOf as editNumbers};
 ghost use Rattle.editing.specs.declared.Edit.the-variants.{Replace, Insert, Delete};
-ghost use Rattle.ohakelm.specs.Promise.{ReadExport, LabelExport, ListExport, EditExport, BitmapReadExport, BitmapWriteExport, listedAs, editedAs};
+ghost use Rattle.ohakelm.specs.Promise.{ReadExport, WriteExport, LabelExport, ListExport, RowsExport, EditExport, BitmapReadExport, BitmapWriteExport, listedAs, editedAs};
 use bits::OctetCount;
 use editing::Answer;
 use editing::Edit;
 use label::Supplier;
+use playing::Entry;
 use playing::Listed;
 use reader::Reading;
+use writing::Writing;
 
 // ---- answers
 
@@ -109,6 +111,31 @@ pub extern "C" fn ohakelm_read(msg: &[u8], table: &mut [u32], title: &mut [u8]) 
     }
 }
 
+// Writes a tone message from a song type, a title and a table.
+#[no_mangle]
+pub extern "C" fn ohakelm_write(
+    song: u32,
+    unicode: bool,
+    title: &[u8],
+    table: &[u32],
+    out: &mut [u8],
+) -> WrittenAnswer
+    ensures { λ r. ⌜ WriteExport song unicode (now (title .entry)) (now (table .entry)) (now (out .entry)) (now (out .exit)) r ⌝ }
+{
+    match writing::write(song, unicode, title, table, out) {
+        Writing::Refused { number, place } => WrittenAnswer {
+            refusal: number,
+            place: place.0,
+            octets: 0,
+        },
+        Writing::Written { octets } => WrittenAnswer {
+            refusal: 0,
+            place: 0,
+            octets: octets.0,
+        },
+    }
+}
+
 // Finds the label for the screen: which buffer supplies it, and which stretch of that buffer it is.
 #[no_mangle]
 pub extern "C" fn ohakelm_label(title: &[u8], unicode: bool, stand_in: &[u8]) -> LabelAnswer
@@ -154,6 +181,14 @@ pub extern "C" fn ohakelm_list(msg: &[u8], list: &mut [u32]) -> ListAnswer
     ensures { λ r. ⌜ ListExport (now (msg .entry)) (now (list .entry)) (now (list .exit)) r ⌝ }
 {
     list_answer(playing::list(msg, list))
+}
+
+// Makes the playing list in both forms: two numbers an entry, and one record an entry.
+#[no_mangle]
+pub extern "C" fn ohakelm_rows(msg: &[u8], list: &mut [u32], rows: &mut [Entry]) -> ListAnswer
+    ensures { λ r. ⌜ RowsExport (now (msg .entry)) (now (list .entry)) (now (rows .entry)) (now (list .exit)) (now (rows .exit)) r ⌝ }
+{
+    list_answer(playing::rows(msg, list, rows))
 }
 
 // ---- edits
