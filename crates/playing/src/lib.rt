@@ -31,6 +31,7 @@ pub struct Settings {
 }
 
 // An entry of the playing list, as the mixer receives it.
+#[repr(C)]
 pub struct Entry {
     pub note: u32,
     pub scale: u32,

@@ -14,8 +14,22 @@ use Rattle.samples.specs.Samples.{Samples}
 pub samples : Samples
 unfolding field bitsN table.width table.allowed writing.commandBits writing.titleBits writing.entryBits writing.frontBits writing.songBits writing.toneBits writing.toneOctets reading.element reading.filled reading.whetherUnicode reading.soundPart reading.parts reading.command reading.character reading.text reading.title reading.counted reading.titled reading.typed reading.front reading.headerDue reading.instructionDue reading.bodyDue reading.patternsDue reading.ending reading.rest reading.wholeTone reading.readTone beats units microseconds applied sounded step passesOf bodyOf remember patternPlayed playingList editMessage
 samples = record {
-    p1-reads = refl; p1-writes = refl; p1-table = refl; p1-lists = refl;
-    p2-octets = refl; p2-numbers = refl;
-    p3-octets = refl; p3-numbers = refl; p3-lists = refl;
-    p4 = refl; p5 = refl; p6 = refl; p7 = refl; p8 = refl; p9 = refl; p10 = refl;
-    p11 = bitmaps.p11; p12 = bitmaps.p12 }
+  p1-reads = refl;
+  p1-writes = refl;
+  p1-table = refl;
+  p1-lists = refl;
+  p2-octets = refl;
+  p2-numbers = refl;
+  p3-octets = refl;
+  p3-numbers = refl;
+  p3-lists = refl;
+  p4 = refl;
+  p5 = refl;
+  p6 = refl;
+  p7 = refl;
+  p8 = refl;
+  p9 = refl;
+  p10 = refl;
+  p11 = bitmaps.p11;
+  p12 = bitmaps.p12;
+}

@@ -61,10 +61,11 @@ pub note-allowed : (n d s : ℕ) → d < 8 → s < 4 → (allowed 1 (n * 32 + d 
 unfolding allowed
 note-allowed n d s hd hs =
     let a : noteOf (n * 32 + d * 4 + s) ≡ n = omega arith in
-    let b : durationOf (n * 32 + d * 4 + s) ≡ d = omega arith in
-    (λ h. let k = and-true (leb (noteOf (n * 32 + d * 4 + s)) 12) (leb (durationOf (n * 32 + d * 4 + s)) 5) h in
-      (rw a at (leb-true (noteOf (n * 32 + d * 4 + s)) 12 (k .0)), rw b at (leb-true (durationOf (n * 32 + d * 4 + s)) 5 (k .1))),
-     λ h. rw (a, b, le-leb n 12 (h .0), le-leb d 5 (h .1)) refl)
+    let b : durationOf (n * 32 + d * 4 + s) ≡ d = omega arith in (
+      λ h. let k = and-true (leb (noteOf (n * 32 + d * 4 + s)) 12) (leb (durationOf (n * 32 + d * 4 + s)) 5) h in
+          (rw a at (leb-true (noteOf (n * 32 + d * 4 + s)) 12 (k .0)), rw b at (leb-true (durationOf (n * 32 + d * 4 + s)) 5 (k .1))),
+      λ h. rw (a, b, le-leb n 12 (h .0), le-leb d 5 (h .1)) refl,
+    )
 
 -- style 0 natural, 1 continuous, 2 staccato
 pub style-allowed : (v : ℕ) → (allowed 3 v ≡ true) ↔ (v ≤ 2)

@@ -42,10 +42,13 @@ learned known p id s four = go (eqb (specifier (header p)) 0) refl
   where
     e : partOf (header p) ≡ p .id
     e = part-of p s
+
     n : specifier (header p) ≡ length (p .body)
     n = header-small p s .1
+
     i : p .id < length known
     i = let a = s .id in omega arith
+
     go : (t : Bool) → eqb (specifier (header p)) 0 ≡ t → (getD (pick t known (set known (partOf (header p)) true)) id false ≡ true) ↔ (((p .id ≡ id) × (1 ≤ length (p .body))) ⊎ (getD known id false ≡ true))
     go true q =
         let z = eqb-true (specifier (header p)) 0 q in
@@ -66,9 +69,10 @@ unfolding after
 known-after known [] id h four = (λ x. inr x, λ w. ⊎-elim (λ x. absurd x) (λ x. x) w)
 known-after known (p ∷ ps) id h four =
     let l = learned known p id (h .0) four in
-    let r = known-after (learn known (header p)) ps id (h .1) (learn-keeps known (header p) ∙ four) in
-    (λ x. ⊎-elim (λ y. inl (inr y)) (λ y. ⊎-elim (λ z. inl (inl z)) (λ z. inr z) (l .0 y)) (r .0 x),
-     λ w. r .1 (⊎-elim (λ y. ⊎-elim (λ z. inr (l .1 (inl z))) (λ z. inl z) y) (λ y. inr (l .1 (inr y))) w))
+    let r = known-after (learn known (header p)) ps id (h .1) (learn-keeps known (header p) ∙ four) in (
+      λ x. ⊎-elim (λ y. inl (inr y)) (λ y. ⊎-elim (λ z. inl (inl z)) (λ z. inr z) (l .0 y)) (r .0 x),
+      λ w. r .1 (⊎-elim (λ y. ⊎-elim (λ z. inr (l .1 (inl z))) (λ z. inl z) y) (λ y. inr (l .1 (inr y))) w),
+    )
 
 nothing-known : (id : ℕ) → getD noneKnown id false ≡ true → ⊥
 nothing-known zero h = let z : _≡_ {A = ℕ} 0 1 = cc in omega arith

@@ -1,0 +1,25 @@
+-- `ohakelm::ohakelm_delete` meets its contract.
+use borrow.Author.Needs.{needs}
+use Rattle.ohakelm.proofs.ohakelm_delete.Statement.{statement}
+use Rattle.ohakelm.proofs.ohakelm_delete.Tie as tie
+use Rattle.ohakelm.proofs.Exits.{edits}
+
+edit-message-requires : tie.Need-edit-message-requires
+edit-message-requires c κs = search needs
+
+edit-answer-requires : tie.Need-edit-answer-requires
+edit-answer-requires c κs = search needs
+
+same-length : tie.Need-same-length
+same-length c = search needs
+
+same-length-2 : tie.Need-same-length-2
+same-length-2 c = search needs
+
+returns : tie.Need-returns
+returns c = search (edits, needs)
+
+pub ohakelm-delete-spec : {M : Type 1} → statement M
+ohakelm-delete-spec =
+    tie.close
+    (tie.spec edit-message-requires edit-answer-requires same-length same-length-2 returns)

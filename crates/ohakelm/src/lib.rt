@@ -1,0 +1,345 @@
+ghost use mathlib.Core.Path.{_≡_};
+ghost use Prim.Native.Nat.{_+_};
+ghost use lib.ListN.{length};
+ghost use Rattle.playing.specs.Promise.{numbersOf as listNumbers};
+ghost use Rattle.editing.specs.Promise.{numbersOf as editNumbers};
+ghost use Rattle.editing.specs.declared.Edit.the-variants.{Replace, Insert, Delete};
+ghost use Rattle.ohakelm.specs.Promise.{ReadExport, WriteExport, LabelExport, ListExport, RowsExport, EditExport, BitmapReadExport, BitmapWriteExport, listedAs, editedAs};
+use bits::OctetCount;
+use editing::Answer;
+use editing::Edit;
+use label::Supplier;
+use playing::Entry;
+use playing::Listed;
+use reader::Reading;
+use writing::Writing;
+
+// ---- answers
+
+// What reading a tone answers.
+#[repr(C)]
+pub struct ToneAnswer {
+    pub refusal: u32,
+    pub place: usize,
+    pub song: u32,
+    pub unicode: bool,
+    pub characters: usize,
+    pub patterns: usize,
+    pub entries: usize,
+}
+
+// What writing answers.
+#[repr(C)]
+pub struct WrittenAnswer {
+    pub refusal: u32,
+    pub place: usize,
+    pub octets: usize,
+}
+
+// Which buffer supplies a label, and which stretch of it.
+#[repr(C)]
+pub struct LabelAnswer {
+    pub stand_in: bool,
+    pub start: usize,
+    pub length: usize,
+}
+
+// What making a list answers.
+#[repr(C)]
+pub struct ListAnswer {
+    pub refusal: u32,
+    pub place: usize,
+    pub entries: usize,
+    pub mark: u32,
+}
+
+// What an edit answers.
+#[repr(C)]
+pub struct EditAnswer {
+    pub refusal: u32,
+    pub place: usize,
+    pub length: usize,
+    pub entries: usize,
+    pub mark: u32,
+    pub change: i32,
+}
+
+// What reading a bitmap answers: with the sizes and the black pixels the stretch of the message that is the image.
+#[repr(C)]
+pub struct BitmapAnswer {
+    pub refusal: u32,
+    pub place: usize,
+    pub width: u32,
+    pub height: u32,
+    pub black: u32,
+    pub start: usize,
+    pub length: usize,
+}
+
+// ---- tones
+
+// Reads a tone message into a lent table and a lent title.
+#[no_mangle]
+pub extern "C" fn ohakelm_read(msg: &[u8], table: &mut [u32], title: &mut [u8]) -> ToneAnswer
+    ensures { λ r. ⌜ ReadExport (now (msg .entry)) (now (table .entry)) (now (title .entry)) (now (table .exit)) (now (title .exit)) r ⌝ }
+{
+    match reader::read(msg, table, title) {
+        Reading::Refused { number, place } => ToneAnswer {
+            refusal: number,
+            place: place.0,
+            song: 0,
+            unicode: false,
+            characters: 0,
+            patterns: 0,
+            entries: 0,
+        },
+        Reading::Read {
+            song,
+            unicode,
+            characters,
+            patterns,
+            entries,
+        } => ToneAnswer {
+            refusal: 0,
+            place: 0,
+            song,
+            unicode,
+            characters: characters as usize,
+            patterns: patterns as usize,
+            entries: entries as usize,
+        },
+    }
+}
+
+// Writes a tone message from a song type, a title and a table.
+#[no_mangle]
+pub extern "C" fn ohakelm_write(
+    song: u32,
+    unicode: bool,
+    title: &[u8],
+    table: &[u32],
+    out: &mut [u8],
+) -> WrittenAnswer
+    ensures { λ r. ⌜ WriteExport song unicode (now (title .entry)) (now (table .entry)) (now (out .entry)) (now (out .exit)) r ⌝ }
+{
+    match writing::write(song, unicode, title, table, out) {
+        Writing::Refused { number, place } => WrittenAnswer {
+            refusal: number,
+            place: place.0,
+            octets: 0,
+        },
+        Writing::Written { octets } => WrittenAnswer {
+            refusal: 0,
+            place: 0,
+            octets: octets.0,
+        },
+    }
+}
+
+// Finds the label for the screen: which buffer supplies it, and which stretch of that buffer it is.
+#[no_mangle]
+pub extern "C" fn ohakelm_label(title: &[u8], unicode: bool, stand_in: &[u8]) -> LabelAnswer
+    ensures { λ r. ⌜ LabelExport (now (title .entry)) unicode (now («stand_in» .entry)) r ⌝ }
+{
+    match label::supplied(title, unicode, stand_in) {
+        Supplier::StandIn(octets) => LabelAnswer {
+            stand_in: true,
+            start: 0,
+            length: octets.0,
+        },
+        Supplier::Title(octets) => LabelAnswer {
+            stand_in: false,
+            start: 0,
+            length: octets.0,
+        },
+    }
+}
+
+// The numbers of a list.
+fn list_answer(listed: Listed) -> ListAnswer
+    ensures { λ r. ⌜ r ≡ listedAs (listNumbers listed) ⌝ }
+{
+    match listed {
+        Listed::Refused { number, place } => ListAnswer {
+            refusal: number,
+            place: place.0,
+            entries: 0,
+            mark: 0,
+        },
+        Listed::Made { entries, mark } => ListAnswer {
+            refusal: 0,
+            place: 0,
+            entries: entries as usize,
+            mark,
+        },
+    }
+}
+
+// Makes the playing list of a tone message, two numbers an entry.
+#[no_mangle]
+pub extern "C" fn ohakelm_list(msg: &[u8], list: &mut [u32]) -> ListAnswer
+    ensures { λ r. ⌜ ListExport (now (msg .entry)) (now (list .entry)) (now (list .exit)) r ⌝ }
+{
+    list_answer(playing::list(msg, list))
+}
+
+// Makes the playing list in both forms: two numbers an entry, and one record an entry.
+#[no_mangle]
+pub extern "C" fn ohakelm_rows(msg: &[u8], list: &mut [u32], rows: &mut [Entry]) -> ListAnswer
+    ensures { λ r. ⌜ RowsExport (now (msg .entry)) (now (list .entry)) (now (rows .entry)) (now (list .exit)) (now (rows .exit)) r ⌝ }
+{
+    list_answer(playing::rows(msg, list, rows))
+}
+
+// ---- edits
+
+// The numbers of an edit.
+fn edit_answer(answer: Answer) -> EditAnswer
+    ensures { λ r. ⌜ r ≡ editedAs (editNumbers answer) ⌝ }
+{
+    match answer {
+        Answer::Refused { number, place } => EditAnswer {
+            refusal: number,
+            place: place.0,
+            length: 0,
+            entries: 0,
+            mark: 0,
+            change: 0,
+        },
+        Answer::Edited {
+            length,
+            entries,
+            mark,
+            change,
+        } => EditAnswer {
+            refusal: 0,
+            place: 0,
+            length: length.0,
+            entries: entries as usize,
+            mark,
+            change,
+        },
+    }
+}
+
+// Puts another instruction in an instruction's place.
+#[no_mangle]
+pub extern "C" fn ohakelm_replace(
+    buf: &mut [u8],
+    used: usize,
+    pattern: usize,
+    instruction: usize,
+    cell: u32,
+    list: &mut [u32],
+) -> EditAnswer
+    ensures { λ r. ⌜ EditExport (Replace cell) (now (buf .entry)) used pattern instruction (now (list .entry)) (now (buf .exit)) (now (list .exit)) r ⌝ }
+{
+    edit_answer(editing::edit_message(
+        buf,
+        OctetCount(used),
+        Edit::Replace(cell),
+        pattern,
+        instruction,
+        list,
+    ))
+}
+
+// Inserts an instruction before another one, or behind the last.
+#[no_mangle]
+pub extern "C" fn ohakelm_insert(
+    buf: &mut [u8],
+    used: usize,
+    pattern: usize,
+    instruction: usize,
+    cell: u32,
+    list: &mut [u32],
+) -> EditAnswer
+    ensures { λ r. ⌜ EditExport (Insert cell) (now (buf .entry)) used pattern instruction (now (list .entry)) (now (buf .exit)) (now (list .exit)) r ⌝ }
+{
+    edit_answer(editing::edit_message(
+        buf,
+        OctetCount(used),
+        Edit::Insert(cell),
+        pattern,
+        instruction,
+        list,
+    ))
+}
+
+// Deletes an instruction.
+#[no_mangle]
+pub extern "C" fn ohakelm_delete(
+    buf: &mut [u8],
+    used: usize,
+    pattern: usize,
+    instruction: usize,
+    list: &mut [u32],
+) -> EditAnswer
+    ensures { λ r. ⌜ EditExport Delete (now (buf .entry)) used pattern instruction (now (list .entry)) (now (buf .exit)) (now (list .exit)) r ⌝ }
+{
+    edit_answer(editing::edit_message(
+        buf,
+        OctetCount(used),
+        Edit::Delete,
+        pattern,
+        instruction,
+        list,
+    ))
+}
+
+// ---- bitmaps
+
+// Reads a bitmap: its sizes, its black pixels and the stretch of the message that is the image.
+#[no_mangle]
+pub extern "C" fn ohakelm_bitmap_read(msg: &[u8]) -> BitmapAnswer
+    ensures { λ r. ⌜ BitmapReadExport (now (msg .entry)) r ⌝ }
+{
+    match bitmap::read(msg) {
+        bitmap::Reading::Refused(number, place) => BitmapAnswer {
+            refusal: number,
+            place: place.0,
+            width: 0,
+            height: 0,
+            black: 0,
+            start: 0,
+            length: 0,
+        },
+        bitmap::Reading::Read {
+            width,
+            height,
+            black,
+        } => BitmapAnswer {
+            refusal: 0,
+            place: 0,
+            width,
+            height,
+            black,
+            start: 4,
+            length: bitmap::image(msg).len(),
+        },
+    }
+}
+
+// Writes a bitmap from its sizes and its image.
+#[no_mangle]
+pub extern "C" fn ohakelm_bitmap_write(
+    width: u32,
+    height: u32,
+    image: &[u8],
+    out: &mut [u8],
+) -> WrittenAnswer
+    ensures { λ r. ⌜ BitmapWriteExport width height (now (image .entry)) (now (out .entry)) (now (out .exit)) r ⌝ }
+{
+    match bitmap::write(width, height, image, out) {
+        bitmap::Writing::Refused(number, place) => WrittenAnswer {
+            refusal: number,
+            place: place.0,
+            octets: 0,
+        },
+        bitmap::Writing::Wrote(octets) => WrittenAnswer {
+            refusal: 0,
+            place: 0,
+            octets: octets.0,
+        },
+    }
+}

@@ -1,0 +1,63 @@
+/* Lists a ringing tone, inserts an instruction, and lists it again.
+ *
+ *   rt staticlib ohakelm
+ *   cc -O2 -Iinclude examples/ring.c target/staticlib/libohakelm.a -o target/ring
+ */
+#include <stdio.h>
+
+#include "ohakelm.h"
+
+#define ROOM 16 /* octets of the buffer, and entries of the list */
+
+/* Scale 0, as a table entry. */
+#define SCALE_0 (2 * 65536 + 0)
+
+static void print_message(const uint8_t *msg, size_t octets)
+{
+    for (size_t i = 0; i < octets; i++)
+        printf(i == 0 ? "%02X" : " %02X", msg[i]);
+    printf("\n");
+}
+
+static void print_list(const uint32_t *list, size_t entries, uint32_t mark)
+{
+    printf("entries %zu return ", entries);
+    if (mark == OHAKELM_NO_MARK)
+        printf("none\n");
+    else
+        printf("%u\n", mark);
+    for (size_t i = 0; i < entries; i++) {
+        uint32_t first = list[2 * i];
+        printf("%u %u %u %u %u\n", first / 1024, first / 256 % 4,
+               first / 16 % 16, first % 16, list[2 * i + 1]);
+    }
+}
+
+static int refused(uint32_t number, size_t place)
+{
+    printf("refused %u at %zu\n", number, place);
+    return 1;
+}
+
+int main(void)
+{
+    /* A temporary song with one part: tempo 125, then A, a quarter. */
+    uint8_t buf[ROOM] = {0x02, 0x4A, 0x3A, 0x80, 0x40, 0x00, 0x51, 0xC6, 0x90, 0x00};
+    size_t used = 10;
+    uint32_t list[2 * ROOM];
+
+    struct ohakelm_listed made = ohakelm_list(buf, used, list, 2 * ROOM);
+    if (made.refusal != 0)
+        return refused(made.refusal, made.place);
+    print_message(buf, used);
+    print_list(list, made.entries, made.mark);
+
+    /* Pattern 0 is the part, and its instruction 1 is the note. */
+    struct ohakelm_edited done =
+        ohakelm_insert(buf, ROOM, used, 0, 1, SCALE_0, list, 2 * ROOM);
+    if (done.refusal != 0)
+        return refused(done.refusal, done.place);
+    print_message(buf, done.length);
+    print_list(list, done.entries, done.mark);
+    return 0;
+}

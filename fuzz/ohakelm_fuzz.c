@@ -1,0 +1,457 @@
+/* A fuzz target over every export of the library, for libFuzzer.
+ *
+ * docs/FUZZING.md says how to build and run it.
+ *
+ * Coverage. The archive that Rattle writes has no coverage counters, and
+ * libFuzzer cannot add them. So each call is put to a second, plain
+ * implementation too (fuzz/guide), which is built with counters. The two
+ * follow the same rules, so what leads the fuzzer into a new branch of the one
+ * also leads the other to a rule that it had not met.
+ *
+ * Checks. Both must answer alike and leave the same octets. A refusal must
+ * leave all as it was. What was read must write again, what an edit lists must
+ * be the list of its octets, and a deletion must undo an insertion. Buffers end
+ * at a page that cannot be touched, and guard cells stand ahead of them, so a
+ * read or a write past the end ends the run.
+ *
+ * Input. One octet names the call, some more are its numbers, and the rest is
+ * the message, title or image. */
+#define _DEFAULT_SOURCE
+#include <stdio.h>
+#include <stdlib.h>
+#include <string.h>
+#include <sys/mman.h>
+#include <unistd.h>
+
+#include "ohakelm.h"
+
+struct ohakelm_tone guide_read(const uint8_t *, size_t, uint32_t *, size_t, uint8_t *, size_t);
+struct ohakelm_written guide_write(uint32_t, bool, const uint8_t *, size_t, const uint32_t *,
+                                   size_t, uint8_t *, size_t);
+struct ohakelm_label_stretch guide_label(const uint8_t *, size_t, bool, const uint8_t *, size_t);
+struct ohakelm_listed guide_list(const uint8_t *, size_t, uint32_t *, size_t);
+struct ohakelm_listed guide_rows(const uint8_t *, size_t, uint32_t *, size_t,
+                                 struct ohakelm_entry *, size_t);
+struct ohakelm_edited guide_replace(uint8_t *, size_t, size_t, size_t, size_t, uint32_t,
+                                    uint32_t *, size_t);
+struct ohakelm_edited guide_insert(uint8_t *, size_t, size_t, size_t, size_t, uint32_t,
+                                   uint32_t *, size_t);
+struct ohakelm_edited guide_delete(uint8_t *, size_t, size_t, size_t, size_t, uint32_t *, size_t);
+struct ohakelm_bitmap guide_bitmap_read(const uint8_t *, size_t);
+struct ohakelm_written guide_bitmap_write(uint32_t, uint32_t, const uint8_t *, size_t, uint8_t *,
+                                          size_t);
+
+#define GUARD 32       /* octets ahead of a buffer */
+#define LARGEST 131072 /* octets of a buffer, at most */
+#define OLD 0xA5       /* what lent buffers are filled with */
+
+/* ---- Reports */
+
+static void check(bool held, const char *rule)
+{
+    if (held)
+        return;
+    fprintf(stderr, "does not hold: %s\n", rule);
+    abort();
+}
+
+/* Answers have padding, so they are compared field by field. */
+static bool same_tone(struct ohakelm_tone a, struct ohakelm_tone b)
+{
+    return a.refusal == b.refusal && a.place == b.place && a.song == b.song &&
+           a.unicode == b.unicode && a.characters == b.characters && a.patterns == b.patterns &&
+           a.entries == b.entries;
+}
+
+static bool same_written(struct ohakelm_written a, struct ohakelm_written b)
+{
+    return a.refusal == b.refusal && a.place == b.place && a.octets == b.octets;
+}
+
+static bool same_label(struct ohakelm_label_stretch a, struct ohakelm_label_stretch b)
+{
+    return a.stand_in == b.stand_in && a.start == b.start && a.length == b.length;
+}
+
+static bool same_listed(struct ohakelm_listed a, struct ohakelm_listed b)
+{
+    return a.refusal == b.refusal && a.place == b.place && a.entries == b.entries &&
+           a.mark == b.mark;
+}
+
+static bool same_edited(struct ohakelm_edited a, struct ohakelm_edited b)
+{
+    return a.refusal == b.refusal && a.place == b.place && a.length == b.length &&
+           a.entries == b.entries && a.mark == b.mark && a.change == b.change;
+}
+
+static bool same_bitmap(struct ohakelm_bitmap a, struct ohakelm_bitmap b)
+{
+    return a.refusal == b.refusal && a.place == b.place && a.width == b.width &&
+           a.height == b.height && a.black == b.black && a.start == b.start &&
+           a.length == b.length;
+}
+
+/* ---- Buffers */
+
+/* A buffer for the library, one of the same octets for the guide, and what
+ * both held at first. The library's ends at a page that cannot be touched. */
+struct lent {
+    uint8_t *end;
+    uint8_t *ours;
+    uint8_t theirs[LARGEST];
+    uint8_t before[LARGEST];
+    size_t octets;
+};
+
+static struct lent first, second, third;
+
+static void map(struct lent *lent)
+{
+    size_t page = (size_t)sysconf(_SC_PAGESIZE);
+    size_t whole = (LARGEST + GUARD + page - 1) / page * page;
+    uint8_t *start = mmap(NULL, whole + page, PROT_READ | PROT_WRITE,
+                          MAP_PRIVATE | MAP_ANONYMOUS, -1, 0);
+    check(start != MAP_FAILED, "there is memory");
+    check(mprotect(start + whole, page, PROT_NONE) == 0, "a page can be closed");
+    lent->end = start + whole;
+}
+
+/* Lends so many octets, the front of them from a source. */
+static void lend(struct lent *lent, size_t octets, const uint8_t *from, size_t count)
+{
+    check(octets <= LARGEST, "a buffer is large enough");
+    if (lent->end == NULL)
+        map(lent);
+    lent->octets = octets;
+    lent->ours = lent->end - octets;
+    memset(lent->before, OLD, octets);
+    if (count > 0)
+        memcpy(lent->before, from, count < octets ? count : octets);
+    memcpy(lent->ours, lent->before, octets);
+    memcpy(lent->theirs, lent->before, octets);
+    memset(lent->ours - GUARD, OLD, GUARD);
+}
+
+/* The guards are whole, and both sides have the same octets. */
+static void check_lent(const struct lent *lent)
+{
+    for (size_t i = 1; i <= GUARD; i++)
+        check(lent->ours[-(ptrdiff_t)i] == OLD, "the cells ahead of a buffer are unchanged");
+    check(memcmp(lent->ours, lent->theirs, lent->octets) == 0, "both leave the same octets");
+}
+
+static void check_untouched(const struct lent *lent)
+{
+    check(memcmp(lent->ours, lent->before, lent->octets) == 0, "a refusal changes nothing");
+}
+
+static uint32_t *words(uint8_t *octets)
+{
+    return (uint32_t *)(void *)octets;
+}
+
+/* ---- Input */
+
+struct input {
+    const uint8_t *at;
+    size_t left;
+};
+
+static uint32_t take(struct input *in, size_t octets)
+{
+    uint32_t number = 0;
+    for (size_t i = 0; i < octets; i++) {
+        number = number << 8;
+        if (in->left > 0) {
+            number |= *in->at++;
+            in->left--;
+        }
+    }
+    return number;
+}
+
+/* A room of up to 15 elements, or one that is ample. */
+static size_t take_room(struct input *in, size_t ample)
+{
+    uint32_t number = take(in, 1);
+    return number < 16 ? number : ample;
+}
+
+/* The rest of the input, at the end of the first buffer. */
+static size_t take_rest(struct input *in)
+{
+    size_t count = in->left < 8192 ? in->left : 8192;
+    lend(&first, count, in->at, count);
+    return count;
+}
+
+/* ---- Calls */
+
+#define AMPLE_TABLE 7000  /* more than the entries of 4,096 octets */
+#define AMPLE_LIST 8192   /* cells */
+#define AMPLE_ROWS 4096
+
+/* What was read is written again to the same octets. */
+static void check_written_again(struct ohakelm_tone tone, const uint32_t *table,
+                                const uint8_t *title)
+{
+    static uint8_t out[OHAKELM_LARGEST_TONE];
+    size_t octets = tone.characters * (tone.unicode ? 2 : 1);
+    struct ohakelm_written done =
+        ohakelm_write(tone.song, tone.unicode, title, octets, table, tone.entries, out,
+                      sizeof out);
+    check(done.refusal == 0 && done.octets == first.octets, "a tone that was read is written");
+    check(memcmp(out, first.ours, done.octets) == 0, "it is written to the same octets");
+}
+
+static void fuzz_read(struct input *in)
+{
+    size_t table_room = take_room(in, AMPLE_TABLE);
+    size_t title_room = take_room(in, 30);
+    size_t count = take_rest(in);
+    lend(&second, 4 * table_room, NULL, 0);
+    lend(&third, title_room, NULL, 0);
+    struct ohakelm_tone tone = ohakelm_read(first.ours, count, words(second.ours), table_room,
+                                            third.ours, title_room);
+    struct ohakelm_tone other = guide_read(first.theirs, count, words(second.theirs), table_room,
+                                           third.theirs, title_room);
+    check(same_tone(tone, other), "both read alike");
+    check_lent(&first);
+    check_lent(&second);
+    check_lent(&third);
+    if (tone.refusal != 0) {
+        check_untouched(&second);
+        check_untouched(&third);
+        return;
+    }
+    check_written_again(tone, words(second.ours), third.ours);
+}
+
+/* What was written is read again to the same table. */
+static void check_read_again(struct ohakelm_written done, const uint32_t *table, size_t entries)
+{
+    static uint32_t again[AMPLE_TABLE];
+    static uint8_t title[30];
+    struct ohakelm_tone tone =
+        ohakelm_read(third.ours, done.octets, again, AMPLE_TABLE, title, sizeof title);
+    check(tone.refusal == 0 && tone.entries == entries, "a tone that was written is read");
+    check(memcmp(again, table, 4 * entries) == 0, "its table is the same");
+}
+
+/* The table comes from the input, two or four octets an entry. */
+static void fuzz_write(struct input *in)
+{
+    static uint32_t table[AMPLE_TABLE];
+    uint32_t song = take(in, 1);
+    uint32_t flags = take(in, 1);
+    bool unicode = flags & 1;
+    size_t room = take_room(in, OHAKELM_LARGEST_TONE);
+    uint8_t title[64];
+    size_t title_len = take(in, 1) % sizeof title;
+    for (size_t i = 0; i < title_len; i++)
+        title[i] = (uint8_t)take(in, 1);
+    size_t entries = 0;
+    while (in->left > 0 && entries < AMPLE_TABLE) {
+        /* A short entry has its kind in the upper octet's upper half. */
+        uint32_t number = flags & 2 ? take(in, 4) : take(in, 2);
+        if (!(flags & 2) && number >= 0x4000)
+            number = (number / 4096 - 3) * 65536 + number % 4096;
+        table[entries++] = number;
+    }
+    lend(&first, title_len, title, title_len);
+    lend(&second, 4 * entries, (const uint8_t *)table, 4 * entries);
+    lend(&third, room, NULL, 0);
+    struct ohakelm_written done = ohakelm_write(song, unicode, first.ours, title_len,
+                                                words(second.ours), entries, third.ours, room);
+    struct ohakelm_written other = guide_write(song, unicode, first.theirs, title_len,
+                                               words(second.theirs), entries, third.theirs, room);
+    check(same_written(done, other), "both write alike");
+    check_lent(&first);
+    check_lent(&second);
+    check_lent(&third);
+    if (done.refusal != 0)
+        check_untouched(&third);
+    else
+        check_read_again(done, table, entries);
+}
+
+static void fuzz_label(struct input *in)
+{
+    bool unicode = take(in, 1) & 1;
+    size_t title = take(in, 1);
+    size_t count = in->left;
+    title = title < count ? title : count;
+    lend(&first, title, in->at, title);
+    lend(&second, count - title, in->at + title, count - title);
+    struct ohakelm_label_stretch label =
+        ohakelm_label(first.ours, title, unicode, second.ours, count - title);
+    struct ohakelm_label_stretch other =
+        guide_label(first.theirs, title, unicode, second.theirs, count - title);
+    check(same_label(label, other), "both label alike");
+    check_lent(&first);
+    check_lent(&second);
+}
+
+static void fuzz_list(struct input *in)
+{
+    size_t room = take_room(in, AMPLE_LIST);
+    size_t count = take_rest(in);
+    lend(&second, 4 * room, NULL, 0);
+    struct ohakelm_listed made = ohakelm_list(first.ours, count, words(second.ours), room);
+    struct ohakelm_listed other = guide_list(first.theirs, count, words(second.theirs), room);
+    check(same_listed(made, other), "both list alike");
+    check_lent(&first);
+    check_lent(&second);
+    if (made.refusal != 0)
+        check_untouched(&second);
+}
+
+static void fuzz_rows(struct input *in)
+{
+    size_t list_room = take_room(in, AMPLE_LIST);
+    size_t rows_room = take_room(in, AMPLE_ROWS);
+    size_t count = take_rest(in);
+    lend(&second, 4 * list_room, NULL, 0);
+    lend(&third, sizeof(struct ohakelm_entry) * rows_room, NULL, 0);
+    struct ohakelm_entry *rows = (struct ohakelm_entry *)(void *)third.ours;
+    struct ohakelm_listed made =
+        ohakelm_rows(first.ours, count, words(second.ours), list_room, rows, rows_room);
+    struct ohakelm_listed other =
+        guide_rows(first.theirs, count, words(second.theirs), list_room,
+                   (struct ohakelm_entry *)(void *)third.theirs, rows_room);
+    check(same_listed(made, other), "both make rows alike");
+    check_lent(&first);
+    check_lent(&second);
+    check_lent(&third);
+    if (made.refusal != 0) {
+        check_untouched(&second);
+        check_untouched(&third);
+    }
+    for (size_t i = 0; i < made.entries; i++) {
+        struct ohakelm_entry row = rows[i];
+        const uint32_t *cells = words(second.ours) + 2 * i;
+        check(row.note * 1024 + row.scale * 256 + row.style * 16 + row.volume == cells[0] &&
+                  row.microseconds == cells[1],
+              "the two forms agree");
+    }
+}
+
+/* The list that an edit gave is the list of the octets that it left. */
+static void check_list_of(struct ohakelm_edited done)
+{
+    static uint32_t list[AMPLE_LIST];
+    struct ohakelm_listed made = ohakelm_list(first.ours, done.length, list, AMPLE_LIST);
+    check(made.refusal == 0 && made.entries == done.entries && made.mark == done.mark,
+          "an edit's answer is that of its octets");
+    check(memcmp(list, second.ours, 8 * done.entries) == 0, "an edit's list is that of its octets");
+}
+
+/* Deleting what was inserted brings the octets back. */
+static void check_undone(struct ohakelm_edited done, size_t used, size_t pattern,
+                         size_t instruction)
+{
+    static uint32_t list[AMPLE_LIST + 2 * 15 * 255 * 255];
+    struct ohakelm_edited back = ohakelm_delete(first.ours, first.octets, done.length, pattern,
+                                                instruction, list, sizeof list / 4);
+    check(back.refusal == 0 && back.length == used, "a deletion undoes an insertion");
+    check(memcmp(first.ours, first.before, used) == 0, "it brings the octets back");
+}
+
+static void fuzz_edit(struct input *in, unsigned kind)
+{
+    size_t pattern = take(in, 1);
+    size_t instruction = take(in, 1);
+    uint32_t kind_of_entry = take(in, 1);
+    uint32_t entry = kind_of_entry * 65536 + take(in, 2);
+    size_t more = take(in, 1) % 8;
+    size_t list_room = take_room(in, AMPLE_LIST);
+    size_t used = in->left < 8192 ? in->left : 8192;
+    /* Now and then the buffer ends ahead of the used length. */
+    size_t room = more == 7 ? used / 2 : used + more;
+    lend(&first, room, in->at, used);
+    lend(&second, 4 * list_room, NULL, 0);
+    uint32_t *list = words(second.ours), *their_list = words(second.theirs);
+    struct ohakelm_edited done, other;
+    if (kind == 0) {
+        done = ohakelm_replace(first.ours, room, used, pattern, instruction, entry, list,
+                               list_room);
+        other = guide_replace(first.theirs, room, used, pattern, instruction, entry, their_list,
+                              list_room);
+    } else if (kind == 1) {
+        done =
+            ohakelm_insert(first.ours, room, used, pattern, instruction, entry, list, list_room);
+        other = guide_insert(first.theirs, room, used, pattern, instruction, entry, their_list,
+                             list_room);
+    } else {
+        done = ohakelm_delete(first.ours, room, used, pattern, instruction, list, list_room);
+        other =
+            guide_delete(first.theirs, room, used, pattern, instruction, their_list, list_room);
+    }
+    check(same_edited(done, other), "both edit alike");
+    check_lent(&first);
+    check_lent(&second);
+    if (done.refusal != 0) {
+        check_untouched(&first);
+        check_untouched(&second);
+        return;
+    }
+    check_list_of(done);
+    if (kind == 1)
+        check_undone(done, used, pattern, instruction);
+}
+
+static void fuzz_bitmap_read(struct input *in)
+{
+    static uint8_t out[8192];
+    size_t count = take_rest(in);
+    struct ohakelm_bitmap bitmap = ohakelm_bitmap_read(first.ours, count);
+    struct ohakelm_bitmap other = guide_bitmap_read(first.theirs, count);
+    check(same_bitmap(bitmap, other), "both read bitmaps alike");
+    check_lent(&first);
+    if (bitmap.refusal != 0)
+        return;
+    struct ohakelm_written done =
+        ohakelm_bitmap_write(bitmap.width, bitmap.height, first.ours + bitmap.start,
+                             bitmap.length, out, sizeof out);
+    check(done.refusal == 0 && done.octets == count, "a bitmap that was read is written");
+    check(memcmp(out, first.ours, count) == 0, "it is written to the same octets");
+}
+
+static void fuzz_bitmap_write(struct input *in)
+{
+    uint32_t width = take(in, 2);
+    uint32_t height = take(in, 2);
+    size_t room = take_room(in, 8192);
+    size_t count = take_rest(in);
+    lend(&second, room, NULL, 0);
+    struct ohakelm_written done =
+        ohakelm_bitmap_write(width, height, first.ours, count, second.ours, room);
+    struct ohakelm_written other =
+        guide_bitmap_write(width, height, first.theirs, count, second.theirs, room);
+    check(same_written(done, other), "both write bitmaps alike");
+    check_lent(&first);
+    check_lent(&second);
+    if (done.refusal != 0)
+        check_untouched(&second);
+}
+
+int LLVMFuzzerTestOneInput(const uint8_t *data, size_t size);
+
+int LLVMFuzzerTestOneInput(const uint8_t *data, size_t size)
+{
+    struct input in = {data, size};
+    switch (take(&in, 1) % 10) {
+    case 0: fuzz_read(&in); break;
+    case 1: fuzz_write(&in); break;
+    case 2: fuzz_label(&in); break;
+    case 3: fuzz_list(&in); break;
+    case 4: fuzz_rows(&in); break;
+    case 5: fuzz_edit(&in, 0); break;
+    case 6: fuzz_edit(&in, 1); break;
+    case 7: fuzz_edit(&in, 2); break;
+    case 8: fuzz_bitmap_read(&in); break;
+    default: fuzz_bitmap_write(&in); break;
+    }
+    return 0;
+}

@@ -1,0 +1,119 @@
+//! The answers of the calls, laid out as C lays them out.
+//!
+//! They stand in a package of their own, so that the proved library and the
+//! implementations that it is compared with answer in the same form.
+//! `refusal` is 0 where the call accepted. On a refusal every number after
+//! `place` is 0.
+
+#![no_std]
+
+/// The mark of a list that has no place to return to.
+pub const NO_MARK: u32 = u32::MAX;
+
+/// What reading a tone answers.
+#[repr(C)]
+#[derive(Clone, Copy, Debug, Default, PartialEq, Eq)]
+pub struct Tone {
+    pub refusal: u32,
+    /// The bit where the faulty element begins.
+    pub place: usize,
+    /// 1 basic, 2 temporary.
+    pub song: u32,
+    pub unicode: bool,
+    /// Title characters, each of one octet, or of two under UNICODE.
+    pub characters: usize,
+    pub patterns: usize,
+    /// Table cells that were filled.
+    pub entries: usize,
+}
+
+/// What writing a tone or a bitmap answers.
+#[repr(C)]
+#[derive(Clone, Copy, Debug, Default, PartialEq, Eq)]
+pub struct Written {
+    pub refusal: u32,
+    pub place: usize,
+    pub octets: usize,
+}
+
+/// Which buffer supplies a label, and which stretch of it. It never refuses.
+#[repr(C)]
+#[derive(Clone, Copy, Debug, Default, PartialEq, Eq)]
+pub struct Label {
+    pub stand_in: bool,
+    pub start: usize,
+    pub length: usize,
+}
+
+/// What making a playing list answers.
+#[repr(C)]
+#[derive(Clone, Copy, Debug, Default, PartialEq, Eq)]
+pub struct Listed {
+    pub refusal: u32,
+    pub place: usize,
+    pub entries: usize,
+    /// The entry to return to, or [`NO_MARK`].
+    pub mark: u32,
+}
+
+/// What an edit answers.
+#[repr(C)]
+#[derive(Clone, Copy, Debug, Default, PartialEq, Eq)]
+pub struct Edited {
+    pub refusal: u32,
+    pub place: usize,
+    /// The new length of the message in octets.
+    pub length: usize,
+    pub entries: usize,
+    pub mark: u32,
+    /// The new length minus the old one.
+    pub change: i32,
+}
+
+/// What reading a bitmap answers. The image is a stretch of the message.
+#[repr(C)]
+#[derive(Clone, Copy, Debug, Default, PartialEq, Eq)]
+pub struct Bitmap {
+    pub refusal: u32,
+    pub place: usize,
+    pub width: u32,
+    pub height: u32,
+    /// The number of black pixels.
+    pub black: u32,
+    pub start: usize,
+    pub length: usize,
+}
+
+/// One entry of a playing list, as a record.
+#[repr(C)]
+#[derive(Clone, Copy, Debug, Default, PartialEq, Eq)]
+pub struct Entry {
+    pub note: u32,
+    pub scale: u32,
+    pub style: u32,
+    pub volume: u32,
+    pub microseconds: u32,
+}
+
+#[cfg(test)]
+mod tests {
+    use super::*;
+    use core::mem::{offset_of, size_of};
+
+    /// The layout that C gives the same fields on x86-64.
+    #[test]
+    fn the_layout_is_that_of_c() {
+        assert_eq!(size_of::<Tone>(), 48);
+        assert_eq!(offset_of!(Tone, unicode), 20);
+        assert_eq!(offset_of!(Tone, entries), 40);
+        assert_eq!(size_of::<Written>(), 24);
+        assert_eq!(size_of::<Label>(), 24);
+        assert_eq!(size_of::<Listed>(), 32);
+        assert_eq!(offset_of!(Listed, mark), 24);
+        assert_eq!(size_of::<Edited>(), 40);
+        assert_eq!(offset_of!(Edited, change), 36);
+        assert_eq!(size_of::<Bitmap>(), 48);
+        assert_eq!(offset_of!(Bitmap, black), 24);
+        assert_eq!(size_of::<Entry>(), 20);
+    }
+}

@@ -1,0 +1,175 @@
+//! The proved library and an optimised plain Rust implementation, side by
+//! side in one run: `cargo run --release --bin bench`.
+//!
+//! Lists and buffers are cleared ahead of each run, outside the time taken.
+//! Answers and buffers are compared after each run.
+
+mod measure;
+mod proved;
+mod tones;
+
+use measure::{compare, once_each, repeated, Batch, Row};
+use ohakelm_answers::Entry;
+use tones::{Tone, BASIC};
+
+/// An insertion of one note may lengthen a message by two octets.
+const LARGEST: usize = 4096 - 2;
+
+const NOTE: u32 = 65536 + 10 * 32 + 2 * 4;
+const SCALE: u32 = 2 * 65536;
+
+fn main() {
+    let mut rows = Vec::new();
+    for octets in [24, 400, LARGEST] {
+        let tone = tones::of_octets(octets);
+        rows.push(read(&tone));
+        rows.push(write(&tone));
+        rows.push(list(&tone));
+        rows.push(rows_of(&tone.message, "rows"));
+        rows.extend(edits(&tone));
+    }
+    rows.extend(recalls());
+    for (width, height) in [(72, 14), (248, 255)] {
+        rows.extend(bitmaps(width, height));
+    }
+    measure::print(&rows);
+}
+
+fn name(call: &str, tone: &Tone) -> String {
+    format!("{call}, {} octets", tone.message.len())
+}
+
+fn read(tone: &Tone) -> Row {
+    let message = &tone.message[..];
+    let buffers = (vec![0; tone.table.len()], vec![0; tone.title.len()]);
+    compare(
+        &name("read", tone),
+        repeated(message.len()),
+        &buffers,
+        |(table, title)| proved::read(message, table, title),
+        |(table, title)| ohakelm_fast::read(message, table, title),
+    )
+}
+
+fn write(tone: &Tone) -> Row {
+    let (title, table) = (tone.title, &tone.table[..]);
+    let out = vec![0; tone.message.len()];
+    compare(
+        &name("write", tone),
+        repeated(tone.message.len()),
+        &out,
+        |out| proved::write(BASIC, false, title, table, out),
+        |out| ohakelm_fast::write(BASIC, false, title, table, out),
+    )
+}
+
+fn list(tone: &Tone) -> Row {
+    let message = &tone.message[..];
+    let cells = vec![0; 2 * entries(message)];
+    compare(
+        &name("list", tone),
+        repeated(message.len()),
+        &cells,
+        |cells| proved::list(message, cells),
+        |cells| ohakelm_fast::list(message, cells),
+    )
+}
+
+fn rows_of(message: &[u8], what: &str) -> Row {
+    let count = entries(message);
+    let buffers = (vec![0; 2 * count], vec![Entry::default(); count]);
+    compare(
+        &format!("{what}, {} octets", message.len()),
+        repeated(message.len()),
+        &buffers,
+        |(cells, rows)| proved::rows(message, cells, rows),
+        |(cells, rows)| ohakelm_fast::rows(message, cells, rows),
+    )
+}
+
+fn entries(message: &[u8]) -> usize {
+    let mut scratch = vec![0; 100_000];
+    ohakelm_fast::list(message, &mut scratch).entries
+}
+
+/// The three edits in the middle of the message.
+fn edits(tone: &Tone) -> [Row; 3] {
+    let used = tone.message.len();
+    let (pattern, at) = (tone.middle, tone.middle_count / 2);
+    let mut buffer = tone.message.clone();
+    buffer.extend([0; 2]);
+    // An edit of a part that is recalled may lengthen the list by a few.
+    let buffers = (buffer, vec![0; 2 * entries(&tone.message) + 64]);
+    let batch = once_each(used);
+    let insert = compare(
+        &name("insert a note", tone),
+        batch,
+        &buffers,
+        |(buffer, list)| proved::insert(buffer, used, pattern, at, NOTE, list),
+        |(buffer, list)| ohakelm_fast::insert(buffer, used, pattern, at, NOTE, list),
+    );
+    let replace = compare(
+        &name("replace by a scale", tone),
+        batch,
+        &buffers,
+        |(buffer, list)| proved::replace(buffer, used, pattern, at, SCALE, list),
+        |(buffer, list)| ohakelm_fast::replace(buffer, used, pattern, at, SCALE, list),
+    );
+    let delete = compare(
+        &name("delete", tone),
+        batch,
+        &buffers,
+        |(buffer, list)| proved::delete(buffer, used, pattern, at, list),
+        |(buffer, list)| ohakelm_fast::delete(buffer, used, pattern, at, list),
+    );
+    [insert, replace, delete]
+}
+
+/// The tone of 254 recalls, whose list is much longer than its message.
+fn recalls() -> [Row; 3] {
+    let message = &tones::of_recalls()[..];
+    let cells = vec![0; 2 * entries(message)];
+    let name = format!("list, {} entries", cells.len() / 2);
+    let batch = Batch {
+        buffers: 1,
+        times: 1,
+    };
+    let decoding = compare(
+        &name,
+        batch,
+        &cells,
+        |cells| proved::list(message, cells),
+        |cells| ohakelm_fast::list(message, cells),
+    );
+    let copying = compare(
+        &format!("{name}, plain Rust copies passes"),
+        batch,
+        &cells,
+        |cells| proved::list(message, cells),
+        |cells| ohakelm_fast::list_by_copying(message, cells),
+    );
+    let rows = rows_of(message, &format!("rows, {} entries", cells.len() / 2));
+    [decoding, copying, rows]
+}
+
+fn bitmaps(width: u32, height: u32) -> [Row; 2] {
+    let octets = (width / 8 * height) as usize;
+    let image: Vec<u8> = (0..octets).map(|k| (k * 37 % 251) as u8).collect();
+    let mut message = vec![0, width as u8, height as u8, 1];
+    message.extend(&image);
+    let read = compare(
+        &format!("bitmap read, {width} by {height}"),
+        repeated(octets),
+        &(),
+        |_| proved::bitmap_read(&message),
+        |_| ohakelm_fast::bitmap_read(&message),
+    );
+    let write = compare(
+        &format!("bitmap write, {width} by {height}"),
+        repeated(octets),
+        &vec![0; message.len()],
+        |out| proved::bitmap_write(width, height, &image, out),
+        |out| ohakelm_fast::bitmap_write(width, height, &image, out),
+    );
+    [read, write]
+}

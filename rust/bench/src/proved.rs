@@ -1,0 +1,151 @@
+//! The exports of the proved library, over slices.
+//!
+//! They are measured as they stand, without the safe functions' `Result`.
+
+// SAFETY, for all of them: each pointer and length is a live slice's, and the
+// borrows keep the lent ones apart from all others.
+
+use ohakelm::raw;
+use ohakelm_answers::{Bitmap, Edited, Entry, Listed, Tone, Written};
+
+#[inline(always)]
+pub fn read(message: &[u8], table: &mut [u32], title: &mut [u8]) -> Tone {
+    unsafe {
+        raw::ohakelm_read(
+            message.as_ptr(),
+            message.len(),
+            table.as_mut_ptr(),
+            table.len(),
+            title.as_mut_ptr(),
+            title.len(),
+        )
+    }
+}
+
+#[inline(always)]
+pub fn write(song: u32, unicode: bool, title: &[u8], table: &[u32], out: &mut [u8]) -> Written {
+    unsafe {
+        raw::ohakelm_write(
+            song,
+            unicode,
+            title.as_ptr(),
+            title.len(),
+            table.as_ptr(),
+            table.len(),
+            out.as_mut_ptr(),
+            out.len(),
+        )
+    }
+}
+
+#[inline(always)]
+pub fn list(message: &[u8], list: &mut [u32]) -> Listed {
+    unsafe {
+        raw::ohakelm_list(
+            message.as_ptr(),
+            message.len(),
+            list.as_mut_ptr(),
+            list.len(),
+        )
+    }
+}
+
+#[inline(always)]
+pub fn rows(message: &[u8], list: &mut [u32], rows: &mut [Entry]) -> Listed {
+    unsafe {
+        raw::ohakelm_rows(
+            message.as_ptr(),
+            message.len(),
+            list.as_mut_ptr(),
+            list.len(),
+            rows.as_mut_ptr(),
+            rows.len(),
+        )
+    }
+}
+
+#[inline(always)]
+pub fn replace(
+    buffer: &mut [u8],
+    used: usize,
+    pattern: usize,
+    instruction: usize,
+    entry: u32,
+    list: &mut [u32],
+) -> Edited {
+    unsafe {
+        raw::ohakelm_replace(
+            buffer.as_mut_ptr(),
+            buffer.len(),
+            used,
+            pattern,
+            instruction,
+            entry,
+            list.as_mut_ptr(),
+            list.len(),
+        )
+    }
+}
+
+#[inline(always)]
+pub fn insert(
+    buffer: &mut [u8],
+    used: usize,
+    pattern: usize,
+    instruction: usize,
+    entry: u32,
+    list: &mut [u32],
+) -> Edited {
+    unsafe {
+        raw::ohakelm_insert(
+            buffer.as_mut_ptr(),
+            buffer.len(),
+            used,
+            pattern,
+            instruction,
+            entry,
+            list.as_mut_ptr(),
+            list.len(),
+        )
+    }
+}
+
+#[inline(always)]
+pub fn delete(
+    buffer: &mut [u8],
+    used: usize,
+    pattern: usize,
+    instruction: usize,
+    list: &mut [u32],
+) -> Edited {
+    unsafe {
+        raw::ohakelm_delete(
+            buffer.as_mut_ptr(),
+            buffer.len(),
+            used,
+            pattern,
+            instruction,
+            list.as_mut_ptr(),
+            list.len(),
+        )
+    }
+}
+
+#[inline(always)]
+pub fn bitmap_read(message: &[u8]) -> Bitmap {
+    unsafe { raw::ohakelm_bitmap_read(message.as_ptr(), message.len()) }
+}
+
+#[inline(always)]
+pub fn bitmap_write(width: u32, height: u32, image: &[u8], out: &mut [u8]) -> Written {
+    unsafe {
+        raw::ohakelm_bitmap_write(
+            width,
+            height,
+            image.as_ptr(),
+            image.len(),
+            out.as_mut_ptr(),
+            out.len(),
+        )
+    }
+}

@@ -1,0 +1,132 @@
+//! The tones that are measured.
+
+/// A tone as its table, title and message.
+pub struct Tone {
+    pub title: &'static [u8],
+    pub table: Vec<u32>,
+    pub message: Vec<u8>,
+    /// A pattern with a body in the middle of the message, and how long it is.
+    pub middle: usize,
+    pub middle_count: usize,
+}
+
+pub const BASIC: u32 = 1;
+
+/// A part of this many instructions is about as long as tones have them.
+const BODY: usize = 40;
+
+/// A basic song of just so many octets: parts of notes with a setting among
+/// them here and there, now and then a recall.
+pub fn of_octets(octets: usize) -> Tone {
+    // One title or another makes the octets come out even.
+    let mut tone = filled(octets, b"Ohm");
+    for title in [&b"Ring"[..], b"Chime", b"Signal", b"Ohakelm"] {
+        if tone.message.len() < octets {
+            tone = filled(octets, title);
+        }
+    }
+    tone
+}
+
+/// A tone with a title and as many instructions as the octets hold.
+fn filled(octets: usize, title: &'static [u8]) -> Tone {
+    let mut instructions = Instructions { state: 7 };
+    let mut parts: Vec<Vec<u32>> = vec![Vec::new()];
+    while written(title, &table(&parts)).len() <= octets {
+        if parts[parts.len() - 1].len() == BODY {
+            parts.push(Vec::new());
+        }
+        let last = parts.len() - 1;
+        parts[last].push(instructions.next());
+    }
+    // The last one was too long.
+    let last = parts.len() - 1;
+    parts[last].pop();
+    let table = table(&parts);
+    let message = written(title, &table);
+    let (middle, middle_count) = middle_pattern(&table);
+    Tone {
+        title,
+        table,
+        message,
+        middle,
+        middle_count,
+    }
+}
+
+/// The tone of 255 headers, loop 14, one part of ten notes and 254 recalls.
+pub fn of_recalls() -> Vec<u8> {
+    let mut table = vec![14 * 256 + 10];
+    table.extend((1..=10).map(|note| 65536 + note * 32 + 8));
+    table.extend([14 * 256; 254]);
+    written(b"", &table)
+}
+
+/// Headers and bodies. After every third part comes a recall of the first one
+/// of the same id. The last part may still be empty.
+fn table(parts: &[Vec<u32>]) -> Vec<u32> {
+    let mut table = Vec::new();
+    for (position, body) in parts.iter().enumerate() {
+        if body.is_empty() {
+            continue;
+        }
+        let part = (position % 4) as u32 * 4096;
+        let repeats = (position % 2) as u32 * 256;
+        table.push(part + repeats + body.len() as u32);
+        table.extend(body);
+        if position % 3 == 2 {
+            table.push(part);
+        }
+    }
+    table
+}
+
+/// The message of a table. An empty table has none, and one that is too long
+/// counts as longer than any message.
+fn written(title: &[u8], table: &[u32]) -> Vec<u8> {
+    let mut out = vec![0; 4097];
+    let answer = ohakelm_fast::write(BASIC, false, title, table, &mut out);
+    if answer.refusal != 1 {
+        out.truncate(answer.octets);
+    }
+    out
+}
+
+/// The pattern with a body that is nearest to the middle of the table.
+fn middle_pattern(table: &[u32]) -> (usize, usize) {
+    let mut found = (0, (table[0] & 255) as usize);
+    let headers = table.iter().enumerate().filter(|(_, &e)| e < 65536);
+    for (pattern, (cell, &header)) in headers.enumerate() {
+        let count = (header & 255) as usize;
+        if count > 0 && cell <= table.len() / 2 {
+            found = (pattern, count);
+        }
+    }
+    found
+}
+
+/// A stream of instructions, four in five of them notes.
+struct Instructions {
+    state: u64,
+}
+
+impl Instructions {
+    fn next(&mut self) -> u32 {
+        match self.below(20) {
+            0 => 2 * 65536 + self.below(4),
+            1 => 3 * 65536 + self.below(3),
+            2 => 4 * 65536 + self.below(32),
+            3 => 5 * 65536 + self.below(16),
+            _ => 65536 + self.below(13) * 32 + self.below(6) * 4 + self.below(4),
+        }
+    }
+
+    /// The high bits of a linear congruential generator.
+    fn below(&mut self, bound: u32) -> u32 {
+        self.state = self
+            .state
+            .wrapping_mul(6_364_136_223_846_793_005)
+            .wrapping_add(1_442_695_040_888_963_407);
+        (self.state >> 33) as u32 % bound
+    }
+}

@@ -1,0 +1,24 @@
+//! The rules in plain Rust, written for speed. The benchmark measures the
+//! proved library against it, and the tests compare its every answer.
+//!
+//! A message is judged in one pass and its outputs are filled in another, so
+//! that a refusal changes nothing. Bits are read through windows of eight
+//! octets, four instructions to a window. Nothing is allocated, and all of it
+//! is safe Rust.
+
+#![forbid(unsafe_code)]
+
+mod bitmap;
+mod codes;
+mod edit;
+mod judge;
+mod list;
+mod read;
+mod window;
+mod write;
+
+pub use bitmap::{bitmap_read, bitmap_write};
+pub use edit::{delete, insert, replace};
+pub use list::{list, list_by_copying, rows};
+pub use read::{label, read};
+pub use write::write;

@@ -1,0 +1,44 @@
+//! The rules once more, slow and obvious, to hold the proved library against.
+//!
+//! It was written from the rules and not from the proved code, in another
+//! shape on purpose. A message becomes a list of bits, the bits become a tone,
+//! and each answer is worked out from the tone. An edit changes the tone and
+//! writes it afresh. It allocates freely and is in no hurry.
+
+mod bitmap;
+mod bits;
+mod editing;
+mod playing;
+mod reading;
+mod table;
+mod tone;
+
+pub use bitmap::{bitmap_read, bitmap_write};
+pub use editing::{delete, insert, replace};
+pub use playing::{list, rows};
+pub use reading::{label, read};
+pub use table::write;
+
+/// A tone message has at most this many octets.
+const LARGEST_TONE: usize = 4096;
+
+/// A refusal's number and the bit place that goes with it.
+#[derive(Clone, Copy, Debug, PartialEq, Eq)]
+struct Refusal {
+    number: u32,
+    place: usize,
+}
+
+/// A refusal that has no place in a tone message.
+fn refuse<T>(number: u32) -> Result<T, Refusal> {
+    refuse_at(number, 0)
+}
+
+fn refuse_at<T>(number: u32, place: usize) -> Result<T, Refusal> {
+    Err(Refusal { number, place })
+}
+
+/// Copies to the front of a lent buffer. The rest keeps what it had.
+fn put_first<T: Copy>(from: &[T], lent: &mut [T]) {
+    lent[..from.len()].copy_from_slice(from);
+}

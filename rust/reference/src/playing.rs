@@ -1,0 +1,186 @@
+//! The playing list of a tone, in both forms.
+
+use ohakelm_answers::{Entry, Listed, NO_MARK};
+
+use crate::reading::tone_of;
+use crate::tone::{Instruction, Pattern, Tone};
+use crate::{put_first, refuse, Refusal};
+
+/// Beats a minute of the tempo codes 0 to 31.
+const BEATS: [u64; 32] = [
+    25, 28, 31, 35, 40, 45, 50, 56, 63, 70, 80, 90, 100, 112, 125, 140, 160, 180, 200, 225, 250,
+    285, 320, 355, 400, 450, 500, 565, 635, 715, 800, 900,
+];
+
+/// The loop value of a part that sounds for ever.
+const ENDLESS: u32 = 15;
+
+/// Makes the list, two numbers an entry.
+pub fn list(message: &[u8], list: &mut [u32]) -> Listed {
+    answer(list_into(message, list))
+}
+
+/// Makes the list in both forms.
+pub fn rows(message: &[u8], list: &mut [u32], rows: &mut [Entry]) -> Listed {
+    answer(rows_into(message, list, rows))
+}
+
+fn answer(made: Result<Playing, Refusal>) -> Listed {
+    match made {
+        Ok(playing) => Listed {
+            refusal: 0,
+            place: 0,
+            entries: playing.entries.len(),
+            mark: playing.mark(),
+        },
+        Err(refusal) => Listed {
+            refusal: refusal.number,
+            place: refusal.place,
+            entries: 0,
+            mark: 0,
+        },
+    }
+}
+
+fn list_into(message: &[u8], list: &mut [u32]) -> Result<Playing, Refusal> {
+    let playing = Playing::of(&tone_of(message)?)?;
+    let cells = playing.cells();
+    if cells.len() > list.len() {
+        return refuse(11);
+    }
+    put_first(&cells, list);
+    Ok(playing)
+}
+
+fn rows_into(message: &[u8], list: &mut [u32], rows: &mut [Entry]) -> Result<Playing, Refusal> {
+    let playing = Playing::of(&tone_of(message)?)?;
+    let cells = playing.cells();
+    if cells.len() > list.len() || playing.entries.len() > rows.len() {
+        return refuse(11);
+    }
+    put_first(&cells, list);
+    put_first(&playing.entries, rows);
+    Ok(playing)
+}
+
+/// What a tone sounds like.
+pub(crate) struct Playing {
+    pub entries: Vec<Entry>,
+    return_to: Option<usize>,
+}
+
+struct Settings {
+    scale: u32,
+    style: u32,
+    tempo: u32,
+    volume: u32,
+}
+
+impl Playing {
+    pub fn of(tone: &Tone) -> Result<Playing, Refusal> {
+        let mut playing = Playing {
+            entries: Vec::new(),
+            return_to: None,
+        };
+        let mut settings = Settings {
+            scale: 1,
+            style: 0,
+            tempo: 8,
+            volume: 7,
+        };
+        for (position, pattern) in tone.patterns.iter().enumerate() {
+            let body = body_of(pattern, &tone.patterns[..position]);
+            if pattern.repeats == ENDLESS {
+                playing.sound_endlessly(body, &mut settings)?;
+                break;
+            }
+            for _ in 0..=pattern.repeats {
+                playing.sound(body, &mut settings)?;
+            }
+        }
+        Ok(playing)
+    }
+
+    /// Adds one pass and marks where it begins.
+    fn sound_endlessly(
+        &mut self,
+        body: &[Instruction],
+        settings: &mut Settings,
+    ) -> Result<(), Refusal> {
+        let first = self.entries.len();
+        self.sound(body, settings)?;
+        if self.entries.len() > first {
+            self.return_to = Some(first);
+        }
+        Ok(())
+    }
+
+    /// Adds one pass of a body.
+    fn sound(&mut self, body: &[Instruction], settings: &mut Settings) -> Result<(), Refusal> {
+        for &instruction in body {
+            match instruction {
+                Instruction::Note {
+                    note,
+                    duration,
+                    specifier,
+                } => self.entries.push(Entry {
+                    note,
+                    scale: settings.scale,
+                    style: settings.style,
+                    volume: settings.volume,
+                    microseconds: microseconds(duration, specifier, settings.tempo)?,
+                }),
+                Instruction::Scale(code) => settings.scale = code,
+                Instruction::Style(code) => settings.style = code,
+                Instruction::Tempo(code) => settings.tempo = code,
+                Instruction::Volume(code) => settings.volume = code,
+            }
+        }
+        Ok(())
+    }
+
+    /// The list in the two-number form.
+    pub fn cells(&self) -> Vec<u32> {
+        let mut cells = Vec::new();
+        for entry in &self.entries {
+            cells.push(entry.note * 1024 + entry.scale * 256 + entry.style * 16 + entry.volume);
+            cells.push(entry.microseconds);
+        }
+        cells
+    }
+
+    pub fn mark(&self) -> u32 {
+        self.return_to.map_or(NO_MARK, |position| position as u32)
+    }
+}
+
+/// A pattern's own body, or for a recall that of the nearest earlier definition.
+fn body_of<'a>(pattern: &'a Pattern, earlier: &'a [Pattern]) -> &'a [Instruction] {
+    if !pattern.is_recall() {
+        return &pattern.body;
+    }
+    let definition = earlier
+        .iter()
+        .rfind(|other| other.part == pattern.part && !other.is_recall());
+    // A tone has no recall without a definition.
+    definition.map_or(&[], |other| &other.body)
+}
+
+fn microseconds(duration: u32, specifier: u32, tempo: u32) -> Result<u32, Refusal> {
+    let exact = units(duration, specifier) * 625_000 / BEATS[tempo as usize];
+    match u32::try_from(exact) {
+        Ok(number) => Ok(number),
+        Err(_) => refuse(19),
+    }
+}
+
+/// A full note is 384 units, and each duration code halves it.
+fn units(duration: u32, specifier: u32) -> u64 {
+    let plain = 384 / 2u64.pow(duration);
+    match specifier {
+        1 => plain * 3 / 2,
+        2 => plain * 7 / 4,
+        3 => plain * 2 / 3,
+        _ => plain,
+    }
+}

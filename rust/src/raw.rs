@@ -1,0 +1,90 @@
+//! The exports of the library, as C sees them.
+//!
+//! A slice passes as a pointer and a length in elements. A lent buffer (`*mut`)
+//! must overlap no other argument. `include/ohakelm.h` says what each call does.
+
+pub use ohakelm_answers::{Bitmap, Edited, Entry, Label, Listed, Tone, Written};
+
+extern "C" {
+    pub fn ohakelm_read(
+        msg: *const u8,
+        msg_len: usize,
+        table: *mut u32,
+        table_len: usize,
+        title: *mut u8,
+        title_len: usize,
+    ) -> Tone;
+
+    pub fn ohakelm_write(
+        song: u32,
+        unicode: bool,
+        title: *const u8,
+        title_len: usize,
+        table: *const u32,
+        table_len: usize,
+        out: *mut u8,
+        out_len: usize,
+    ) -> Written;
+
+    pub fn ohakelm_label(
+        title: *const u8,
+        title_len: usize,
+        unicode: bool,
+        stand_in: *const u8,
+        stand_in_len: usize,
+    ) -> Label;
+
+    pub fn ohakelm_list(msg: *const u8, msg_len: usize, list: *mut u32, list_len: usize) -> Listed;
+
+    pub fn ohakelm_rows(
+        msg: *const u8,
+        msg_len: usize,
+        list: *mut u32,
+        list_len: usize,
+        rows: *mut Entry,
+        rows_len: usize,
+    ) -> Listed;
+
+    pub fn ohakelm_replace(
+        buf: *mut u8,
+        buf_len: usize,
+        used: usize,
+        pattern: usize,
+        instruction: usize,
+        entry: u32,
+        list: *mut u32,
+        list_len: usize,
+    ) -> Edited;
+
+    pub fn ohakelm_insert(
+        buf: *mut u8,
+        buf_len: usize,
+        used: usize,
+        pattern: usize,
+        instruction: usize,
+        entry: u32,
+        list: *mut u32,
+        list_len: usize,
+    ) -> Edited;
+
+    pub fn ohakelm_delete(
+        buf: *mut u8,
+        buf_len: usize,
+        used: usize,
+        pattern: usize,
+        instruction: usize,
+        list: *mut u32,
+        list_len: usize,
+    ) -> Edited;
+
+    pub fn ohakelm_bitmap_read(msg: *const u8, msg_len: usize) -> Bitmap;
+
+    pub fn ohakelm_bitmap_write(
+        width: u32,
+        height: u32,
+        image: *const u8,
+        image_len: usize,
+        out: *mut u8,
+        out_len: usize,
+    ) -> Written;
+}

@@ -1,0 +1,205 @@
+//! The proved library, the obvious implementation and the optimised one, put
+//! to the same inputs. Answers, places and every lent cell are compared.
+//!
+//! `OHAKELM_SEED` sets the seed and `OHAKELM_CASES` the number of cases. The
+//! long run is `cargo test --release --test compare -- --ignored --nocapture`.
+
+mod support;
+
+use std::panic::{catch_unwind, AssertUnwindSafe};
+use std::time::Instant;
+
+use ohakelm_answers::{Bitmap, Edited, Entry, Label, Listed, Tone, Written};
+use support::codecs::{Codec, Edit, Obvious, Spot, ALL};
+use support::compare::Comparison;
+use support::rng::{cases_set, seed_from_clock, seed_set};
+
+const SHORT_RUN: usize = 100_000;
+const LONG_RUN: usize = 1_200_000;
+
+/// From this many cases on each refusal has surely come up.
+const ENOUGH_FOR_ALL: usize = 100_000;
+
+#[test]
+fn random_cases_agree() {
+    let cases = cases_set().unwrap_or(SHORT_RUN);
+    compare(cases, seed_set().unwrap_or(20_001_231));
+}
+
+#[test]
+#[ignore = "the long run, to be asked for"]
+fn a_million_random_cases_agree() {
+    let cases = cases_set().unwrap_or(LONG_RUN);
+    compare(cases, seed_set().unwrap_or_else(seed_from_clock));
+}
+
+fn compare(cases: usize, seed: u64) {
+    println!("seed {seed}, {cases} cases");
+    let began = Instant::now();
+    let mut comparison = Comparison::new(&ALL, seed);
+    comparison.run(cases);
+    let seconds = began.elapsed().as_secs_f64();
+    println!("{} cases agree, {seconds:.1} s", comparison.cases);
+    for ((call, refusal), times) in &comparison.tally {
+        println!("{call} {refusal}: {times}");
+    }
+    if cases >= ENOUGH_FOR_ALL {
+        each_refusal_came_up(&comparison);
+    }
+}
+
+/// A run that never meets a refusal would compare nothing there.
+fn each_refusal_came_up(comparison: &Comparison) {
+    let message: Vec<u32> = (0..=11).collect();
+    let with = |more: &[u32]| [&message[..], more].concat();
+    let expected: [(&str, Vec<u32>); 10] = [
+        ("read", with(&[])),
+        ("list", with(&[])),
+        ("rows", with(&[])),
+        ("replace", with(&[12])),
+        ("insert", with(&[12, 14])),
+        ("delete", with(&[12, 13])),
+        ("write", vec![0, 1, 4, 5, 6, 7, 11, 17, 18]),
+        ("label", vec![0, 1]),
+        ("bitmap_read", vec![0, 2, 15, 16]),
+        ("bitmap_write", vec![0, 11, 15, 16]),
+    ];
+    for (call, refusals) in expected {
+        let seen = comparison.tally.keys().filter(|key| key.0 == call);
+        let seen: Vec<u32> = seen.map(|key| key.1).collect();
+        assert_eq!(seen, refusals, "the refusals that {call} gave");
+    }
+}
+
+/// One way to be wrong.
+#[derive(Clone, Copy, Debug)]
+enum Fault {
+    TouchesCellOnRefusal,
+    ClearsOddLastCell,
+    CountsOneEntryMore,
+    MarksOneEntryLate,
+    PlacesRestAtId,
+    LeavesOldOctets,
+    NamesSongOnRefusal,
+    WritesOneOctetMore,
+    MissesOnePixel,
+    TakesEmptyStandInForTitle,
+    LeavesOneRow,
+}
+
+const FAULTS: [Fault; 11] = [
+    Fault::TouchesCellOnRefusal,
+    Fault::ClearsOddLastCell,
+    Fault::CountsOneEntryMore,
+    Fault::MarksOneEntryLate,
+    Fault::PlacesRestAtId,
+    Fault::LeavesOldOctets,
+    Fault::NamesSongOnRefusal,
+    Fault::WritesOneOctetMore,
+    Fault::MissesOnePixel,
+    Fault::TakesEmptyStandInForTitle,
+    Fault::LeavesOneRow,
+];
+
+/// The comparison itself must be able to fail, at each of these faults.
+#[test]
+fn wrong_codecs_are_found() {
+    for fault in FAULTS {
+        let wrong: &'static dyn Codec = Box::leak(Box::new(Wrong(fault)));
+        let found = catch_unwind(AssertUnwindSafe(|| {
+            Comparison::new(&[&Obvious, wrong], 1).run(20_000);
+        }));
+        assert!(found.is_err(), "nobody noticed {fault:?}");
+    }
+}
+
+/// The obvious implementation with one fault.
+struct Wrong(Fault);
+
+impl Codec for Wrong {
+    fn name(&self) -> &'static str {
+        "wrong on purpose"
+    }
+
+    fn read(&self, message: &[u8], table: &mut [u32], title: &mut [u8]) -> Tone {
+        let mut answer = Obvious.read(message, table, title);
+        match (self.0, answer.refusal) {
+            (Fault::TouchesCellOnRefusal, 10) if !table.is_empty() => table[0] ^= 1,
+            (Fault::CountsOneEntryMore, 0) => answer.entries += 1,
+            (Fault::PlacesRestAtId, 7) => answer.place -= 3,
+            (Fault::NamesSongOnRefusal, 5) => answer.song = 1,
+            _ => {}
+        }
+        answer
+    }
+
+    fn write(
+        &self,
+        song: u32,
+        unicode: bool,
+        title: &[u8],
+        table: &[u32],
+        out: &mut [u8],
+    ) -> Written {
+        let answer = Obvious.write(song, unicode, title, table, out);
+        let more = out.get_mut(answer.octets);
+        if let (Fault::WritesOneOctetMore, 0, Some(octet)) = (self.0, answer.refusal, more) {
+            *octet = 0;
+        }
+        answer
+    }
+
+    fn label(&self, title: &[u8], unicode: bool, stand_in: &[u8]) -> Label {
+        let mut answer = Obvious.label(title, unicode, stand_in);
+        if matches!(self.0, Fault::TakesEmptyStandInForTitle) && stand_in.is_empty() {
+            answer.stand_in = false;
+        }
+        answer
+    }
+
+    fn list(&self, message: &[u8], list: &mut [u32]) -> Listed {
+        let mut answer = Obvious.list(message, list);
+        if answer.refusal == 0 {
+            match self.0 {
+                Fault::MarksOneEntryLate if answer.mark != u32::MAX => answer.mark += 1,
+                Fault::ClearsOddLastCell if list.len() == 2 * answer.entries + 1 => {
+                    list[2 * answer.entries] = 0
+                }
+                _ => {}
+            }
+        }
+        answer
+    }
+
+    fn rows(&self, message: &[u8], list: &mut [u32], rows: &mut [Entry]) -> Listed {
+        let last = rows.len().wrapping_sub(1);
+        let old = rows.last().copied();
+        let answer = Obvious.rows(message, list, rows);
+        if let (Fault::LeavesOneRow, Some(old)) = (self.0, old) {
+            rows[last] = old;
+        }
+        answer
+    }
+
+    fn edit(&self, buffer: &mut [u8], spot: Spot, edit: Edit, list: &mut [u32]) -> Edited {
+        let old = buffer.to_vec();
+        let answer = Obvious.edit(buffer, spot, edit, list);
+        if matches!(self.0, Fault::LeavesOldOctets) && answer.change < 0 {
+            let left = answer.length..spot.used;
+            buffer[left.clone()].copy_from_slice(&old[left]);
+        }
+        answer
+    }
+
+    fn bitmap_read(&self, message: &[u8]) -> Bitmap {
+        let mut answer = Obvious.bitmap_read(message);
+        if matches!(self.0, Fault::MissesOnePixel) && answer.black > 1000 {
+            answer.black -= 1;
+        }
+        answer
+    }
+
+    fn bitmap_write(&self, width: u32, height: u32, image: &[u8], out: &mut [u8]) -> Written {
+        Obvious.bitmap_write(width, height, image, out)
+    }
+}

@@ -1,0 +1,214 @@
+//! The program `play`, driven through a pipe. What it prints is compared with
+//! text made from the obvious implementation.
+//!
+//! The program stands in `../target/bin/play`. `OHAKELM_PLAY` names another.
+
+mod support;
+
+use std::env;
+use std::fs::File;
+use std::io::Write;
+use std::path::{Path, PathBuf};
+use std::process::{Child, Command, Output, Stdio};
+use std::thread::sleep;
+use std::time::{Duration, Instant};
+
+use ohakelm_answers::NO_MARK;
+use support::inputs;
+use support::octets;
+use support::rng::{seed_set, Rng};
+use support::tones::{self, Bounds, LARGEST_TONE};
+
+/// Entries that the program has room for.
+const ROOM: usize = 4096;
+
+fn program() -> PathBuf {
+    match env::var_os("OHAKELM_PLAY") {
+        Some(path) => PathBuf::from(path),
+        None => Path::new(env!("CARGO_MANIFEST_DIR")).join("../target/bin/play"),
+    }
+}
+
+/// Starts the program. A program that is not there is a failure.
+fn start(input: Stdio) -> Child {
+    let program = program();
+    let started = Command::new(&program)
+        .stdin(input)
+        .stdout(Stdio::piped())
+        .stderr(Stdio::piped())
+        .spawn();
+    match started {
+        Ok(child) => child,
+        Err(error) => panic!("{} does not start: {error}", program.display()),
+    }
+}
+
+/// Runs the program on a message that arrives in pieces of a certain size.
+fn play(message: &[u8], piece: usize, pause: Duration) -> Output {
+    let mut child = start(Stdio::piped());
+    if let Some(mut input) = child.stdin.take() {
+        for part in message.chunks(piece.max(1)) {
+            // A program that has read enough may close its end.
+            if input.write_all(part).is_err() {
+                break;
+            }
+            sleep(pause);
+        }
+    }
+    match child.wait_with_output() {
+        Ok(output) => output,
+        Err(error) => panic!("no output: {error}"),
+    }
+}
+
+/// The text that a message should give.
+fn expected(message: &[u8]) -> String {
+    let mut list = vec![0; 2 * ROOM];
+    let answer = ohakelm_reference::list(message, &mut list);
+    if answer.refusal != 0 {
+        return format!("refused {} at {}\n", answer.refusal, answer.place);
+    }
+    let mark = match answer.mark {
+        NO_MARK => "none".to_string(),
+        mark => mark.to_string(),
+    };
+    let mut text = format!("entries {} return {mark}\n", answer.entries);
+    for entry in list[..2 * answer.entries].chunks(2) {
+        let (first, microseconds) = (entry[0], entry[1]);
+        let (note, scale) = (first / 1024, first / 256 % 4);
+        let (style, volume) = (first / 16 % 16, first % 16);
+        text += &format!("{note} {scale} {style} {volume} {microseconds}\n");
+    }
+    text
+}
+
+fn assert_plays(message: &[u8], piece: usize, pause: Duration) {
+    let output = play(message, piece, pause);
+    let printed = String::from_utf8_lossy(&output.stdout);
+    let message_text = support::hex(message);
+    assert_eq!(printed, expected(message), "message {message_text}");
+}
+
+fn assert_plays_at_once(message: &[u8]) {
+    assert_plays(message, usize::MAX, Duration::ZERO);
+}
+
+#[test]
+fn the_sample_prints_as_the_rules_say() {
+    let message = octets("02 4A 3A 80 40 00 51 C6 90 00");
+    let output = play(&message, usize::MAX, Duration::ZERO);
+    let printed = String::from_utf8_lossy(&output.stdout);
+    assert_eq!(printed, "entries 1 return none\n10 1 0 7 480000\n");
+    let output = play(&message[..9], usize::MAX, Duration::ZERO);
+    let printed = String::from_utf8_lossy(&output.stdout);
+    assert_eq!(printed, "refused 2 at 72\n");
+}
+
+#[test]
+fn a_few_hundred_messages_play() {
+    let seed = seed_set().unwrap_or(5505);
+    println!("seed {seed}");
+    let mut rng = Rng::new(seed);
+    for _ in 0..400 {
+        let message = inputs::message(&mut rng);
+        let piece = rng.pick(&[usize::MAX, 1000, 100, 7]);
+        assert_plays(&message, piece, Duration::ZERO);
+    }
+}
+
+#[test]
+fn input_may_come_in_pieces() {
+    let mut rng = Rng::new(3);
+    let pause = Duration::from_millis(3);
+    for _ in 0..12 {
+        let bounds = Bounds::small(&mut rng);
+        let message = tones::tone(&mut rng, bounds).message;
+        let piece = rng.within(1, 9);
+        assert_plays(&message, piece, pause);
+    }
+    let bounds = Bounds::large(&mut rng);
+    let message = tones::tone(&mut rng, bounds).message;
+    assert_plays(&message, 500, pause);
+}
+
+#[test]
+fn nothing_and_too_much() {
+    assert_plays_at_once(&[]);
+    for length in [
+        LARGEST_TONE - 1,
+        LARGEST_TONE,
+        LARGEST_TONE + 1,
+        3 * LARGEST_TONE,
+    ] {
+        assert_plays_at_once(&vec![2; length]);
+    }
+    let bounds = Bounds {
+        octets: LARGEST_TONE,
+        patterns: 255,
+        body: 255,
+        repeats: 0,
+        endless: 1000,
+    };
+    let mut message = tones::tone(&mut Rng::new(8), bounds).message;
+    message.resize(LARGEST_TONE + 1, 0);
+    assert_plays_at_once(&message);
+}
+
+/// A full part, recalls of it, and a part of the notes that are left.
+fn tone_of_entries(entries: usize) -> Vec<u8> {
+    let note = 65536 + 32;
+    let mut table = vec![255];
+    table.extend([note; 255]);
+    let mut left = entries - 255;
+    for passes in [15, 1] {
+        while left >= 255 * passes {
+            table.push((passes as u32 - 1) * 256);
+            left -= 255 * passes;
+        }
+    }
+    table.push(4096 + left as u32);
+    table.extend(vec![note; left]);
+    tones::written(2, false, &[], &table)
+}
+
+#[test]
+fn there_is_room_for_4096_entries() {
+    assert!(expected(&tone_of_entries(ROOM)).starts_with("entries 4096 return none\n"));
+    assert_plays_at_once(&tone_of_entries(ROOM));
+    assert_eq!(expected(&tone_of_entries(ROOM + 1)), "refused 11 at 0\n");
+    assert_plays_at_once(&tone_of_entries(ROOM + 1));
+}
+
+/// More than 4,096 octets are refused, and the program does not read on.
+#[test]
+fn endless_input_is_refused() {
+    let Ok(zeros) = File::open("/dev/zero") else {
+        panic!("there is no /dev/zero");
+    };
+    let mut child = start(Stdio::from(zeros));
+    let until = Instant::now() + Duration::from_secs(20);
+    while matches!(child.try_wait(), Ok(None)) {
+        if Instant::now() > until {
+            let _ = child.kill();
+            panic!("the program reads on for ever");
+        }
+        sleep(Duration::from_millis(10));
+    }
+    let Ok(output) = child.wait_with_output() else {
+        panic!("no output");
+    };
+    assert_eq!(String::from_utf8_lossy(&output.stdout), "refused 1 at 0\n");
+}
+
+/// A folder can be opened but not read.
+#[test]
+fn input_that_cannot_be_read_is_said_on_standard_error() {
+    let Ok(folder) = File::open(".") else {
+        panic!("the folder does not open");
+    };
+    let Ok(output) = start(Stdio::from(folder)).wait_with_output() else {
+        panic!("no output");
+    };
+    assert!(output.stdout.is_empty());
+    assert!(!output.stderr.is_empty());
+}

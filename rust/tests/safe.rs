@@ -1,0 +1,106 @@
+//! The safe functions of the package, as a caller uses them.
+
+use ohakelm::{Edit, Edited, Entry, Playing, Refusal, Tone};
+
+const P1: [u8; 10] = [0x02, 0x4A, 0x3A, 0x80, 0x40, 0x00, 0x51, 0xC6, 0x90, 0x00];
+
+#[test]
+fn a_tone_is_read_and_written() {
+    let (mut table, mut title) = ([0; 3], [0; 0]);
+    let tone = ohakelm::read(&P1, &mut table, &mut title);
+    let expected = Tone {
+        song: 2,
+        unicode: false,
+        characters: 0,
+        patterns: 1,
+        entries: 3,
+    };
+    assert_eq!(tone, Ok(expected));
+    let mut out = [0; 10];
+    assert_eq!(ohakelm::write(2, false, &title, &table, &mut out), Ok(10));
+    assert_eq!(out, P1);
+}
+
+#[test]
+fn a_refusal_has_a_number_and_a_place() {
+    let refused = ohakelm::read(&P1[..9], &mut [0; 3], &mut []);
+    let refusal = Refusal {
+        number: 2,
+        place: 72,
+    };
+    assert_eq!(refused, Err(refusal));
+    assert_eq!(refusal.to_string(), "refused 2 at 72");
+    let refused = ohakelm::write(2, false, b"title", &[], &mut []);
+    let refusal = Refusal {
+        number: 17,
+        place: 0,
+    };
+    assert_eq!(refused, Err(refusal));
+}
+
+#[test]
+fn both_forms_of_the_list() {
+    let one = Playing {
+        entries: 1,
+        mark: None,
+    };
+    let (mut list, mut rows) = ([0; 2], [Entry::default(); 1]);
+    assert_eq!(ohakelm::list(&P1, &mut list), Ok(one));
+    assert_eq!(ohakelm::rows(&P1, &mut list, &mut rows), Ok(one));
+    assert_eq!(list, [10503, 480_000]);
+    assert_eq!((rows[0].note, rows[0].microseconds), (10, 480_000));
+    // The same part for ever returns to its first entry.
+    let mut endless = P1;
+    endless[4] |= 1;
+    endless[5] |= 0xE0;
+    let playing = ohakelm::list(&endless, &mut list);
+    assert_eq!(playing.map(|playing| playing.mark), Ok(Some(0)));
+}
+
+#[test]
+fn edits_change_the_buffer_and_the_list() {
+    let mut buffer = [0; 12];
+    buffer[..10].copy_from_slice(&P1);
+    let mut list = [0; 4];
+    let done = ohakelm::edit(&mut buffer, 10, 0, 1, Edit::Insert(131_072), &mut list);
+    let expected = Edited {
+        length: 11,
+        entries: 1,
+        mark: None,
+        change: 1,
+    };
+    assert_eq!(done, Ok(expected));
+    assert_eq!(buffer[6..], [0x71, 0xC8, 0x34, 0x80, 0, 0]);
+    let done = ohakelm::edit(&mut buffer, 11, 0, 1, Edit::Replace(65864), &mut list);
+    assert_eq!(done.map(|done| (done.entries, done.change)), Ok((2, 1)));
+    let done = ohakelm::edit(&mut buffer, 12, 0, 2, Edit::Delete, &mut list);
+    assert_eq!(done.map(|done| (done.length, done.change)), Ok((10, -2)));
+    assert_eq!(buffer[..10], P1);
+    assert_eq!(buffer[10..], [0, 0]);
+}
+
+#[test]
+fn the_label_is_a_stretch_of_the_buffer_that_supplied_it() {
+    let (title, stand_in) = (*b"Tune  ", *b"Tune");
+    let label = ohakelm::label(&title, false, &stand_in);
+    assert_eq!((label, label.as_ptr()), (&b"Tune"[..], title.as_ptr()));
+    let label = ohakelm::label(b"  ", false, &stand_in);
+    assert_eq!((label, label.as_ptr()), (&b"Tune"[..], stand_in.as_ptr()));
+    assert!(ohakelm::label_stretch(b"  ", false, &stand_in).stand_in);
+}
+
+#[test]
+fn the_image_is_a_stretch_of_the_message() {
+    let message = [0, 8, 2, 1, 0xFF, 0x01];
+    let Ok(bitmap) = ohakelm::read_bitmap(&message) else {
+        panic!("a good bitmap was refused");
+    };
+    assert_eq!((bitmap.width, bitmap.height, bitmap.black), (8, 2, 9));
+    assert_eq!(bitmap.image.as_ptr(), message[4..].as_ptr());
+    assert_eq!(bitmap.image, [0xFF, 0x01]);
+    let mut out = [0; 6];
+    let written = ohakelm::write_bitmap(8, 2, bitmap.image, &mut out);
+    assert_eq!((written, out), (Ok(6), message));
+    let refused = ohakelm::read_bitmap(&message[..5]);
+    assert_eq!(refused.map_err(|refusal| refusal.number), Err(16));
+}

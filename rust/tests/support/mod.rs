@@ -1,0 +1,26 @@
+//! What the tests share: the implementations under one roof, the makers of
+//! inputs, and lent buffers with guard cells around them.
+
+// Each test takes what it needs of this.
+#![allow(dead_code)]
+
+pub mod codecs;
+pub mod compare;
+pub mod inputs;
+pub mod lent;
+pub mod rng;
+pub mod tones;
+
+/// Octets as hexadecimal digits.
+pub fn hex(octets: &[u8]) -> String {
+    octets.iter().map(|octet| format!("{octet:02X}")).collect()
+}
+
+/// The octets of hexadecimal digits. Spaces do not count.
+pub fn octets(digits: &str) -> Vec<u8> {
+    let digits: Vec<u32> = digits.chars().filter_map(|c| c.to_digit(16)).collect();
+    digits
+        .chunks(2)
+        .map(|pair| (pair[0] * 16 + pair[1]) as u8)
+        .collect()
+}
