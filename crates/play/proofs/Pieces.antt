@@ -1,6 +1,5 @@
 -- What came lies inside the buffer.
-use Prim.Native.Nat.{ℕ, _+_, _-_, _≤_, _<_}
-use native.Mathlib.Omega.{arith}
+use Prim.Native.Nat.{ℕ, _+_, _≤_, _<_}
 use mathlib.Core.Path.{_≡_, subst}
 use Rattle.bits.specs.declared.OctetCount.{OctetCount}
 use Rattle.play.specs.declared.Piece.{Piece}

@@ -3,7 +3,7 @@
 // All that matters is in the library. Here the message is read to its end, and the answer is put into a buffer as text and
 // written in one piece.
 ghost use mathlib.Core.Path.{_≡_};
-ghost use Prim.Native.Nat.{_+_, _*_, _%_, _≤_, _<_};
+ghost use Prim.Native.Nat.{_+_, _*_, _%_, _≤_};
 ghost use lib.ListN.{length};
 ghost use Rattle.play.specs.Text.{Added, digits, places as placesOf, number, line, lines, markText, opening, refusal, answerOf};
 ghost use Rattle.play.specs.Coming.{Grows, Inside};

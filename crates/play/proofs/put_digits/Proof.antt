@@ -1,3 +1,4 @@
+-- `play::put_digits` meets its contract. The digits are put from the last; those left fall.
 use Rattle.play.proofs.put_digits.Statement.{statement}
 use Rattle.play.proofs.put_digits.Tie as tie
 use borrow.Author.Needs.{needs}
