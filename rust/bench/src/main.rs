@@ -4,6 +4,7 @@
 //! Lists and buffers are cleared ahead of each run, outside the time taken.
 //! Answers and buffers are compared after each run.
 
+mod clock;
 mod measure;
 mod proved;
 mod tones;

@@ -2,7 +2,8 @@
 
 use std::fmt::Debug;
 use std::hint::black_box;
-use std::time::Instant;
+
+use crate::clock::nanoseconds;
 
 /// Runs of each side. The median is that of an odd number.
 const RUNS: usize = 201;
@@ -83,13 +84,13 @@ fn timed<B: Clone, A>(batch: Batch, buffers: &B, call: impl Fn(&mut B) -> A) -> 
     // Fresh copies, not timed. They also bring the memory into the cache.
     let mut buffers = vec![buffers.clone(); batch.buffers];
     let mut answer = None;
-    let began = Instant::now();
+    let began = nanoseconds();
     for _ in 0..batch.times {
         for buffer in &mut buffers {
             answer = Some(black_box(call(black_box(buffer))));
         }
     }
-    let whole = began.elapsed().as_nanos() as f64;
+    let whole = (nanoseconds() - began) as f64;
     Timed {
         nanoseconds: whole / (batch.times * batch.buffers) as f64,
         answer,
@@ -104,7 +105,7 @@ fn median(mut times: Vec<f64>) -> f64 {
 
 /// Prints the rows as a table.
 pub fn print(rows: &[Row]) {
-    println!("Median of {RUNS} runs, nanoseconds a call.");
+    println!("Median of {RUNS} runs, nanoseconds of processor time a call.");
     println!();
     println!("| Case | Rattle ns | Plain Rust ns | Ratio |");
     println!("|---|--:|--:|--:|");
