@@ -6,7 +6,7 @@ use mathlib.Core.Path.{_≡_, refl, sym, ap, ap₂, _∙_}
 use mathlib.Core.Bool.{Bool, true, false, _&&_}
 use mathlib.Core.List.{List, [], _∷_}
 use lib.ListN.{length, getD, drop}
-use lib.Dec.{leb, ltb, eqb}
+use lib.Dec.{leb, ltb, eqb, lit≤}
 use lib.Pow.{pow-mono}
 use borrow.Author.Tests.{eq-eqb, ne-eqb, le-leb, lt-leb}
 use mir.Val.{Fits}
@@ -82,8 +82,8 @@ module _ (m : List ℕ) (at : ℕ) {r : ℕ} (hr : r + at ≡ 8 * length m) wher
       above-instruction : (k : ℕ) → 5 < k → isInstruction k ≡ false
       above-instruction k h = rw (le-leb 1 k (omega arith), lt-leb k 5 h)
 
-      is-instruction : (k : ℕ) → (k ≡ 0 → ⊥) → k ≤ 5 → isInstruction k ≡ true
-      is-instruction k h l = rw (le-leb 1 k (omega arith), le-leb k 5 l)
+      is-instruction : (k : ℕ) → 1 ≤ k → k ≤ 5 → isInstruction k ≡ true
+      is-instruction k h l = rw (le-leb 1 k h, le-leb k 5 l)
 
       wrong-id : isInstruction (x / 2097152) ≡ false → Bad 6 (place at) ≡ stepOf (instructionDue (bitsOf m) at)
       unfolding instructionDue
@@ -94,31 +94,6 @@ module _ (m : List ℕ) (at : ℕ) {r : ℕ} (hr : r + at ≡ 8 * length m) wher
 
       pub instruction-above : 5 < x / 2097152 → Bad 6 (place at) ≡ stepOf (instructionDue (bitsOf m) at)
       instruction-above h = wrong-id (above-instruction (x / 2097152) h)
-
-      module _ {w : ℕ} (some : x / 2097152 ≡ 0 → ⊥) (most : x / 2097152 ≤ 5) (hw : (w ≡ width (x / 2097152)) × (w ≤ 14)) where
-        id-good : element 3 isInstruction 6 (bitsOf m) at ≡ got (x / 2097152) (at + 3)
-        id-good = rw (element-good 3 isInstruction 6 (bitsOf m) at (enough h₃) (rw id-is (is-instruction (x / 2097152) some most)), id-is)
-
-        pub instruction-cut : r < 3 + w → Bad 2 (place (at + 3)) ≡ stepOf (instructionDue (bitsOf m) at)
-        unfolding instructionDue
-        instruction-cut h =
-            let k = x / 2097152 in
-            rw (id-good, ← hw .0, element-cut w (allowed k) 6 (bitsOf m) (at + 3) (short-rest w h))
-
-        module _ {p : ℕ} {b : Bool} (c : 3 + w ≤ r) (hp : (p ≡ x / 2 ^ (24 - (3 + w)) % 2 ^ w) × (p < 2 ^ w)) (hb : b ≡ allowed (x / 2097152) p) where
-          pub instruction-good : b ≡ true → Good (x / 2097152 * 65536 + p) (place (at + 3 + w)) ≡ stepOf (instructionDue (bitsOf m) at)
-          unfolding instructionDue
-          instruction-good f =
-              let k = x / 2097152 in
-              let e = rest-is w (omega arith) c hp in
-              rw (id-good, ← hw .0, element-good w (allowed k) 6 (bitsOf m) (at + 3) (enough-rest w c) (rw e (sym hb ∙ f)), e)
-
-          pub instruction-code : b ≡ false → Bad 6 (place (at + 3)) ≡ stepOf (instructionDue (bitsOf m) at)
-          unfolding instructionDue
-          instruction-code f =
-              let k = x / 2097152 in
-              let e = rest-is w (omega arith) c hp in
-              rw (id-good, ← hw .0, element-bad w (allowed k) 6 (bitsOf m) (at + 3) (enough-rest w c) (rw e (sym hb ∙ f)))
 
       -- ---- a header
 
@@ -160,6 +135,33 @@ module _ (m : List ℕ) (at : ℕ) {r : ℕ} (hr : r + at ≡ 8 * length m) wher
             pub header-unknown : getD known (partOf (x / 128)) false ≡ false → Bad 7 (place (at + 3)) ≡ stepOf (headerDue known (bitsOf m) at)
             header-unknown k = header-bad (rw (eq-eqb (specifier (x / 128)) 0 recall, k))
 
+    -- an instruction of kind k, w payload bits wide, whose id is there
+    module _ {k w : ℕ} (there : at + 3 ≤ 8 * length m) (ek : k ≡ x / 2097152) (some : 1 ≤ k) (most : k ≤ 5) (hw : (w ≡ width k) × (w ≤ 14)) where
+      id-there : 3 ≤ r
+      id-there = omega arith
+
+      id-good : 3 ≤ r → element 3 isInstruction 6 (bitsOf m) at ≡ got k (at + 3)
+      id-good h =
+          let e : field (bitsOf m) at 3 ≡ k = id-is h ∙ sym ek in
+          rw (element-good 3 isInstruction 6 (bitsOf m) at (enough h) (rw e (is-instruction h k some most)), e)
+
+      pub instruction-cut : r < 3 + w → Bad 2 (place (at + 3)) ≡ stepOf (instructionDue (bitsOf m) at)
+      unfolding instructionDue
+      instruction-cut h = rw (id-good id-there, ← hw .0, element-cut w (allowed k) 6 (bitsOf m) (at + 3) (short-rest id-there w h))
+
+      module _ {p : ℕ} {b : Bool} (c : 3 + w ≤ r) (hp : (p ≡ x / 2 ^ (24 - (3 + w)) % 2 ^ w) × (p < 2 ^ w)) (hb : b ≡ allowed k p) where
+        pub instruction-good : b ≡ true → Good (k * 65536 + p) (place (at + 3 + w)) ≡ stepOf (instructionDue (bitsOf m) at)
+        unfolding instructionDue
+        instruction-good f =
+            let e = rest-is id-there w (omega arith) c hp in
+            rw (id-good id-there, ← hw .0, element-good w (allowed k) 6 (bitsOf m) (at + 3) (enough-rest id-there w c) (rw e (sym hb ∙ f)), e)
+
+        pub instruction-code : b ≡ false → Bad 6 (place (at + 3)) ≡ stepOf (instructionDue (bitsOf m) at)
+        unfolding instructionDue
+        instruction-code f =
+            let e = rest-is id-there w (omega arith) c hp in
+            rw (id-good id-there, ← hw .0, element-bad w (allowed k) 6 (bitsOf m) (at + 3) (enough-rest id-there w c) (rw e (sym hb ∙ f)))
+
   pub instruction-short : r < 3 → Bad 2 (place at) ≡ stepOf (instructionDue (bitsOf m) at)
   unfolding instructionDue
   instruction-short h = rw (element-cut 3 isInstruction 6 (bitsOf m) at (short h))
@@ -168,14 +170,32 @@ module _ (m : List ℕ) (at : ℕ) {r : ℕ} (hr : r + at ≡ 8 * length m) wher
   unfolding headerDue
   header-short known h = rw (element-cut 3 (eqb 0) 6 (bitsOf m) at (short h))
 
+-- the widths as four bits of one number for each
+pub width-packed : (k : ℕ) → k ≤ 5 → (4530846 / 2 ^ (4 * k) % 16 ≡ width k) × (4530846 / 2 ^ (4 * k) % 16 ≤ 14)
+unfolding width
+width-packed zero h = (refl, lit≤ tt)
+width-packed (suc zero) h = (refl, lit≤ tt)
+width-packed (suc (suc zero)) h = (refl, lit≤ tt)
+width-packed (suc (suc (suc zero))) h = (refl, lit≤ tt)
+width-packed (suc (suc (suc (suc zero)))) h = (refl, lit≤ tt)
+width-packed (suc (suc (suc (suc (suc zero))))) h = (refl, lit≤ tt)
+width-packed (suc (suc (suc (suc (suc (suc k)))))) h = absurd (omega arith)
+
+-- a note's width
+pub note-width : 9 ≡ width 1
+unfolding width
+note-width = refl
+
 -- an entry that was read fits 32 bits
-pub entry-fits : (x w p : ℕ) → x < 16777216 → w ≤ 14 → p < 2 ^ w → Fits w32 (x / 2097152 * 65536 + p)
-entry-fits x w p h l k = let q : p < 16384 = lt-of-lt-of-le k (pow-mono {j = 14} l) in record { fits = omega arith }
+pub entry-fits : (kind w p : ℕ) → kind ≤ 5 → w ≤ 14 → p < 2 ^ w → Fits w32 (kind * 65536 + p)
+entry-fits kind w p h l k = let q : p < 16384 = lt-of-lt-of-le k (pow-mono {j = 14} l) in record { fits = omega arith }
 
 pub ruleset elements = (cut-is, good-is)
 
 pub ruleset dues = (cut-is, due-is, other-is)
 
-pub ruleset instructions = (instruction-short, instruction-zero, instruction-above, instruction-cut, instruction-good, instruction-code, entry-fits)
+pub ruleset instructions = (instruction-short, instruction-zero, instruction-above, note-width)
+
+pub ruleset payloads = (instruction-cut, instruction-good, instruction-code, entry-fits)
 
 pub ruleset headers = (header-short, header-id, header-cut, header-defines, header-recalls, header-unknown)

@@ -5,15 +5,17 @@ use native.Mathlib.Nat.{add-zero}
 use mathlib.Core.Path.{_≡_, refl, sym, ap, _∙_}
 use mathlib.Core.Bool.{Bool, true, false, _||_}
 use mathlib.Core.List.{List, [], _∷_}
-use lib.ListN.{length}
-use lib.Dec.{eqb, leb}
+use lib.ListN.{length, drop}
+use lib.Dec.{eqb, leb, lit≤}
 use lib.Pow.{pow-pos}
 use borrow.Author.Tests.{eq-eqb, ne-eqb, le-leb, lt-leb}
 use Rattle.bits.specs.Choice.{pick}
 use Rattle.bits.specs.Bits.{bitsOf, field, fillerTo, placeAfter, octetsTo}
 use Rattle.bits.specs.declared.BitPlace.{BitPlace}
 use Rattle.bits.proofs.Choice.{pick-elim}
+use Rattle.bits.specs.Window.{Look}
 use Rattle.bits.proofs.Octets.{length-bitsOf}
+use Rattle.bits.proofs.Looking.{seen}
 use Rattle.tone.specs.Tone.{Front}
 use Rattle.tone.specs.Writing.{programming, unicodePart, sound}
 use Rattle.tone.specs.Reading.{Got, got, bad, onward, Reader, element, anyOf, part, fillerBit, lengthOctet, filled, whetherUnicode, soundPart, parts, command, songType, text, title, patternCount, counted, titled, typed, front, fillerRun, endOctet, ending}
@@ -136,6 +138,25 @@ module _ (m : List ℕ) (at : ℕ) {s : Step} (q : s ≡ stepOf (anyOf 8 (bitsOf
       pub command-other : {p : BitPlace} → p .0 ≡ at → (v ≡ 3 → ⊥) → Withheld 3 p ≡ commandOf (command (bitsOf m) at)
       unfolding command
       command-other e k = rw (bad-there 8 3 (either 2 3) m at q g (is-neither 2 3 v h k), ← e)
+
+-- the 23 bits of a command without UNICODE, told at once
+module _ (m : List ℕ) (at : ℕ) {r x : ℕ} (hr : r + at ≡ 8 * length m) (long : 23 ≤ r) (lk : Look (drop at (bitsOf m)) x) where
+  told : (q o w : ℕ) (fine : ℕ → Bool) (number v : ℕ) → q ≡ at + o → o + w ≤ 23 → x / 2 ^ (24 - (o + w)) % 2 ^ w ≡ v → fine v ≡ true → element w fine number (bitsOf m) q ≡ got v (q + w)
+  told q o w fine number v e h f t =
+      let g : field (bitsOf m) q w ≡ v = ap (λ (y : ℕ). field (bitsOf m) y w) e ∙ seen m at o w lk (omega arith) (omega arith) ∙ f in
+      rw (element-good w fine number (bitsOf m) q (rw (length-bitsOf m) (omega arith)) (rw g t), g)
+
+  pub command-plain : x / 2 ≡ 75037 → Announced false (place (at + 23)) ≡ commandOf (command (bitsOf m) at)
+  unfolding command parts filled whetherUnicode soundPart
+  command-plain h =
+      let e : at + 8 + 7 + 1 + 7 ≡ at + 23 = omega arith in
+      rw (
+        told at 0 8 (either 2 3) 3 2 (omega arith) (lit≤ tt) (omega arith) refl,
+        told (at + 8) 8 7 (eqb programming) 3 37 (omega arith) (lit≤ tt) (omega arith) refl,
+        told (at + 8 + 7) 15 1 (eqb 0) 8 0 (omega arith) (lit≤ tt) (omega arith) refl,
+        told (at + 8 + 7 + 1) 16 7 (eqb sound) 3 29 (omega arith) (lit≤ tt) (omega arith) refl,
+        e,
+      )
 
 pub command-within : (m : List ℕ) (at : ℕ) {c : Command} {u : Bool} {f : BitPlace} → Within m at → c ≡ commandOf (command (bitsOf m) at) → c ≡ Announced u f → Within m (f .0)
 command-within m at {c} {u} {f} i q g = go (command (bitsOf m) at) refl (sym g ∙ q)
@@ -269,7 +290,7 @@ module _ (m : List ℕ) (at : ℕ) {x y : ℕ} (ex : x ≡ placeAfter y) (ey : y
     unfolding ending
     ending-next g k = let b = step-there (element (fillerTo at) (eqb 0) 8 (bitsOf m) at) (sym g ∙ run) in rw b k
 
-pub ruleset commands = (element-within, filled-bad, filled-next, filled-within, sound-bad, sound-good, parts-bad, parts-plain, parts-unicode-bad, parts-unicode, any-within, command-cut, command-two, command-three, command-other)
+pub ruleset commands = (element-within, filled-bad, filled-next, filled-within, sound-bad, sound-good, parts-bad, parts-plain, parts-unicode-bad, parts-unicode, any-within, command-cut, command-two, command-three, command-other, command-plain)
 
 pub ruleset titles = (any-within, title-none, title-short, title-cut, title-text, titled-bad, titled-within, titled-cut, titled-zero, titled-good)
 

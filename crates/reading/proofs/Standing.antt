@@ -21,6 +21,7 @@ use Rattle.tone.specs.Table.{kind, payload, width, InTable}
 use Rattle.tone.specs.Writing.{entryBits, tableBits}
 use Rattle.tone.proofs.Rows.{width-most, length-entryBits}
 use Rattle.reading.specs.Answers.{Within, EntryAt, SomeEntry, Passed}
+use Rattle.reading.proofs.Elements.{note-width}
 
 -- a number that stands at a place
 pub stands : (l : List Bool) (at w v : ℕ) (r : List Bool) → v < 2 ^ w → drop at l ≡ bitsN w v ++ r → field l at w ≡ v
@@ -68,11 +69,17 @@ module _ {m : List ℕ} {at e : ℕ} {b : List Bool} (i : Within m at) (h : Entr
         let r = entry-room in
         sym (seen m at 3 w lk (omega arith) (omega arith)) ∙ ap (λ (n : ℕ). field (bitsOf m) (at + 3) n) ew ∙ rest-field
 
-    pub passed : {w p : ℕ} → (w ≡ width (x / 2097152)) × (w ≤ 14) → (p ≡ x / 2 ^ (24 - (3 + w)) % 2 ^ w) × (p < 2 ^ w) → Passed at e (x / 2097152 * 65536 + p) (at + 3 + w)
-    passed {w} {p} hw hp =
-        let ew : w ≡ width (kind e) = hw .0 ∙ ap width kind-seen in
-        let ep : p ≡ payload e = hp .0 ∙ payload-seen ew in
-        record { taken = omega (arith, kind-seen, ep); behind = omega (arith, length-entryBits e, ew) }
+    -- in the code's terms: an entry of a kind that it looks up, and a note
+    passed : (k : ℕ) {w c q : ℕ} → k ≡ x / 2097152 → w ≡ width k → (c ≡ k * 65536 + x / 2 ^ (24 - (3 + w)) % 2 ^ w) × (q ≡ at + 3 + w) → Passed at e c q
+    passed k {w} ek hw h =
+        let ew : w ≡ width (kind e) = hw ∙ ap width (ek ∙ kind-seen) in
+        record { taken = omega (arith, h .0, ek, kind-seen, payload-seen ew); behind = omega (arith, h .1, length-entryBits e, ew) }
+
+    pub entry-passed : {w c q : ℕ} → (w ≡ width (x / 2097152)) × (w ≤ 14) → (c ≡ x / 2097152 * 65536 + x / 2 ^ (24 - (3 + w)) % 2 ^ w) × (q ≡ at + 3 + w) → Passed at e c q
+    entry-passed hw h = passed (x / 2097152) refl (hw .0) h
+
+    pub note-passed : {c q : ℕ} → x / 2097152 ≡ 1 → (c ≡ 1 * 65536 + x / 2 ^ (24 - (3 + 9)) % 2 ^ 9) × (q ≡ at + 3 + 9) → Passed at e c q
+    note-passed h t = passed 1 (sym h) note-width t
 
 -- the entry that stands there has one of the kinds of the table
 pub some-kind : {m : List ℕ} {at x : ℕ} → Within m at → SomeEntry m at → Look (drop at (bitsOf m)) x → x / 2097152 ≤ 5

@@ -5,18 +5,19 @@ use native.Mathlib.Nat.{zero-add, add-assoc}
 use mathlib.Core.Path.{_≡_, refl, sym, ap, _∙_}
 use mathlib.Core.Bool.{Bool, true, false}
 use mathlib.Core.List.{List, [], _∷_, _++_}
-use lib.ListN.{length, length-append}
+use lib.ListN.{length, set, length-append}
 use Rattle.bits.specs.Choice.{pick}
 use Rattle.bits.specs.Bits.{bitsOf}
 use Rattle.bits.specs.declared.BitPlace.{BitPlace}
 use Rattle.bits.proofs.Octets.{length-bitsOf}
 use Rattle.reading.specs.declared.Step.{Step}
 use Rattle.reading.specs.declared.Step.the-variants.{Good, Bad}
-use Rattle.tone.specs.Tone.{Pattern, perCharacter, specifier, pattern, cells, noneKnown, learn}
+use Rattle.tone.specs.Tone.{Pattern, perCharacter, specifier, partOf, pattern, cells, noneKnown, learn}
 use Rattle.tone.specs.Reading.{Got, got, bad, onward, anyOf, character, text, headerDue, instructionDue, bodyDue, patternsDue}
 use Rattle.reading.specs.Answers.{place, stepAs, stepOf, noteIn, notes, entries}
 use Rattle.tone.proofs.Exact.{Exact, element-inside}
 use Rattle.tone.proofs.Rows.{instruction-exact, body-exact, header-exact, patterns-exact}
+use Rattle.tone.proofs.Recalls.{learn-set}
 use Rattle.reading.proofs.Steps.{step-there, step-good, step-bad, step-cong, step-map}
 
 -- a reader stays within the message
@@ -169,8 +170,9 @@ module _ {m : List ℕ} {n at : ℕ} {known : List Bool} {p left c : ℕ} (w : R
             let b = step-bad notes (bodyDue (specifier v) (bitsOf m) (f .0)) (sym g′ ∙ q′) in
             sym (w .goes ∙ (rw (one-less left h, header-there, b .1)))
 
-        pub row-on : {u : ℕ} {f′ : BitPlace} {known′ : List Bool} → t ≡ Good u f′ → known′ ≡ learn known v → RowWalk m n at known′ (f′ .0) (left - 1) (c + (1 + specifier v))
-        row-on {u} {f′} {known′} g′ k =
+        pub row-on : {u : ℕ} {f′ : BitPlace} → t ≡ Good u f′ → RowWalk m n at (set known (partOf v) true) (f′ .0) (left - 1) (c + (1 + specifier v))
+        row-on {u} {f′} g′ =
+            let k : set known (partOf v) true ≡ learn known v = sym (learn-set known v (header-exact known .sound (bitsOf m) p (rw (length-bitsOf m) (w .inside)) header-there .good .recall)) in
             let b = step-good notes (bodyDue (specifier v) (bitsOf m) (f .0)) (sym g′ ∙ q′) in
             let size : length (b .0) ≡ specifier v = body-exact (specifier v) .sound (bitsOf m) (f .0) (rw (length-bitsOf m) row-inside) (b .1) .good .size in
             record {

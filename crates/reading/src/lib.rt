@@ -1,9 +1,10 @@
 ghost use mathlib.Core.Path.{_≡_};
-ghost use Prim.Native.Nat.{ℕ, _+_, _*_, _^_, _≤_, _<_};
-ghost use lib.ListN.{length};
+ghost use Prim.Native.Nat.{ℕ, _+_, _-_, _*_, _/_, _%_, _^_, _≤_, _<_};
+ghost use lib.ListN.{length, drop};
 ghost use lib.Dec.{eqb};
 ghost use Rattle.bits.specs.Choice.{pick};
 ghost use Rattle.bits.specs.Bits.{bitsOf, placeAfter};
+ghost use Rattle.bits.specs.Window.{Look};
 ghost use Rattle.tone.specs.Table.{width as widthOf, allowed as allowedOf};
 ghost use Rattle.tone.specs.Tone.{perCharacter, noneKnown, learn};
 ghost use Rattle.tone.specs.Reading.{element, anyOf, filled, soundPart, parts as partsDue, command, text as textDue, title as titleDue, titled as titledDue, front};
@@ -91,15 +92,13 @@ pub fn due(msg: &[u8], at: BitPlace, w: u32, code: u32, number: u32) -> Step
     Step::Bad { number, at }
 }
 
-// How many payload bits each kind has.
-const WIDTHS: [u32; 6] = [14, 9, 2, 2, 5, 4];
-
-// How many payload bits a kind has.
+// How many payload bits a kind has: 14, 9, 2, 2, 5, 4, four bits of one number for each, kind 0 lowest. An array would be
+// laid out anew at each call.
 pub fn width(kind: u32) -> u32
     requires { ⌜ kind ≤ 5 ⌝ }
     ensures { λ r. ⌜ (r ≡ widthOf kind) × (r ≤ 14) ⌝ }
 {
-    WIDTHS[kind as usize]
+    (0x45229Eu32 >> (4 * kind)) % 16
 }
 
 // Is the payload a code that the instruction table has?
@@ -118,34 +117,24 @@ pub fn allowed(kind: u32, payload: u32) -> bool
     true
 }
 
-// An instruction: its id, and then the rest of it.
-pub fn instruction(msg: &[u8], at: BitPlace) -> Step
+// The rest of an instruction, `w` bits behind its id. `x` was seen at its place.
+fn payload(msg: &[u8], at: BitPlace, x: u32, kind: u32, w: u32) -> Step
     requires { ⌜ Within (now msg) (at .0) ⌝ }
+    requires { ⌜ Look (drop (at .0) (bitsOf (now msg))) x ⌝ }
+    requires { ⌜ (at .0 + 3 ≤ placeAfter (length (now msg))) × (kind ≡ x / 2097152) × (1 ≤ kind) × (kind ≤ 5) ⌝ }
+    requires { ⌜ (w ≡ widthOf kind) × (w ≤ 14) ⌝ }
     ensures { λ r. ⌜ r ≡ stepOf (instructionDue (bitsOf (now (msg .entry))) (at .0)) ⌝ }
 {
-    let rest = left(msg, at);
-    if rest < 3 {
-        return Step::Bad { number: 2, at };
-    }
-    let x = bits::look(msg, at);
-    let kind = x / 2097152;
-    if kind == 0 {
-        return Step::Bad { number: 6, at };
-    }
-    if 5 < kind {
-        return Step::Bad { number: 6, at };
-    }
-    let w = width(kind);
-    if rest < 3 + w as usize {
+    if left(msg, at) < 3 + w as usize {
         return Step::Bad {
             number: 2,
             at: BitPlace(at.0 + 3),
         };
     }
-    let payload = bits::part(x, 3, w);
-    if allowed(kind, payload) {
+    let code = bits::part(x, 3, w);
+    if allowed(kind, code) {
         return Step::Good {
-            value: kind * 65536 + payload,
+            value: kind * 65536 + code,
             next: BitPlace(at.0 + 3 + w as usize),
         };
     }
@@ -153,6 +142,28 @@ pub fn instruction(msg: &[u8], at: BitPlace) -> Step
         number: 6,
         at: BitPlace(at.0 + 3),
     }
+}
+
+// An instruction: its id, and then the rest of it. Most are notes: told first, the next place does not wait for a width.
+pub fn instruction(msg: &[u8], at: BitPlace) -> Step
+    requires { ⌜ Within (now msg) (at .0) ⌝ }
+    ensures { λ r. ⌜ r ≡ stepOf (instructionDue (bitsOf (now (msg .entry))) (at .0)) ⌝ }
+{
+    if left(msg, at) < 3 {
+        return Step::Bad { number: 2, at };
+    }
+    let x = bits::look(msg, at);
+    let kind = x / 2097152;
+    if kind == 1 {
+        return payload(msg, at, x, 1, 9);
+    }
+    if kind == 0 {
+        return Step::Bad { number: 6, at };
+    }
+    if 5 < kind {
+        return Step::Bad { number: 6, at };
+    }
+    payload(msg, at, x, kind, width(kind))
 }
 
 // A header: its id, and then the rest of it. `known` says which of A to D are defined.
@@ -266,8 +277,7 @@ pub fn patterns(msg: &[u8], at: BitPlace, n: u32) -> Step
                     value: _,
                     next: behind,
                 } => {
-                    let after = learned(known, value);
-                    known = after;
+                    known[(value / 4096 % 4) as usize] = true;
                     place = behind;
                     entries += 1 + value % 256;
                     left -= 1;
@@ -327,8 +337,8 @@ fn parts(msg: &[u8], at: BitPlace, length: u32) -> Command
     }
 }
 
-// The command up to the sound part.
-pub fn announced(msg: &[u8], at: BitPlace) -> Command
+// The command, element by element.
+fn spelled(msg: &[u8], at: BitPlace) -> Command
     requires { ⌜ Within (now msg) (at .0) ⌝ }
     ensures { λ r. ⌜ r ≡ commandOf (command (bitsOf (now (msg .entry))) (at .0)) ⌝ }
 {
@@ -344,6 +354,23 @@ pub fn announced(msg: &[u8], at: BitPlace) -> Command
             Command::Withheld { number: 3, at }
         }
     }
+}
+
+// The command up to the sound part. Without UNICODE it is 23 bits that can be told at once.
+pub fn announced(msg: &[u8], at: BitPlace) -> Command
+    requires { ⌜ Within (now msg) (at .0) ⌝ }
+    ensures { λ r. ⌜ r ≡ commandOf (command (bitsOf (now (msg .entry))) (at .0)) ⌝ }
+{
+    if left(msg, at) < 23 {
+        return spelled(msg, at);
+    }
+    if bits::look(msg, at) / 2 == 75037 {
+        return Command::Announced {
+            unicode: false,
+            next: BitPlace(at.0 + 23),
+        };
+    }
+    spelled(msg, at)
 }
 
 // The bits of a title's character.
@@ -502,6 +529,17 @@ pub fn rest(msg: &[u8], at: BitPlace, n: u32) -> Step
 
 // ---- what stands in a message that was judged
 
+// The entry of a kind, `w` payload bits wide, that was seen at a place.
+fn entry_of(at: BitPlace, x: u32, kind: u32, w: u32) -> Cell
+    requires { ⌜ (at .0 < 2 ^ 63) × (x < 16777216) × (kind ≤ 5) × (w ≤ 14) ⌝ }
+    ensures { λ r. ⌜ (r .cell ≡ kind * 65536 + x / 2 ^ (24 - (3 + w)) % 2 ^ w) × (r .next .0 ≡ at .0 + 3 + w) ⌝ }
+{
+    Cell {
+        cell: kind * 65536 + bits::part(x, 3, w),
+        next: BitPlace(at.0 + 3 + w as usize),
+    }
+}
+
 // The entry at a place where one stands.
 pub fn entry_at(msg: &[u8], at: BitPlace) -> Cell
     requires { ⌜ Within (now msg) (at .0) ⌝ }
@@ -510,9 +548,8 @@ pub fn entry_at(msg: &[u8], at: BitPlace) -> Cell
 {
     let x = bits::look(msg, at);
     let kind = x / 2097152;
-    let w = width(kind);
-    Cell {
-        cell: kind * 65536 + bits::part(x, 3, w),
-        next: BitPlace(at.0 + 3 + w as usize),
+    if kind == 1 {
+        return entry_of(at, x, 1, 9);
     }
+    entry_of(at, x, kind, width(kind))
 }

@@ -2,45 +2,41 @@
 use borrow.Author.Needs.{needs}
 use Rattle.reading.proofs.announced.Statement.{statement}
 use Rattle.reading.proofs.announced.Tie as tie
-use Rattle.reading.proofs.Openings.{commands}
+use Rattle.reading.proofs.Openings.{command-plain}
 
-any-requires : tie.Need-any-requires
-any-requires c κs = search needs
+left-requires : tie.Need-left-requires
+left-requires c κs = search needs
 
-enum-known-number : tie.Need-enum-known-number
-enum-known-number c = search needs
-
-enum-known-value : tie.Need-enum-known-value
-enum-known-value c = search needs
-
-parts-requires : tie.Need-parts-requires
-parts-requires c κs = search (commands, needs)
+spelled-requires : tie.Need-spelled-requires
+spelled-requires c κs = search needs
 
 returns : tie.Need-returns
-returns c = search (commands, needs)
+returns c = search needs
 
-parts-requires-2 : tie.Need-parts-requires-2
-parts-requires-2 c κs = search (commands, needs)
+look-requires : tie.Need-look-requires
+look-requires c κs = search needs
+
+add-t7 : tie.Need-add-t7
+add-t7 c = search needs
 
 returns-2 : tie.Need-returns-2
-returns-2 c = search (commands, needs)
+returns-2 c = search (command-plain, needs)
+
+spelled-requires-2 : tie.Need-spelled-requires-2
+spelled-requires-2 c κs = search needs
 
 returns-3 : tie.Need-returns-3
-returns-3 c = search (commands, needs)
-
-returns-4 : tie.Need-returns-4
-returns-4 c = search (commands, needs)
+returns-3 c = search needs
 
 pub announced-spec : {M : Type 1} → statement M
 announced-spec =
     tie.close
     (tie.spec
-    any-requires
-    enum-known-number
-    enum-known-value
-    parts-requires
+    left-requires
+    spelled-requires
     returns
-    parts-requires-2
+    look-requires
+    add-t7
     returns-2
-    returns-3
-    returns-4)
+    spelled-requires-2
+    returns-3)

@@ -2,46 +2,27 @@
 use borrow.Author.Needs.{needs}
 use Rattle.reading.proofs.entry_at.Statement.{statement}
 use Rattle.reading.proofs.entry_at.Tie as tie
-use Rattle.reading.proofs.Standing.{passed, some-kind}
-use Rattle.reading.proofs.Elements.{entry-fits}
+use Rattle.reading.proofs.Standing.{entry-passed, note-passed, some-kind}
 
 look-requires : tie.Need-look-requires
 look-requires c κs = search needs
 
-width-requires : tie.Need-width-requires
-width-requires c κs = search (passed, some-kind, entry-fits, needs)
-
-mul-t6 : tie.Need-mul-t6
-mul-t6 c = search needs
-
-part-requires : tie.Need-part-requires
-part-requires c κs = search needs
-
-add-t8 : tie.Need-add-t8
-add-t8 c = search (passed, some-kind, entry-fits, needs)
-
-add-t9 : tie.Need-add-t9
-add-t9 c = search needs
-
-cast-t10 : tie.Need-cast-t10
-cast-t10 c = search needs
-
-add-t11 : tie.Need-add-t11
-add-t11 c = search needs
+entry-of-requires : tie.Need-entry-of-requires
+entry-of-requires c κs = search needs
 
 returns : tie.Need-returns
-returns c = search (passed, some-kind, entry-fits, needs)
+returns c = search (entry-passed, note-passed, some-kind, needs)
+
+width-requires : tie.Need-width-requires
+width-requires c κs = search (entry-passed, note-passed, some-kind, needs)
+
+entry-of-requires-2 : tie.Need-entry-of-requires-2
+entry-of-requires-2 c κs = search (entry-passed, note-passed, some-kind, needs)
+
+returns-2 : tie.Need-returns-2
+returns-2 c = λ e b h. entry-passed (search needs) h (search needs) (search needs) (c .entry-of2 .ensures)
 
 pub entry-at-spec : {M : Type 1} → statement M
 entry-at-spec =
     tie.close
-    (tie.spec
-    look-requires
-    width-requires
-    mul-t6
-    part-requires
-    add-t8
-    add-t9
-    cast-t10
-    add-t11
-    returns)
+    (tie.spec look-requires entry-of-requires returns width-requires entry-of-requires-2 returns-2)

@@ -1,9 +1,8 @@
+-- `reading::patterns` meets its contract. What is left to read falls with each turn.
 use Rattle.reading.proofs.patterns.Statement.{statement}
 use Rattle.reading.proofs.patterns.Tie as tie
 use borrow.Author.Needs.{needs}
 use Rattle.reading.proofs.Walks.{RowWalk, rows}
-
--- `reading::patterns` meets its contract. What is left to read falls with each turn.
 
 abbrev Inv-loop : tie.InvT-loop
 Inv-loop msg n known₀ place₀ left₀ entries₀ known place left entries = RowWalk msg n (place₀ .0) known (place .0) left entries
@@ -38,8 +37,11 @@ returns-2 c = search (rows, needs)
 enum-known-behind : tie.Need-enum-known-behind Inv-loop μ-loop
 enum-known-behind c = search (rows, needs)
 
-learned-requires : tie.Need-learned-requires Inv-loop μ-loop
-learned-requires c κs = search (rows, needs)
+cast-known : tie.Need-cast-known Inv-loop μ-loop
+cast-known c = search (rows, needs)
+
+array-write-known : tie.Need-array-write-known Inv-loop μ-loop
+array-write-known c = search (rows, needs)
 
 add-entries : tie.Need-add-entries Inv-loop μ-loop
 add-entries c = search (rows, needs)
@@ -74,7 +76,8 @@ patterns-spec =
     enum-known-number-2
     returns-2
     enum-known-behind
-    learned-requires
+    cast-known
+    array-write-known
     add-entries
     add-entries-2
     sub-left
