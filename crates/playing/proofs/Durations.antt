@@ -1,12 +1,15 @@
 -- Durations are whole units, and none is longer than 16.8 seconds.
-use Prim.Native.Nat.{ℕ, _*_, _^_, _≤_, _<_}
+use Prim.Native.Nat.{ℕ, zero, suc, _+_, _-_, _*_, _/_, _%_, _^_, _≤_, _<_}
 use native.Mathlib.Omega.{arith}
-use native.Mathlib.Nat.{div-le-self, div-le-of-le-mul}
-use mathlib.Core.Path.{_≡_, refl}
-use lib.Dec.{leb, eqb}
+use native.Mathlib.Nat.{add-zero, mul-add, add-mul, mul-assoc, mul-le-mul, lt-of-le-of-lt, mod-lt, div-le-self, div-le-of-le-mul, div-eq-of-lt, div-add-mod', mul-add-div, mul-div-mul-right, div-div-eq-div-mul}
+use mathlib.Core.Path.{_≡_, refl, sym, ap, _∙_}
+use lib.Dec.{leb, eqb, lit<}
+use mir.Val.{Fits}
+use mir.Syntax.{w32, w64}
 use borrow.Author.Tests.{leb-true}
 use Rattle.bits.proofs.Choice.{pick-elim}
 use Rattle.playing.specs.Duration.{beats, plainUnits, units, microseconds}
+use Rattle.playing.specs.Filling.{paceOf}
 use Rattle.playing.proofs.Below.{at-each, same-each}
 
 -- ---- whole units
@@ -42,6 +45,11 @@ pub slowest : (tempo : ℕ) → tempo < 32 → 25 ≤ beats tempo
 unfolding beats
 slowest tempo h = leb-true 25 (beats tempo) (at-each (λ k. leb 25 (beats k)) 32 refl tempo h)
 
+-- none is faster than 900
+pub fastest : (tempo : ℕ) → tempo < 32 → beats tempo ≤ 900
+unfolding beats
+fastest tempo h = leb-true (beats tempo) 900 (at-each (λ k. leb (beats k) 900) 32 refl tempo h)
+
 -- a full note is the longest plain one
 pub plain-most : (d : ℕ) → plainUnits d ≤ 384
 plain-most d = div-le-self 384 (2 ^ d)
@@ -62,3 +70,58 @@ duration-most d s tempo h =
     let u = units-most d s in
     let b = slowest tempo h in
     div-le-of-le-mul (beats tempo) (omega arith)
+
+-- ---- how the code gets there
+
+-- the units of a full note under each specifier as sixteen bits of one number, halved by each duration code
+pub units-packed : (d s : ℕ) → d ≤ 5 → s ≤ 3 → 72060480293699968 / 2 ^ (16 * s) % 65536 / 2 ^ d ≡ units d s
+unfolding units
+units-packed d zero h k = same-each (λ n. 384 / 2 ^ n) (λ n. units n 0) 6 refl d (omega arith)
+units-packed d (suc zero) h k = same-each (λ n. 576 / 2 ^ n) (λ n. units n 1) 6 refl d (omega arith)
+units-packed d (suc (suc zero)) h k = same-each (λ n. 672 / 2 ^ n) (λ n. units n 2) 6 refl d (omega arith)
+units-packed d (suc (suc (suc zero))) h k = same-each (λ n. 256 / 2 ^ n) (λ n. units n 3) 6 refl d (omega arith)
+units-packed d (suc (suc (suc (suc s)))) h k = absurd (omega arith)
+
+-- the pace of the slowest tempo is the longest
+pub pace-most : (b : ℕ) → 25 ≤ b → paceOf b ≤ 26214400001
+pace-most b h = let l : 655360000000 / b ≤ 26214400000 = div-le-of-le-mul b (omega arith) in omega arith
+
+-- in the code's terms
+module _ {b tempo : ℕ} (e : b ≡ beats tempo) (h : tempo ≤ 31) where
+  pub beats-least : 25 ≤ b
+  beats-least = rw e (slowest tempo (omega arith))
+
+  pub pace-fits : Fits w64 (655360000000 / b + 1)
+  pace-fits = let p = pace-most b beats-least in record { fits = omega arith }
+
+  pub pace-told : (655360000000 / b + 1 ≡ paceOf (beats tempo)) × (655360000000 / b + 1 ≤ 26214400001)
+  pace-told = (ap paceOf e, pace-most b beats-least)
+
+module _ {u k : ℕ} (h : (u ≤ 672) × (k ≤ 26214400001)) where
+  product-most : u * k ≤ 17616076800672
+  product-most = mul-le-mul (h .0) (h .1)
+
+  pub product-fits : Fits w64 (u * k)
+  product-fits = let p = product-most in record { fits = omega arith }
+
+  pub short-fits : Fits w32 (u * k / 2 ^ 20)
+  short-fits = let p = product-most in record { fits = omega arith }
+
+rounded-up : (q k b n : ℕ) → q * b + k ≡ n → k < b → (q + 1) * b ≡ n + (b - k)
+rounded-up q k b n e h = add-mul q 1 b ∙ omega arith
+
+-- units times pace comes to the rule's quotient: what the pace is too long by does not add up to a microsecond
+pub pace-exact : (u b : ℕ) → u ≤ 672 → 25 ≤ b → b ≤ 900 → u * paceOf b / 2 ^ 20 ≡ microseconds u b
+unfolding microseconds
+pace-exact u b hu low high =
+    let n : ℕ = 655360000000 in
+    let some : 0 < b = omega arith in
+    let r : ℕ = b - n % b in
+    let up : paceOf b * b ≡ n + r = rounded-up (n / b) (n % b) b n (div-add-mod' n b) (mod-lt n some) in
+    let whole : u * paceOf b * b ≡ 1048576 * (u * 625000) + u * r =
+    mul-assoc u (paceOf b) b ∙ ap (λ (x : ℕ). u * x) up ∙ mul-add u n r ∙ ap (λ (x : ℕ). x + u * r) (omega arith) in
+    let most : r ≤ 900 = omega arith in
+    let small : u * r < 1048576 = lt-of-le-of-lt (mul-le-mul hu most) (lit< tt) in
+    sym (mul-div-mul-right (u * paceOf b) 1048576 some) ∙ ap (λ (x : ℕ). x / (1048576 * b)) whole
+    ∙ sym (div-div-eq-div-mul (1048576 * (u * 625000) + u * r) 1048576 b)
+    ∙ ap (λ (x : ℕ). x / b) (mul-add-div (lit< tt) (u * 625000) (u * r) ∙ ap (λ (x : ℕ). u * 625000 + x) (div-eq-of-lt small) ∙ add-zero (u * 625000))

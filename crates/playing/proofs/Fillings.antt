@@ -6,7 +6,7 @@ use mathlib.Core.Path.{_≡_, refl, sym, ap, ap₂, subst, _∙_}
 use mathlib.Core.Bool.{Bool, true, false}
 use mathlib.Core.List.{List, [], _∷_, _++_, append-assoc, append-nil}
 use lib.ListN.{length, getD, set, drop, replicate, length-append, List·getD-map}
-use lib.Seq.{sets, sets-eq, getD-set-same}
+use lib.Seq.{sets, sets-eq, getD-set-same, set-getD}
 use lib.Dec.{eqb}
 use borrow.Author.Tests.{eqb-true}
 use Rattle.bits.specs.Choice.{pick}
@@ -29,7 +29,7 @@ use Rattle.playing.specs.declared.Walk.{Walk}
 use Rattle.playing.specs.Sounding.{atStart, numbers}
 use Rattle.playing.specs.Playing.{Played, ahead, Remembered, unknown, known, recalled, noBodies, Listing, passes, passesOf, bodyOf, remember, patternPlayed, play}
 use Rattle.playing.specs.Counting.{entryCount}
-use Rattle.playing.specs.Filling.{BodyAt, behindOr, bodyIn, behindIn, PatternsAt, partsAfter, behindPattern, Ready, Advanced}
+use Rattle.playing.specs.Filling.{BodyAt, behindOr, bodyIn, behindIn, PatternsAt, partAfter, behindPattern, Ready, Advanced}
 use Rattle.playing.proofs.Counts.{list-count}
 use Rattle.playing.proofs.Recalls.{isKnown, knownOf, remember-length, body-sounding, learn-read}
 use Rattle.playing.proofs.Joining.{play-one, play-last}
@@ -72,12 +72,12 @@ parts-length m (p ∷ ps) (r ∷ rs) h = ap suc (parts-length m ps rs (h .1))
 
 -- a header and its instructions change both alike
 parts-kept : (m : List ℕ) (ps : List Part) (rs : List Remembered) (h : ℕ) (next : BitPlace) (b : List ℕ) (q : ℕ) → PartsAt m ps rs → length b ≡ specifier h → BodyAt m (next .0) (specifier h) b q
-    → PartsAt m (partsAfter ps h next) (remember rs (pattern h b))
+    → PartsAt m (set ps (partOf h) (partAfter (getD ps (partOf h) Unknown) h next)) (remember rs (pattern h b))
 unfolding remember
 parts-kept m ps rs h next b q k size stands = rw (← size) (go (eqb (length b) 0))
   where
-    go : (t : Bool) → PartsAt m (pick t ps (set ps (partOf h) (Known next (length b)))) (pick t rs (set rs (partOf h) (known b)))
-    go true = k
+    go : (t : Bool) → PartsAt m (set ps (partOf h) (pick t (getD ps (partOf h) Unknown) (Known next (length b)))) (pick t rs (set rs (partOf h) (known b)))
+    go true = subst (λ (l : List Part). PartsAt m l rs) (sym (set-getD ps (partOf h) Unknown)) k
     go false = part-set m ps rs k (partOf h) (Known next (length b)) (known b) (q, rw size stands)
 
 -- ---- the first of some patterns that stand at a place
@@ -245,23 +245,26 @@ module _ {m : List ℕ} {ps : List Pattern} {old new : List ℕ} {parts : List P
       size : length (head .body) ≡ specifier cell
       size = read .good .size
 
-      module _ {parts′ : List Part} (e : parts′ ≡ partsAfter parts cell next) where
-        places : PartsAt m parts′ (remember (v .bodies) one)
+      module _ {part : Part} (e : part ≡ partAfter (getD parts (partOf cell) Unknown) cell next) where
+        places : PartsAt m (set parts (partOf cell) part) (remember (v .bodies) one)
         unfolding one
         places = rw e (parts-kept m parts (v .bodies) cell next (head .body) (head .behind) (v .places) size stands)
 
-        sounding : PartAt m (getD parts′ (partOf cell) Unknown) (getD (remember (v .bodies) one) (partOf cell) unknown)
-        sounding = part-at m parts′ (remember (v .bodies) one) places (partOf cell)
+        sounding : PartAt m part (getD (remember (v .bodies) one) (partOf cell) unknown)
+        sounding =
+            let four : length parts ≡ 4 = parts-length m parts (v .bodies) (v .places) ∙ v .four in
+            subst (λ (p : Part). PartAt m p (getD (remember (v .bodies) one) (partOf cell) unknown)) (getD-set-same parts (partOf cell) part Unknown (omega arith))
+            (part-at m (set parts (partOf cell) part) (remember (v .bodies) one) places (partOf cell))
 
-        pub list-unknown : getD parts′ (partOf cell) Unknown ≡ Unknown → ⊥
+        pub list-unknown : part ≡ Unknown → ⊥
         unfolding one
         list-unknown z =
-            unknown-there m (getD parts′ (partOf cell) Unknown) (getD (remember (v .bodies) one) (partOf cell) unknown) sounding z
+            unknown-there m part (getD (remember (v .bodies) one) (partOf cell) unknown) sounding z
             (known-sounding (v .bodies) cell (head .body) (v .four) size (rw (← same) (taken .good .recall)))
 
-        module _ {from : BitPlace} {n : ℕ} (g : getD parts′ (partOf cell) Unknown ≡ Known from n) where
+        module _ {from : BitPlace} {n : ℕ} (g : part ≡ Known from n) where
           body : (q : ℕ) × BodyAt m (from .0) n (recalled (getD (remember (v .bodies) one) (partOf cell) unknown)) q
-          body = known-there m (getD parts′ (partOf cell) Unknown) (getD (remember (v .bodies) one) (partOf cell) unknown) sounding g
+          body = known-there m part (getD (remember (v .bodies) one) (partOf cell) unknown) sounding g
 
           body-is : bodyIn m (from .0) n ≡ bodyOf (v .bodies) one
           unfolding one
@@ -312,15 +315,12 @@ module _ {m : List ℕ} {ps : List Pattern} {old new : List ℕ} {parts : List P
                       let r : got [] (next .0) ≡ got (head .body) (head .behind) = subst (λ (u : ℕ). bodyDue u (bitsOf m) (next .0) ≡ got (head .body) (head .behind)) (eqb-true (specifier cell) 0 y) reads in
                       cc
                   go false y =
-                      let l : length parts ≡ 4 = parts-length m parts (v .bodies) (v .places) ∙ v .four in
-                      let r : Known next (specifier cell) ≡ Known from n =
-                      sym (getD-set-same parts (partOf cell) (Known next (specifier cell)) Unknown (omega arith)) ∙ ap (λ (t : Bool). getD (pick t parts (set parts (partOf cell) (Known next (specifier cell)))) (partOf cell) Unknown) (sym y)
-                      ∙ ap (λ (u : List Part). getD u (partOf cell) Unknown) (sym e) ∙ g in
+                      let r : Known next (specifier cell) ≡ Known from n = ap (λ (t : Bool). pick t (getD parts (partOf cell) Unknown) (Known next (specifier cell))) (sym y) ∙ sym e ∙ g in
                       let e₁ : next ≡ from = cc in
                       let e₂ : specifier cell ≡ n = cc in
                       a .place ∙ ap₂ (λ (u : BitPlace) (c : ℕ). behindIn m (u .0) c) (sym e₁) (sym e₂) ∙ ap behindOr reads
 
-              pub list-on : {place′ : BitPlace} → (loopOf cell ≡ 15 → ⊥) → place′ ≡ behindPattern cell next (w′ .at) → ListWalk m ps old new′ parts′ (place′ .0) w′ (left - 1)
+              pub list-on : {place′ : BitPlace} → (loopOf cell ≡ 15 → ⊥) → place′ ≡ behindPattern cell next (w′ .at) → ListWalk m ps old new′ (set parts (partOf cell) part) (place′ .0) w′ (left - 1)
               unfolding d one
               list-on {place′} other z =
                   let q = behind-is z in

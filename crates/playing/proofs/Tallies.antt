@@ -5,7 +5,8 @@ use native.Mathlib.Nat.{add-zero, add-assoc, mul-one, mul-le-mul, le-trans}
 use mathlib.Core.Path.{_≡_, refl, sym, ap, ap₂, _∙_}
 use mathlib.Core.Bool.{Bool, true, false}
 use mathlib.Core.List.{List, [], _∷_, _++_, map}
-use lib.ListN.{length, getD, set, replicate, List·getD-map}
+use lib.ListN.{length, getD, set, replicate, length-map, List·getD-map}
+use lib.Seq.{getD-set-same, set-getD}
 use lib.Dec.{eqb}
 use borrow.Author.Tests.{eqb-true, eq-eqb, ne-eqb}
 use Rattle.bits.specs.Choice.{pick}
@@ -16,6 +17,7 @@ use Rattle.bits.proofs.Octets.{length-bitsOf}
 use Rattle.tone.specs.Tone.{Pattern, specifier, loopOf, partOf, pattern, noneKnown, learn}
 use Rattle.tone.specs.Reading.{Got, got, bad, onward, headerDue, bodyDue, patternsDue}
 use Rattle.tone.proofs.Rows.{header-exact, body-exact}
+use Rattle.tone.proofs.Recalls.{learn-set}
 use Rattle.reading.specs.declared.Step.{Step}
 use Rattle.reading.specs.declared.Step.the-variants.{Good, Bad}
 use Rattle.reading.specs.Answers.{place, stepAs, stepOf, notes}
@@ -27,7 +29,7 @@ use Rattle.playing.specs.declared.Count.{Count}
 use Rattle.playing.specs.declared.Tally.the-variants.{Counted, Stopped}
 use Rattle.playing.specs.Playing.{Remembered, unknown, known, recalled, noBodies, noMark, markAt, Listing, passesOf, bodyOf, remember, patternPlayed, play}
 use Rattle.playing.specs.Counting.{entryCount, markOf, markFrom}
-use Rattle.playing.specs.Answers.{Total, totalFrom, noCount, counted, noted, tallyAs}
+use Rattle.playing.specs.Answers.{Total, totalFrom, noCount, counted, tallyAs}
 use Rattle.playing.proofs.Counts.{pattern-count}
 use Rattle.playing.proofs.Recalls.{knownOf, remember-length, body-sounding, learn-read}
 use Rattle.playing.proofs.Bounds.{Body, Bodies, bodies-start, bodies-kept, body-kept, notes-most, passes-most}
@@ -118,13 +120,14 @@ set-notes [] i r = refl
 set-notes (x ∷ bodies) zero r = refl
 set-notes (x ∷ bodies) (suc i) r = ap (λ (l : List ℕ). notesOf x ∷ l) (set-notes bodies i r)
 
--- a definition's notes replace those of its id
-noted-remembers : (bodies : List Remembered) (h : ℕ) (b : List ℕ) → length b ≡ specifier h → noted (allNotes bodies) h (notes b) ≡ allNotes (remember bodies (pattern h b))
+-- the notes of what a header sounds take the place of those of its id
+noted-remembers : (bodies : List Remembered) (h : ℕ) (b : List ℕ) → length b ≡ specifier h
+    → set (allNotes bodies) (partOf h) (pick (eqb (specifier h) 0) (getD (allNotes bodies) (partOf h) 0) (notes b)) ≡ allNotes (remember bodies (pattern h b))
 unfolding remember
 noted-remembers bodies h b e = rw (← e) (go (eqb (length b) 0))
   where
-    go : (t : Bool) → pick t (allNotes bodies) (set (allNotes bodies) (partOf h) (notes b)) ≡ allNotes (pick t bodies (set bodies (partOf h) (known b)))
-    go true = refl
+    go : (t : Bool) → set (allNotes bodies) (partOf h) (pick t (getD (allNotes bodies) (partOf h) 0) (notes b)) ≡ allNotes (pick t bodies (set bodies (partOf h) (known b)))
+    go true = set-getD (allNotes bodies) (partOf h) 0
     go false = set-notes bodies (partOf h) (known b)
 
 -- then the notes of its id are those of the body that sounds
@@ -236,7 +239,7 @@ module _ {m : List ℕ} {n at : ℕ} {seen : List Bool} {noteds : List ℕ} {p l
             let b = step-bad notes (bodyDue (specifier v) (bitsOf m) (f .0)) (sym g′ ∙ q′) in
             sym (w .goes ∙ (rw (one-less, header-there, b .1)))
 
-        module _ {own : ℕ} {f′ : BitPlace} {noteds′ : List ℕ} (g′ : t ≡ Good own f′) (e : noteds′ ≡ noted noteds v own) where
+        module _ {own heard : ℕ} {f′ : BitPlace} (g′ : t ≡ Good own f′) (e : heard ≡ pick (eqb (specifier v) 0) (getD noteds (partOf v) 0) own) where
           read : (b : List ℕ) × (bodyDue (specifier v) (bitsOf m) (f .0) ≡ got b (f′ .0)) × (own ≡ notes b)
           read = step-good notes (bodyDue (specifier v) (bitsOf m) (f .0)) (sym g′ ∙ q′)
 
@@ -249,24 +252,28 @@ module _ {m : List ℕ} {n at : ℕ} {seen : List Bool} {noteds : List ℕ} {p l
           after : List Remembered
           after = remember (w .bodies) (pattern v (read .0))
 
-          hummed-after : noteds′ ≡ allNotes after
+          hummed-after : set noteds (partOf v) heard ≡ allNotes after
           unfolding after
-          hummed-after = e ∙ ap₂ (λ (l : List ℕ) (x : ℕ). noted l v x) (w .hummed) (read .2) ∙ noted-remembers (w .bodies) v (read .0) size
+          hummed-after =
+              ap (set noteds (partOf v)) e
+              ∙ ap₂ (λ (l : List ℕ) (x : ℕ). set l (partOf v) (pick (eqb (specifier v) 0) (getD l (partOf v) 0) x)) (w .hummed) (read .2) ∙ noted-remembers (w .bodies) v (read .0) size
 
-          sounding : getD noteds′ (partOf v) 0 ≡ notes (bodyOf (w .bodies) (pattern v (read .0)))
+          sounds : heard ≡ notes (bodyOf (w .bodies) (pattern v (read .0)))
           unfolding after
-          sounding = ap (λ (l : List ℕ). getD l (partOf v) 0) hummed-after ∙ notes-sounding (w .bodies) v (read .0) (w .four)
+          sounds =
+              let four : length noteds ≡ 4 = ap length (w .hummed) ∙ length-map (w .bodies) notesOf ∙ w .four in
+              sym (getD-set-same noteds (partOf v) heard 0 (omega arith)) ∙ ap (λ (l : List ℕ). getD l (partOf v) 0) hummed-after ∙ notes-sounding (w .bodies) v (read .0) (w .four)
 
           -- what sounds has few notes
-          pub tally-notes : getD noteds′ (partOf v) 0 ≤ 255
-          tally-notes = rw sounding (le-trans (notes-most (bodyOf (w .bodies) (pattern v (read .0)))) (body-kept (w .bodies) (w .fine) (pattern v (read .0)) body .1))
+          pub tally-notes : heard ≤ 255
+          tally-notes = rw sounds (le-trans (notes-most (bodyOf (w .bodies) (pattern v (read .0)))) (body-kept (w .bodies) (w .fine) (pattern v (read .0)) body .1))
 
-          pub tally-on : {seen′ : List Bool} {c′ : Count} → seen′ ≡ learn seen v → c′ ≡ counted c (getD noteds′ (partOf v) 0) (loopOf v) → TallyWalk m n at seen′ noteds′ (f′ .0) (left - 1) c′
+          pub tally-on : {c′ : Count} → c′ ≡ counted c heard (loopOf v) → TallyWalk m n at (set seen (partOf v) true) (set noteds (partOf v) heard) (f′ .0) (left - 1) c′
           unfolding after
-          tally-on {seen′} {c′} l k =
-              let d = c′ in
-              let k′ : c′ ≡ counted c (notes (bodyOf (w .bodies) (pattern v (read .0)))) (loopOf v) = k ∙ ap (λ (x : ℕ). counted c x (loopOf v)) sounding in
-              let most : c′ .entries ≤ c .entries + 3825 = rw k (counted-most c (getD noteds′ (partOf v) 0) (loopOf v) tally-notes (omega arith)) in
+          tally-on {c′} k =
+              let l : set seen (partOf v) true ≡ learn seen v = sym (learn-set seen v (header-exact seen .sound (bitsOf m) p (rw (length-bitsOf m) (w .inside)) header-there .good .recall)) in
+              let k′ : c′ ≡ counted c (notes (bodyOf (w .bodies) (pattern v (read .0)))) (loopOf v) = k ∙ ap (λ (x : ℕ). counted c x (loopOf v)) sounds in
+              let most : c′ .entries ≤ c .entries + 3825 = rw k (counted-most c heard (loopOf v) tally-notes (omega arith)) in
               record {
                 inside = stays (body-exact (specifier v)) m (f .0) tally-inside (read .1);
                 fewer = omega (arith, w .fewer);
@@ -274,7 +281,7 @@ module _ {m : List ℕ} {n at : ℕ} {seen : List Bool} {noteds : List ℕ} {p l
                 bodies = after;
                 four = remember-length (w .bodies) (pattern v (read .0)) ∙ w .four;
                 fine = bodies-kept (w .bodies) (w .fine) (pattern v (read .0)) body;
-                unmarked = rw k (counted-unmarked c (getD noteds′ (partOf v) 0) (loopOf v) (w .unmarked));
+                unmarked = rw k (counted-unmarked c heard (loopOf v) (w .unmarked));
                 heard = l ∙ ap (λ (x : List Bool). learn x v) (w .heard) ∙ learn-read (w .bodies) v (read .0) size;
                 hummed = hummed-after;
                 goes = w .goes ∙ ap (λ (x : ℕ). tallyAs (resumed c (w .bodies)) (patternsDue x seen (bitsOf m) p)) one-less

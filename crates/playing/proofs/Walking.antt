@@ -1,5 +1,5 @@
 -- The list is filled, one instruction, one pass and one pattern at a time.
-use Prim.Native.Nat.{ℕ, suc, _+_, _-_, _*_, _≤_, _<_}
+use Prim.Native.Nat.{ℕ, suc, _+_, _-_, _*_, _/_, _^_, _≤_, _<_}
 use native.Mathlib.Omega.{arith}
 use native.Mathlib.Nat.{add-zero, mul-suc}
 use native.Mathlib.Numerals.{add-one}
@@ -10,11 +10,13 @@ use lib.ListN.{length, set, drop, length-append, length-set}
 use lib.Seq.{sets, length-sets}
 use lib.Dec.{eqb, leb}
 use borrow.Author.Tests.{eq-eqb, ne-eqb, leb-true}
+use mir.Val.{Fits}
+use mir.Syntax.{w32}
 use Rattle.bits.specs.Bits.{bitsOf}
 use Rattle.bits.specs.declared.BitPlace.{BitPlace}
 use Rattle.bits.proofs.Choice.{pick-elim}
 use Rattle.bits.proofs.Octets.{length-bitsOf}
-use Rattle.tone.specs.Table.{kind, payload, allowed, noteOf, durationOf, Instruction}
+use Rattle.tone.specs.Table.{kind, payload, allowed, noteOf, durationOf, specifierOf, Instruction}
 use Rattle.tone.specs.Reading.{Got, got, bad, onward, instructionDue, bodyDue}
 use Rattle.tone.specs.Writing.{entryBits}
 use Rattle.tone.proofs.Exact.{Accepted}
@@ -23,21 +25,28 @@ use Rattle.reading.specs.Answers.{noteIn, notes, EntryAt, SomeEntry, Passed}
 use Rattle.playing.specs.declared.Settings.{Settings}
 use Rattle.playing.specs.declared.Entry.{Entry}
 use Rattle.playing.specs.declared.Walk.{Walk}
-use Rattle.playing.specs.Duration.{beats}
+use Rattle.playing.specs.Duration.{beats, units}
 use Rattle.playing.specs.Sounding.{atStart, applied, sounded, packed, numbers}
-use Rattle.playing.specs.Ranges.{InRange, Bounded}
+use Rattle.playing.specs.Ranges.{InRange}
 use Rattle.playing.specs.Playing.{Played, ahead, step, pass, passes}
-use Rattle.playing.specs.Filling.{BodyAt, Ready, Advanced}
+use Rattle.playing.specs.Filling.{BodyAt, paceOf, baseOf, Ready, Advanced}
 use Rattle.playing.proofs.Below.{both}
 use Rattle.playing.proofs.Packing.{length-numbers, numbers-append}
 use Rattle.playing.proofs.Counts.{pass-count, passes-count}
-use Rattle.playing.proofs.Bounds.{range-start, range-applied, sounded-bounded}
+use Rattle.playing.proofs.Bounds.{range-start, range-applied}
+use Rattle.playing.proofs.Durations.{slowest, fastest, units-most, pace-most, pace-exact}
 
 -- ---- the start
 
-pub start-ready : {s : Settings} (p : BitPlace) → s ≡ atStart → Ready (record { settings = s; beats = 63; at = p; cells = 0 })
-unfolding beats
-start-ready p e = rw e (record { range = range-start; tuned = refl })
+pub start-ready : {s : Settings} {b k : ℕ} (p : BitPlace) → s ≡ atStart → b ≡ baseOf s → (k ≡ paceOf (beats (s .tempo))) × (k ≤ 26214400001)
+    → Ready (record { settings = s; base = b; pace = k; at = p; cells = 0 })
+start-ready p e f g = record { range = rw e range-start; based = f; tuned = g .0 }
+
+pub start-range : {s : Settings} → s ≡ atStart → InRange s
+start-range e = rw e range-start
+
+pub start-tempo : {s : Settings} → s ≡ atStart → s .tempo ≤ 31
+start-tempo e = start-range e .tempo
 
 -- ---- one instruction
 
@@ -54,14 +63,28 @@ applied-tempo s e h =
     pick-elim (λ (r : Settings). r .tempo ≡ s .tempo) (eqb (kind e) 3) (λ _. refl) (λ _. rw (ne-eqb (kind e) 4 h) (
     pick-elim (λ (r : Settings). r .tempo ≡ s .tempo) (eqb (kind e) 5) (λ _. refl) (λ _. refl))))
 
+-- a tempo changes nothing else
+applied-base : (s : Settings) (e : ℕ) → kind e ≡ 4 → baseOf (applied s e) ≡ baseOf s
+unfolding applied
+applied-base s e h = rw h
+
 module _ {w : Walk} {e : ℕ} (ready : Ready w) (i : Instruction e) where
-  module _ (note : kind e ≡ 1) where
+  module _ (h : e < 131072) where
+    note : kind e ≡ 1
+    note = omega (arith, i .some)
+
     pub step-duration : durationOf (payload e) ≤ 5
     unfolding allowed
     step-duration = leb-true (durationOf (payload e)) 5 (both (leb (noteOf (payload e)) 12) (leb (durationOf (payload e)) 5) (rw note at (i .inTable .code)) .1)
 
-    pub step-bounded : {r : Entry} → r ≡ sounded (w .settings) (payload e) → Bounded r
-    step-bounded q = rw q (sounded-bounded (w .settings) e (ready .range) i note)
+    pub step-fits : Fits w32 (noteOf (payload e) * 1024 + w .base)
+    step-fits = record { fits = omega (arith, ready .based, ready .range .scale, ready .range .style, ready .range .volume) }
+
+    pub step-units : {u : ℕ} → u ≡ units (durationOf (payload e)) (specifierOf (payload e)) → u ≤ 672
+    step-units q = rw q (units-most (durationOf (payload e)) (specifierOf (payload e)))
+
+    pub step-pace : w .pace ≤ 26214400001
+    step-pace = rw (ready .tuned) (pace-most (beats (w .settings .tempo)) (slowest (w .settings .tempo) (omega (arith, ready .range .tempo))))
 
     one-note : noteIn e ≡ 1
     one-note = rw (eq-eqb (kind e) 1 note)
@@ -73,41 +96,54 @@ module _ {w : Walk} {e : ℕ} (ready : Ready w) (i : Instruction e) where
       pub step-second : (v : ℕ) → w .cells + 1 < length (set old (w .cells) v)
       step-second v = rw (length-set old (w .cells) v) (omega (arith, one-note))
 
-      pub step-note : {r : Entry} {x : ℕ} (q : BitPlace) → r ≡ sounded (w .settings) (payload e) → x ≡ packed r
-          → Advanced (w .cells) (step (w .settings) e) (q .0) old (set (set old (w .cells) x) (w .cells + 1) (r .microseconds)) (record { settings = w .settings; beats = w .beats; at = q; cells = w .cells + 2 })
-      unfolding step
-      step-note {r} {x} q a b = record {
-        settings = sym (applied-note (w .settings) e note);
-        ready = record { range = ready .range; tuned = ready .tuned };
-        place = refl;
-        cells = rw (eq-eqb (kind e) 1 note) refl;
-        list = rw (eq-eqb (kind e) 1 note, ← a, ← b, add-one (w .cells)) refl;
-      }
+      pub step-note : {u x : ℕ} (q : BitPlace) → u ≡ units (durationOf (payload e)) (specifierOf (payload e)) → x ≡ u * w .pace / 2 ^ 20
+          → Advanced (w .cells) (step (w .settings) e) (q .0) old (set (set old (w .cells) (noteOf (payload e) * 1024 + w .base)) (w .cells + 1) x)
+          (record { settings = w .settings; base = w .base; pace = w .pace; at = q; cells = w .cells + 2 })
+      unfolding step sounded
+      step-note {u} {x} q a b =
+          let t = w .settings .tempo in
+          let l : t < 32 = omega (arith, ready .range .tempo) in
+          let first : noteOf (payload e) * 1024 + w .base ≡ packed (sounded (w .settings) (payload e)) = omega (arith, ready .based) in
+          let second : x ≡ sounded (w .settings) (payload e) .microseconds =
+          b ∙ ap₂ (λ (y z : ℕ). y * z / 2 ^ 20) a (ready .tuned) ∙ pace-exact (units (durationOf (payload e)) (specifierOf (payload e))) (beats t) (units-most (durationOf (payload e)) (specifierOf (payload e))) (slowest t l) (fastest t l) in
+          record {
+            settings = sym (applied-note (w .settings) e note);
+            ready = record { range = ready .range; based = ready .based; tuned = ready .tuned };
+            place = refl;
+            cells = rw (eq-eqb (kind e) 1 note) refl;
+            list = rw (eq-eqb (kind e) 1 note, first, second, add-one (w .cells)) refl;
+          }
 
-  module _ (other : kind e ≡ 1 → ⊥) {s : Settings} (after : s ≡ applied (w .settings) e) (old : List ℕ) (q : BitPlace) where
-    in-range : InRange s
-    in-range = rw after (range-applied (w .settings) e (ready .range) i)
+  module _ (h : 131072 ≤ e) {s : Settings} (after : s ≡ applied (w .settings) e) where
+    other : kind e ≡ 1 → ⊥
+    other z = omega arith
+
+    pub step-range : InRange s
+    step-range = rw after (range-applied (w .settings) e (ready .range) i)
 
     pub step-slow : s .tempo ≤ 31
-    step-slow = in-range .tempo
+    step-slow = step-range .tempo
 
-    moved : {b : ℕ} → b ≡ beats (s .tempo) → Advanced (w .cells) (step (w .settings) e) (q .0) old old (record { settings = s; beats = b; at = q; cells = w .cells })
-    unfolding step
-    moved f = record {
-      settings = after;
-      ready = record { range = in-range; tuned = f };
-      place = refl;
-      cells = rw (ne-eqb (kind e) 1 other) (sym (add-zero (w .cells)));
-      list = rw (ne-eqb (kind e) 1 other) refl;
-    }
+    module _ (old : List ℕ) (q : BitPlace) where
+      moved : {b k : ℕ} → b ≡ baseOf s → k ≡ paceOf (beats (s .tempo)) → Advanced (w .cells) (step (w .settings) e) (q .0) old old (record { settings = s; base = b; pace = k; at = q; cells = w .cells })
+      unfolding step
+      moved f g = record {
+        settings = after;
+        ready = record { range = step-range; based = f; tuned = g };
+        place = refl;
+        cells = rw (ne-eqb (kind e) 1 other) (sym (add-zero (w .cells)));
+        list = rw (ne-eqb (kind e) 1 other) refl;
+      }
 
-    pub step-tempo : {b : ℕ} → b ≡ beats (s .tempo) → Advanced (w .cells) (step (w .settings) e) (q .0) old old (record { settings = s; beats = b; at = q; cells = w .cells })
-    step-tempo f = moved f
+      pub step-tempo : {k : ℕ} → kind e ≡ 4 → (k ≡ paceOf (beats (s .tempo))) × (k ≤ 26214400001)
+          → Advanced (w .cells) (step (w .settings) e) (q .0) old old (record { settings = s; base = w .base; pace = k; at = q; cells = w .cells })
+      step-tempo z g = moved (ready .based ∙ sym (ap baseOf after ∙ applied-base (w .settings) e z)) (g .0)
 
-    pub step-other : (kind e ≡ 4 → ⊥) → Advanced (w .cells) (step (w .settings) e) (q .0) old old (record { settings = s; beats = w .beats; at = q; cells = w .cells })
-    step-other h = moved (ready .tuned ∙ ap beats (sym (ap (λ (r : Settings). r .tempo) after ∙ applied-tempo (w .settings) e h)))
+      pub step-other : {b : ℕ} → (kind e ≡ 4 → ⊥) → b ≡ baseOf s
+          → Advanced (w .cells) (step (w .settings) e) (q .0) old old (record { settings = s; base = b; pace = w .pace; at = q; cells = w .cells })
+      step-other z f = moved f (ready .tuned ∙ ap (λ (t : ℕ). paceOf (beats t)) (sym (ap (λ (r : Settings). r .tempo) after ∙ applied-tempo (w .settings) e z)))
 
-pub ruleset steps = (step-duration, step-bounded, step-first, step-second, step-note, step-slow, step-tempo, step-other)
+pub ruleset steps = (step-duration, step-fits, step-units, step-pace, step-first, step-second, step-note, step-range, step-slow, step-tempo, step-other)
 
 -- ---- one thing after another
 
@@ -193,9 +229,9 @@ pub record PassWalk (m : List ℕ) (s : Settings) (b : List ℕ) (i q : ℕ) (ol
   pub room : i + 2 * notes b ≤ length old
 
 pub pass-begins : {m : List ℕ} {b : List ℕ} {q n : ℕ} {old : List ℕ} (w : Walk) (from : BitPlace) → Ready w → BodyAt m (from .0) n b q → w .cells + 2 * notes b ≤ length old
-    → PassWalk m (w .settings) b (w .cells) q old old (record { settings = w .settings; beats = w .beats; at = from; cells = w .cells }) n
+    → PassWalk m (w .settings) b (w .cells) q old old (record { settings = w .settings; base = w .base; pace = w .pace; at = from; cells = w .cells }) n
 pass-begins {b = b} {old = old} w from r h k =
-    let ready : Ready (record { settings = w .settings; beats = w .beats; at = from; cells = w .cells }) = record { range = r .range; tuned = r .tuned } in
+    let ready : Ready (record { settings = w .settings; base = w .base; pace = w .pace; at = from; cells = w .cells }) = record { range = r .range; based = r .based; tuned = r .tuned } in
     record { done = record { entries = []; after = w .settings }; others = b; stands = h; advanced = nothing-yet _ old ready; goes = refl; room = k }
 
 module _ {m : List ℕ} {s : Settings} {b : List ℕ} {i q : ℕ} {old new : List ℕ} {w : Walk} {left : ℕ} (v : PassWalk m s b i q old new w left) where

@@ -2,11 +2,11 @@
 use Prim.Native.Nat.{ℕ, _+_, _*_}
 use mathlib.Core.Bool.{true, false}
 use mathlib.Core.List.{List}
-use lib.ListN.{length, set}
+use lib.ListN.{length}
 use lib.Dec.{eqb}
 use Rattle.bits.specs.Choice.{pick}
 use Rattle.bits.specs.Outcome.{Outcome, accepted, refused}
-use Rattle.tone.specs.Tone.{Pattern, Tone, frontOf, specifier, partOf}
+use Rattle.tone.specs.Tone.{Pattern, Tone, frontOf}
 use Rattle.tone.specs.Writing.{frontBits}
 use Rattle.tone.specs.Reading.{Got, got, bad}
 use Rattle.reading.specs.Answers.{place}
@@ -40,10 +40,6 @@ counted c k loop =
     (pick (eqb loop 15)
     (record { entries = c .entries + k * passesOf loop; mark = markOf (c .entries) k; ended = true })
     (record { entries = c .entries + k * passesOf loop; mark = c .mark; ended = false }))
-
--- the notes of the four bodies after a header and so many notes of its own
-abbrev pub noted : List ℕ → ℕ → ℕ → List ℕ
-noted notes h own = pick (eqb (specifier h) 0) notes (set notes (partOf h) own)
 
 -- ---- answers
 

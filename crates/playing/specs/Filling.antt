@@ -1,18 +1,19 @@
 -- What filling a list is handed, and what it leaves.
-use Prim.Native.Nat.{ℕ, _+_, _*_, _≤_}
+use Prim.Native.Nat.{ℕ, _+_, _*_, _/_, _≤_}
 use mathlib.Core.Path.{_≡_}
 use mathlib.Core.List.{List, []}
-use lib.ListN.{length, set}
+use lib.ListN.{length}
 use lib.Seq.{sets}
 use lib.Dec.{eqb}
 use Rattle.bits.specs.Choice.{pick}
 use Rattle.bits.specs.Bits.{bitsOf}
 use Rattle.bits.specs.declared.BitPlace.{BitPlace}
-use Rattle.tone.specs.Tone.{Pattern, specifier, partOf, noneKnown}
+use Rattle.tone.specs.Tone.{Pattern, specifier, noneKnown}
 use Rattle.tone.specs.Reading.{Got, got, bad, bodyDue, patternsDue}
 use Rattle.reading.specs.Answers.{Within}
 use Rattle.playing.specs.declared.Part.{Part}
 use Rattle.playing.specs.declared.Part.the-variants.{Known}
+use Rattle.playing.specs.declared.Settings.{Settings}
 use Rattle.playing.specs.declared.Walk.{Walk}
 use Rattle.playing.specs.Duration.{beats}
 use Rattle.playing.specs.Sounding.{numbers}
@@ -58,9 +59,9 @@ pub record PatternsAt (m : List ℕ) (at n : ℕ) (ps : List Pattern) (q : ℕ) 
   pub within : Within m at
   pub reads : patternsDue n noneKnown (bitsOf m) at ≡ got ps q
 
--- the four parts after a header, whose own instructions stand at next: a definition replaces the part of its id
-abbrev pub partsAfter : List Part → ℕ → BitPlace → List Part
-partsAfter parts h next = pick (eqb (specifier h) 0) parts (set parts (partOf h) (Known next (specifier h)))
+-- the part that a header sounds, whose own instructions stand at next: a definition replaces the part of its id
+abbrev pub partAfter : Part → ℕ → BitPlace → Part
+partAfter part h next = pick (eqb (specifier h) 0) part (Known next (specifier h))
 
 -- where the next header stands: a recall has no instructions of its own
 abbrev pub behindPattern : ℕ → BitPlace → BitPlace → BitPlace
@@ -68,10 +69,19 @@ behindPattern h next reached = pick (eqb (specifier h) 0) next reached
 
 -- ---- how far filling has come
 
--- the settings are in range, and the beats are those of the tempo
+-- how long a unit sounds at so many beats, in parts of a microsecond of which 2 ^ 20 make one, rounded up
+abbrev pub paceOf : ℕ → ℕ
+paceOf b = 655360000000 / b + 1
+
+-- what the settings put in an entry's first number
+abbrev pub baseOf : Settings → ℕ
+baseOf s = s .scale * 256 + s .style * 16 + s .volume
+
+-- the settings are in range, and base and pace are theirs
 pub record Ready (w : Walk) : Type 0 where
   pub range : InRange (w .settings)
-  pub tuned : w .beats ≡ beats (w .settings .tempo)
+  pub based : w .base ≡ baseOf (w .settings)
+  pub tuned : w .pace ≡ paceOf (beats (w .settings .tempo))
 
 -- behind the first i cells d was played: its entries are written, and the next place is q
 pub record Advanced (i : ℕ) (d : Played) (q : ℕ) (old new : List ℕ) (r : Walk) : Type 0 where

@@ -1,20 +1,22 @@
 ghost use mathlib.Core.Path.{_≡_};
 ghost use mathlib.Core.List.{_++_};
-ghost use Prim.Native.Nat.{_+_, _*_, _≤_, _<_};
+ghost use Prim.Native.Nat.{_+_, _*_, _/_, _^_, _≤_, _<_};
 ghost use lib.ListN.{length, drop};
 ghost use Rattle.bits.specs.Bits.{bitsOf};
 ghost use Rattle.bits.specs.Lent.{over};
-ghost use Rattle.tone.specs.Table.{durationOf, Instruction};
-ghost use Rattle.tone.specs.Tone.{noneKnown};
+ghost use lib.Dec.{eqb};
+ghost use Rattle.bits.specs.Choice.{pick};
+ghost use Rattle.tone.specs.Table.{Instruction};
+ghost use Rattle.tone.specs.Tone.{specifier, noneKnown};
 ghost use Rattle.tone.specs.Reading.{patternsDue, rest as restDue, readTone};
 ghost use Rattle.reading.specs.Answers.{Within, noteIn, notes as notesOf};
-ghost use Rattle.playing.specs.Duration.{beats as beatsOf, units as unitsOf, microseconds as microsecondsOf};
-ghost use Rattle.playing.specs.Sounding.{atStart, applied as appliedTo, sounded as soundedBy, packed as packedOf, unpacked, numbers, entryAt, entriesOf};
-ghost use Rattle.playing.specs.Ranges.{InRange, Bounded};
+ghost use Rattle.playing.specs.Duration.{beats as beatsOf, units as unitsOf};
+ghost use Rattle.playing.specs.Sounding.{atStart, applied as appliedTo, unpacked, numbers, entryAt, entriesOf};
+ghost use Rattle.playing.specs.Ranges.{InRange};
 ghost use Rattle.playing.specs.Playing.{step, pass, passes, passesOf, noBodies, play};
 ghost use Rattle.playing.specs.Counting.{entryCount, markOf};
-ghost use Rattle.playing.specs.Filling.{bodyIn, behindIn, BodyAt, patternsIn, endIn, PatternsAt, partsAfter, behindPattern, Ready, Advanced};
-ghost use Rattle.playing.specs.Answers.{totalFrom, noCount, counted as countedOf, noted as notedOf, tallyAs, verdictOf};
+ghost use Rattle.playing.specs.Filling.{bodyIn, behindIn, BodyAt, patternsIn, endIn, PatternsAt, partAfter, behindPattern, paceOf, baseOf, Ready, Advanced};
+ghost use Rattle.playing.specs.Answers.{totalFrom, noCount, counted as countedOf, tallyAs, verdictOf};
 ghost use Rattle.playing.specs.Listing.{fitsNumbers, fitsBoth};
 ghost use Rattle.playing.specs.Promise.{entriesIn, ListPromise, RowsPromise};
 use bits::BitPlace;
@@ -87,10 +89,12 @@ pub enum Part {
     Known { at: BitPlace, count: u32 },
 }
 
-// How far filling has come: the settings, the beats of their tempo, the place in the message, and the cells filled.
+// How far filling has come: the settings, what they put in an entry's first number, the pace of their tempo, the place in
+// the message, and the cells filled.
 pub struct Walk {
     pub settings: Settings,
-    pub beats: u32,
+    pub base: u32,
+    pub pace: u64,
     pub at: BitPlace,
     pub cells: usize,
 }
@@ -179,54 +183,39 @@ fn beats(tempo: u32) -> u32
     BEATS[tempo as usize]
 }
 
-// The units of a note: a full one has 384, each duration code halves them, and the specifier stretches them.
+// The units of a note: a full one has 384, or 576 dotted, 672 double dotted, 256 with the last specifier, sixteen bits of
+// one number for each. Each duration code halves them.
 fn units(duration: u32, specifier: u32) -> u32
-    requires { ⌜ duration ≤ 5 ⌝ }
+    requires { ⌜ (duration ≤ 5) × (specifier ≤ 3) ⌝ }
     ensures { λ r. ⌜ r ≡ unitsOf duration specifier ⌝ }
 {
-    let plain = 384u32 >> duration;
-    if specifier == 1 {
-        return plain * 3 / 2;
-    }
-    if specifier == 2 {
-        return plain * 7 / 4;
-    }
-    if specifier == 3 {
-        return plain * 2 / 3;
-    }
-    plain
+    let full = (0x0100_02A0_0240_0180u64 >> (16 * specifier)) % 65536;
+    full as u32 >> duration
 }
 
-// From units and beats to microseconds, rounded down.
-fn microseconds(units: u32, beats: u32) -> u32
-    requires { ⌜ (units ≤ 672) × (25 ≤ beats) ⌝ }
-    ensures { λ r. ⌜ r ≡ microsecondsOf units beats ⌝ }
+// How long a unit sounds at a tempo, in parts of a microsecond of which 2 ^ 20 make one, rounded up. With it a note takes a
+// product, where the rule has a division.
+fn pace(tempo: u32) -> u64
+    requires { ⌜ tempo ≤ 31 ⌝ }
+    ensures { λ r. ⌜ (r ≡ paceOf (beatsOf tempo)) × (r ≤ 26214400001) ⌝ }
 {
-    units * 625000 / beats
+    655360000000 / beats(tempo) as u64 + 1
 }
 
-// The entry that a note or pause adds, from its payload. The caller keeps the beats of the tempo at hand.
-fn sounded(s: Settings, beats: u32, payload: u32) -> Entry
+// From units and the pace of a tempo to microseconds, rounded down.
+fn microseconds(units: u32, pace: u64) -> u32
+    requires { ⌜ (units ≤ 672) × (pace ≤ 26214400001) ⌝ }
+    ensures { λ r. ⌜ r ≡ units * pace / 2 ^ 20 ⌝ }
+{
+    ((units as u64 * pace) >> 20) as u32
+}
+
+// What the settings put in an entry's first number.
+fn base(s: Settings) -> u32
     requires { ⌜ InRange s ⌝ }
-    requires { ⌜ (beats ≡ beatsOf (s .tempo)) × (durationOf payload ≤ 5) ⌝ }
-    ensures { λ r. ⌜ r ≡ soundedBy s payload ⌝ }
+    ensures { λ r. ⌜ r ≡ baseOf s ⌝ }
 {
-    let units = units(payload / 4 % 8, payload % 4);
-    Entry {
-        note: payload / 32,
-        scale: s.scale,
-        style: s.style,
-        volume: s.volume,
-        microseconds: microseconds(units, beats),
-    }
-}
-
-// An entry's first number.
-fn packed(r: Entry) -> u32
-    requires { ⌜ Bounded r ⌝ }
-    ensures { λ n. ⌜ n ≡ packedOf r ⌝ }
-{
-    r.note * 1024 + r.scale * 256 + r.style * 16 + r.volume
+    s.scale * 256 + s.style * 16 + s.volume
 }
 
 // An entry from its two numbers.
@@ -319,16 +308,11 @@ impl Count {
     }
 }
 
-// The notes of the four bodies after a header and so many notes of its own.
-fn noted(notes: [u32; 4], header: u32, own: u32) -> [u32; 4]
-    ensures { λ r. ⌜ r ≡ notedOf notes header own ⌝ }
+// The notes of the body that a header sounds: its own, or those of the part recalled.
+fn sounding(recalled: u32, header: u32, own: u32) -> u32
+    ensures { λ r. ⌜ r ≡ pick (eqb (specifier header) 0) recalled own ⌝ }
 {
-    if header % 256 == 0 {
-        return notes;
-    }
-    let mut after = notes;
-    after[(header / 4096 % 4) as usize] = own;
-    after
+    if header % 256 == 0 { recalled } else { own }
 }
 
 // Judges `n` patterns and counts the entries of their list.
@@ -355,12 +339,11 @@ fn patterns(msg: &[u8], at: BitPlace, n: u32) -> Tally
                     value: own,
                     next: behind,
                 } => {
-                    let learned = reading::learned(known, value);
-                    known = learned;
-                    let after = noted(notes, value, own);
-                    notes = after;
-                    let sounding = after[(value / 4096 % 4) as usize];
-                    count = count.with(sounding, value / 256 % 16);
+                    let id = (value / 4096 % 4) as usize;
+                    known[id] = true;
+                    let heard = sounding(notes[id], value, own);
+                    notes[id] = heard;
+                    count = count.with(heard, value / 256 % 16);
                     place = behind;
                     left -= 1;
                 }
@@ -449,7 +432,8 @@ impl Walk {
         let settings = Settings::at_start();
         Walk {
             settings,
-            beats: 63,
+            base: base(settings),
+            pace: pace(settings.tempo),
             at,
             cells: 0,
         }
@@ -461,32 +445,35 @@ impl Walk {
         requires { ⌜ Instruction cell × (self .cells + 2 * noteIn cell ≤ length (now list)) ⌝ }
         ensures { λ r. ⌜ Advanced (self .cells) (step (self .settings) cell) (next .0) (now (list .entry)) (now (list .exit)) r ⌝ }
     {
-        let kind = cell / 65536;
         let settings = self.settings;
         let cells = self.cells;
-        if kind == 1 {
-            let r = sounded(settings, self.beats, cell % 65536);
-            list[cells] = packed(r);
-            list[cells + 1] = r.microseconds;
+        if cell < 131072 {
+            let payload = cell % 65536;
+            let units = units(payload / 4 % 8, payload % 4);
+            list[cells] = payload / 32 * 1024 + self.base;
+            list[cells + 1] = microseconds(units, self.pace);
             return Walk {
                 settings,
-                beats: self.beats,
+                base: self.base,
+                pace: self.pace,
                 at: next,
                 cells: cells + 2,
             };
         }
         let after = settings.applied(cell);
-        if kind == 4 {
+        if cell / 65536 == 4 {
             return Walk {
                 settings: after,
-                beats: beats(after.tempo),
+                base: self.base,
+                pace: pace(after.tempo),
                 at: next,
                 cells,
             };
         }
         Walk {
             settings: after,
-            beats: self.beats,
+            base: base(after),
+            pace: self.pace,
             at: next,
             cells,
         }
@@ -503,7 +490,8 @@ fn fill_pass(msg: &[u8], from: BitPlace, n: u32, list: &mut [u32], w: Walk) -> W
     let settings = w.settings;
     let mut walk = Walk {
         settings,
-        beats: w.beats,
+        base: w.base,
+        pace: w.pace,
         at: from,
         cells: w.cells,
     };
@@ -533,19 +521,17 @@ fn fill_passes(msg: &[u8], from: BitPlace, n: u32, times: u32, list: &mut [u32],
     walk
 }
 
-// The four parts after a header, whose own instructions stand at `next`: a definition replaces the part of its id.
-fn parts_after(parts: [Part; 4], header: u32, next: BitPlace) -> [Part; 4]
-    ensures { λ r. ⌜ r ≡ partsAfter parts header next ⌝ }
+// The part that a header sounds, whose own instructions stand at `next`: a definition replaces the part of its id.
+fn part_after(part: Part, header: u32, next: BitPlace) -> Part
+    ensures { λ r. ⌜ r ≡ partAfter part header next ⌝ }
 {
     if header % 256 == 0 {
-        return parts;
+        return part;
     }
-    let mut after = parts;
-    after[(header / 4096 % 4) as usize] = Part::Known {
+    Part::Known {
         at: next,
         count: header % 256,
-    };
-    after
+    }
 }
 
 // Where the next header stands: a recall has no instructions of its own.
@@ -568,9 +554,9 @@ fn fill_list(msg: &[u8], at: BitPlace, n: u32, list: &mut [u32])
     while 0 < left {
         let head = reading::entry_at(msg, place);
         let header = head.cell;
-        let after = parts_after(parts, header, head.next);
-        parts = after;
-        let part = after[(header / 4096 % 4) as usize];
+        let id = (header / 4096 % 4) as usize;
+        let part = part_after(parts[id], header, head.next);
+        parts[id] = part;
         let value = header / 256 % 16;
         match part {
             Part::Unknown => {

@@ -20,17 +20,23 @@ loop-holds c = let p = c .before .before .before .pre in list-begins (p .0) (p .
 entry-at-requires : tie.Need-entry-at-requires Inv-loop μ-loop
 entry-at-requires c κs = search (listings, needs)
 
-parts-after-requires : tie.Need-parts-after-requires Inv-loop μ-loop
-parts-after-requires c κs = search (listings, needs)
+cast-id : tie.Need-cast-id Inv-loop μ-loop
+cast-id c = search (listings, needs)
 
-cast-part : tie.Need-cast-part Inv-loop μ-loop
-cast-part c = search (listings, needs)
+mul-part-after : tie.Need-mul-part-after Inv-loop μ-loop
+mul-part-after c = search (listings, needs)
 
-mul-part : tie.Need-mul-part Inv-loop μ-loop
-mul-part c = search (listings, needs)
+array-copy-out-part-after : tie.Need-array-copy-out-part-after Inv-loop μ-loop
+array-copy-out-part-after c = search (listings, needs)
 
-array-copy-out-part : tie.Need-array-copy-out-part Inv-loop μ-loop
-array-copy-out-part c = search (listings, needs)
+part-after-requires : tie.Need-part-after-requires Inv-loop μ-loop
+part-after-requires c κs = search (listings, needs)
+
+mul-parts : tie.Need-mul-parts Inv-loop μ-loop
+mul-parts c = search (listings, needs)
+
+array-set-from-parts : tie.Need-array-set-from-parts Inv-loop μ-loop
+array-set-from-parts c = search (listings, needs)
 
 enum-told : tie.Need-enum-told Inv-loop μ-loop
 enum-told c = search (listings, needs)
@@ -83,10 +89,12 @@ fill-list-spec =
     start-requires
     loop-holds
     entry-at-requires
-    parts-after-requires
-    cast-part
-    mul-part
-    array-copy-out-part
+    cast-id
+    mul-part-after
+    array-copy-out-part-after
+    part-after-requires
+    mul-parts
+    array-set-from-parts
     enum-told
     same-length
     returns

@@ -2,17 +2,16 @@
 use borrow.Author.Needs.{needs}
 use Rattle.playing.proofs.microseconds.Statement.{statement}
 use Rattle.playing.proofs.microseconds.Tie as tie
-use Rattle.playing.specs.Duration.{microseconds}
+use Rattle.playing.proofs.Durations.{product-fits, short-fits}
 
 mul-result : tie.Need-mul-result
-mul-result c = search needs
+mul-result c = search (product-fits, short-fits, needs)
 
-div-result : tie.Need-div-result
-div-result c = search needs
+cast-result : tie.Need-cast-result
+cast-result c = search (product-fits, short-fits, needs)
 
 returns : tie.Need-returns
-unfolding microseconds
 returns c = search needs
 
 pub microseconds-spec : {M : Type 1} → statement M
-microseconds-spec = tie.close (tie.spec mul-result div-result returns)
+microseconds-spec = tie.close (tie.spec mul-result cast-result returns)

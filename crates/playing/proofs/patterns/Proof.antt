@@ -40,20 +40,26 @@ returns-2 c = search (tallies, needs)
 enum-known-own : tie.Need-enum-known-own Inv-loop μ-loop
 enum-known-own c = search (tallies, needs)
 
-learned-requires : tie.Need-learned-requires Inv-loop μ-loop
-learned-requires c κs = search (tallies, needs)
+cast-id : tie.Need-cast-id Inv-loop μ-loop
+cast-id c = search (tallies, needs)
 
-noted-requires : tie.Need-noted-requires Inv-loop μ-loop
-noted-requires c κs = search (tallies, needs)
-
-cast-sounding : tie.Need-cast-sounding Inv-loop μ-loop
-cast-sounding c = search (tallies, needs)
+array-write-known : tie.Need-array-write-known Inv-loop μ-loop
+array-write-known c = search (tallies, needs)
 
 mul-sounding : tie.Need-mul-sounding Inv-loop μ-loop
 mul-sounding c = search (tallies, needs)
 
 array-read-sounding : tie.Need-array-read-sounding Inv-loop μ-loop
 array-read-sounding c = search (tallies, needs)
+
+sounding-requires : tie.Need-sounding-requires Inv-loop μ-loop
+sounding-requires c κs = search (tallies, needs)
+
+mul-notes : tie.Need-mul-notes Inv-loop μ-loop
+mul-notes c = search (tallies, needs)
+
+array-write-notes : tie.Need-array-write-notes Inv-loop μ-loop
+array-write-notes c = search (tallies, needs)
 
 with-requires : tie.Need-with-requires Inv-loop μ-loop
 with-requires c κs = search (tallies, needs)
@@ -86,11 +92,13 @@ patterns-spec =
     enum-known-number-2
     returns-2
     enum-known-own
-    learned-requires
-    noted-requires
-    cast-sounding
+    cast-id
+    array-write-known
     mul-sounding
     array-read-sounding
+    sounding-requires
+    mul-notes
+    array-write-notes
     with-requires
     sub-left
     loop-less

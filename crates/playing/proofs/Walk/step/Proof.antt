@@ -2,19 +2,13 @@
 use borrow.Author.Needs.{needs}
 use Rattle.playing.proofs.Walk.step.Statement.{statement}
 use Rattle.playing.proofs.Walk.step.Tie as tie
-use Rattle.playing.proofs.Walking.{steps}
+use Rattle.playing.proofs.Walking.{step-first, steps}
 
-sounded-requires : tie.Need-sounded-requires
-sounded-requires c κs = search (steps, needs)
-
-packed-requires : tie.Need-packed-requires
-packed-requires c κs = search (steps, needs)
+units-requires : tie.Need-units-requires
+units-requires c κs = search (steps, needs)
 
 mul-list : tie.Need-mul-list
 mul-list c = search needs
-
-slice-write-list : tie.Need-slice-write-list
-slice-write-list c = search (steps, needs)
 
 add-list : tie.Need-add-list
 add-list c = search needs
@@ -22,11 +16,25 @@ add-list c = search needs
 mul-list-2 : tie.Need-mul-list-2
 mul-list-2 c = search needs
 
+slice-write-list : tie.Need-slice-write-list
+slice-write-list c =
+    let start = c .before .before .before .before .before in
+    step-first (start .pre .0) (start .pre .1 .0) (c .before .before .if1 .taken) (start .args .list .now) (start .pre .1 .1)
+
+microseconds-requires : tie.Need-microseconds-requires
+microseconds-requires c κs = search (steps, needs)
+
+add-list-2 : tie.Need-add-list-2
+add-list-2 c = search needs
+
+mul-list-3 : tie.Need-mul-list-3
+mul-list-3 c = search needs
+
 slice-write-list-2 : tie.Need-slice-write-list-2
 slice-write-list-2 c = search (steps, needs)
 
-add-t12 : tie.Need-add-t12
-add-t12 c = search needs
+add-t14 : tie.Need-add-t14
+add-t14 c = search needs
 
 same-length : tie.Need-same-length
 same-length c = search needs
@@ -37,11 +45,14 @@ returns c = search (steps, needs)
 applied-requires : tie.Need-applied-requires
 applied-requires c κs = search needs
 
-beats-requires : tie.Need-beats-requires
-beats-requires c κs = search (steps, needs)
+pace-requires : tie.Need-pace-requires
+pace-requires c κs = search (steps, needs)
 
 returns-2 : tie.Need-returns-2
 returns-2 c = search (steps, needs)
+
+base-requires : tie.Need-base-requires
+base-requires c κs = search (steps, needs)
 
 returns-3 : tie.Need-returns-3
 returns-3 c = search (steps, needs)
@@ -50,17 +61,20 @@ pub step-spec : {M : Type 1} → statement M
 step-spec =
     tie.close
     (tie.spec
-    sounded-requires
-    packed-requires
+    units-requires
     mul-list
-    slice-write-list
     add-list
     mul-list-2
+    slice-write-list
+    microseconds-requires
+    add-list-2
+    mul-list-3
     slice-write-list-2
-    add-t12
+    add-t14
     same-length
     returns
     applied-requires
-    beats-requires
+    pace-requires
     returns-2
+    base-requires
     returns-3)
