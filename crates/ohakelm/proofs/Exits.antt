@@ -15,10 +15,10 @@ use Rattle.bits.specs.declared.OctetCount.{OctetCount}
 use Rattle.tone.specs.Tone.{perCharacter}
 use Rattle.reader.specs.declared.Reading.{Reading}
 use Rattle.reader.specs.declared.Reading.the-variants.{Read, Refused}
-use Rattle.reader.specs.Promise.{numbers as readNumbers, ReadPromise}
+use Rattle.reader.specs.Promise.{numbers as toneNumbers, ReadPromise}
 use Rattle.writing.specs.declared.Writing.{Writing}
 use Rattle.writing.specs.declared.Writing.the-variants.{Written, Refused as Unspelt}
-use Rattle.writing.specs.Promise.{numbers as writeNumbers, WritePromise}
+use Rattle.writing.specs.Promise.{numbers as writtenNumbers, WritePromise}
 use Rattle.label.specs.declared.Supplier.{Supplier}
 use Rattle.label.specs.declared.Supplier.the-variants.{Title, StandIn}
 use Rattle.label.specs.Label.{leftOctets, standsIn, labelOf}
@@ -28,7 +28,7 @@ use Rattle.playing.specs.declared.Entry.{Entry}
 use Rattle.playing.specs.declared.Listed.{Listed}
 use Rattle.playing.specs.declared.Listed.the-variants.{Made, Refused as Unlisted}
 use Rattle.playing.specs.Listing.{fitsNumbers}
-use Rattle.playing.specs.Promise.{numbersOf as listNumbers, ListPromise, RowsPromise}
+use Rattle.playing.specs.Promise.{numbersOf as listedNumbers, ListPromise, RowsPromise}
 use Rattle.editing.specs.declared.Edit.{Edit}
 use Rattle.editing.specs.declared.Answer.{Answer}
 use Rattle.editing.specs.declared.Answer.the-variants.{Edited, Refused as Unedited}
@@ -49,11 +49,11 @@ use Rattle.ohakelm.specs.Promise.{readAs, ReadExport, writtenAs, WriteEx
 module _ {m table title table′ title′ : List ℕ} {x : Reading} (p : ReadPromise m table title table′ title′ x) where
   pub tone-refused : {n : ℕ} {f : BitPlace} → x ≡ Refused n f
       → ReadExport m table title table′ title′ (record { refusal = n; place = f .0; song = 0; unicode = false; characters = 0; patterns = 0; entries = 0 })
-  tone-refused g = record { answer = ap (λ (y : Reading). readAs (readNumbers y)) (sym g) ∙ ap readAs (p .said); leavesTable = p .leavesTable; leavesTitle = p .leavesTitle }
+  tone-refused g = record { answer = ap (λ (y : Reading). readAs (toneNumbers y)) (sym g) ∙ ap readAs (p .said); leavesTable = p .leavesTable; leavesTitle = p .leavesTitle }
 
   pub tone-read : {s : ℕ} {u : Bool} {c k e : ℕ} → x ≡ Read s u c k e
       → ReadExport m table title table′ title′ (record { refusal = 0; place = 0; song = s; unicode = u; characters = c; patterns = k; entries = e })
-  tone-read g = record { answer = ap (λ (y : Reading). readAs (readNumbers y)) (sym g) ∙ ap readAs (p .said); leavesTable = p .leavesTable; leavesTitle = p .leavesTitle }
+  tone-read g = record { answer = ap (λ (y : Reading). readAs (toneNumbers y)) (sym g) ∙ ap readAs (p .said); leavesTable = p .leavesTable; leavesTitle = p .leavesTitle }
 
 pub ruleset tones = (tone-refused, tone-read)
 
@@ -61,10 +61,10 @@ pub ruleset tones = (tone-refused, tone-read)
 
 module _ {song : ℕ} {unicode : Bool} {title table out out′ : List ℕ} {x : Writing} (p : WritePromise song unicode title table out out′ x) where
   pub tone-unwritten : {n : ℕ} {f : BitPlace} → x ≡ Unspelt n f → WriteExport song unicode title table out out′ (record { refusal = n; place = f .0; octets = 0 })
-  tone-unwritten g = record { answer = ap (λ (y : Writing). writtenAs (writeNumbers y)) (sym g) ∙ ap writtenAs (p .said); leaves = p .leaves }
+  tone-unwritten g = record { answer = ap (λ (y : Writing). writtenAs (writtenNumbers y)) (sym g) ∙ ap writtenAs (p .said); leaves = p .leaves }
 
   pub tone-written : {n : OctetCount} → x ≡ Written n → WriteExport song unicode title table out out′ (record { refusal = 0; place = 0; octets = n .0 })
-  tone-written g = record { answer = ap (λ (y : Writing). writtenAs (writeNumbers y)) (sym g) ∙ ap writtenAs (p .said); leaves = p .leaves }
+  tone-written g = record { answer = ap (λ (y : Writing). writtenAs (writtenNumbers y)) (sym g) ∙ ap writtenAs (p .said); leaves = p .leaves }
 
 pub ruleset writings = (tone-unwritten, tone-written)
 
@@ -107,17 +107,17 @@ pub ruleset labels = (label-stands-in, label-of-title)
 
 -- ---- the playing list
 
-pub list-refused : {x : Listed} {n : ℕ} {f : BitPlace} → x ≡ Unlisted n f → record { refusal = n; place = f .0; entries = 0; mark = 0 } ≡ listedAs (listNumbers x)
-list-refused g = ap (λ (y : Listed). listedAs (listNumbers y)) (sym g)
+pub list-refused : {x : Listed} {n : ℕ} {f : BitPlace} → x ≡ Unlisted n f → record { refusal = n; place = f .0; entries = 0; mark = 0 } ≡ listedAs (listedNumbers x)
+list-refused g = ap (λ (y : Listed). listedAs (listedNumbers y)) (sym g)
 
-pub list-made : {x : Listed} {n k : ℕ} → x ≡ Made n k → record { refusal = 0; place = 0; entries = n; mark = k } ≡ listedAs (listNumbers x)
-list-made g = ap (λ (y : Listed). listedAs (listNumbers y)) (sym g)
+pub list-made : {x : Listed} {n k : ℕ} → x ≡ Made n k → record { refusal = 0; place = 0; entries = n; mark = k } ≡ listedAs (listedNumbers x)
+list-made g = ap (λ (y : Listed). listedAs (listedNumbers y)) (sym g)
 
-pub list-told : {m list list′ : List ℕ} {x : Listed} {r : ListAnswer} → ListPromise m (fitsNumbers (length list)) list list′ x → r ≡ listedAs (listNumbers x) → ListExport m list list′ r
+pub list-told : {m list list′ : List ℕ} {x : Listed} {r : ListAnswer} → ListPromise m (fitsNumbers (length list)) list list′ x → r ≡ listedAs (listedNumbers x) → ListExport m list list′ r
 list-told p e = record { answer = e ∙ ap listedAs (p .said); leaves = p .leaves }
 
 pub rows-told : {m list : List ℕ} {rows : List Entry} {list′ : List ℕ} {rows′ : List Entry} {x : Listed} {r : ListAnswer}
-    → RowsPromise m list rows list′ rows′ x → r ≡ listedAs (listNumbers x) → RowsExport m list rows list′ rows′ r
+    → RowsPromise m list rows list′ rows′ x → r ≡ listedAs (listedNumbers x) → RowsExport m list rows list′ rows′ r
 rows-told p e = record { answer = e ∙ ap listedAs (p .listed .said); leaves = p .listed .leaves; leavesRows = p .leaves }
 
 pub ruleset lists = (list-refused, list-made, list-told)

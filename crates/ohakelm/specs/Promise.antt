@@ -7,14 +7,14 @@ use lib.ListN.{length, take, drop}
 use Rattle.bits.specs.Choice.{pick}
 use Rattle.bits.specs.Outcome.{Outcome, accepted, refused}
 use Rattle.tone.specs.Tone.{Tone}
-use Rattle.reader.specs.Promise.{Numbers as ReadNumbers, numbers as readNumbers, readInto, readAnswer, tableAfter, titleAfter}
+use Rattle.reader.specs.Promise.{Numbers as ReadNumbers, readNumbers, readInto, tableAfter, titleAfter}
 use Rattle.writing.specs.Judging.{writeTone}
-use Rattle.writing.specs.Promise.{Numbers as WriteNumbers, numbers as writeNumbers, writeAnswer, octetsAfter}
+use Rattle.writing.specs.Promise.{Numbers as WriteNumbers, writeNumbers, octetsAfter}
 use Rattle.label.specs.Label.{standsIn, labelOf}
 use Rattle.playing.specs.declared.Entry.{Entry}
 use Rattle.playing.specs.Playing.{Listing}
 use Rattle.playing.specs.Listing.{listTone, fitsNumbers, fitsBoth}
-use Rattle.playing.specs.Promise.{Numbers as ListNumbers, numbersOf as listNumbers, listAnswer, cellsAfter, rowsAfter}
+use Rattle.playing.specs.Promise.{Numbers as ListNumbers, listNumbers, cellsAfter, rowsAfter}
 use Rattle.editing.specs.declared.Edit.{Edit}
 use Rattle.editing.specs.Editing.{Edited, editMessage, bufferAfter, listAfter}
 use Rattle.editing.specs.Promise.{Numbers as EditNumbers, editNumbers}
@@ -43,7 +43,7 @@ readAs n = record {
 
 -- `ohakelm_read`: every number, every cell of the table and every octet of the title
 pub record ReadExport (m table title table′ title′ : List ℕ) (r : ToneAnswer) : Type 0 where
-  pub answer : r ≡ readAs (readNumbers (readAnswer (readInto m (length title) (length table))))
+  pub answer : r ≡ readAs (readNumbers (readInto m (length title) (length table)))
   pub leavesTable : table′ ≡ tableAfter (readInto m (length title) (length table)) table
   pub leavesTitle : title′ ≡ titleAfter (readInto m (length title) (length table)) title
 
@@ -55,7 +55,7 @@ writtenAs n = record { refusal = n .refusal; place = n .place; octets = n .octet
 
 -- `ohakelm_write`: every number and every octet of the buffer
 pub record WriteExport (song : ℕ) (unicode : Bool) (title table out out′ : List ℕ) (r : WrittenAnswer) : Type 0 where
-  pub answer : r ≡ writtenAs (writeNumbers (writeAnswer (writeTone song unicode title table (length out))))
+  pub answer : r ≡ writtenAs (writeNumbers (writeTone song unicode title table (length out)))
   pub leaves : out′ ≡ octetsAfter (writeTone song unicode title table (length out)) out
 
 -- ---- the label
@@ -77,7 +77,7 @@ listInto m room = listTone m (fitsNumbers room)
 
 -- `ohakelm_list`: every number and every cell of the list
 pub record ListExport (m list list′ : List ℕ) (r : ListAnswer) : Type 0 where
-  pub answer : r ≡ listedAs (listNumbers (listAnswer (listInto m (length list))))
+  pub answer : r ≡ listedAs (listNumbers (listInto m (length list)))
   pub leaves : list′ ≡ cellsAfter (listInto m (length list)) list
 
 -- the list of a message, into so many numbers and so many rows
@@ -86,7 +86,7 @@ listBoth m room rows = listTone m (fitsBoth room rows)
 
 -- `ohakelm_rows`: every number, every cell of the list and every row
 pub record RowsExport (m list : List ℕ) (rows : List Entry) (list′ : List ℕ) (rows′ : List Entry) (r : ListAnswer) : Type 0 where
-  pub answer : r ≡ listedAs (listNumbers (listAnswer (listBoth m (length list) (length rows))))
+  pub answer : r ≡ listedAs (listNumbers (listBoth m (length list) (length rows)))
   pub leaves : list′ ≡ cellsAfter (listBoth m (length list) (length rows)) list
   pub leavesRows : rows′ ≡ rowsAfter (listBoth m (length list) (length rows)) rows
 

@@ -1,7 +1,7 @@
 ghost use mathlib.Core.Path.{_≡_};
 ghost use Prim.Native.Nat.{_+_};
 ghost use lib.ListN.{length};
-ghost use Rattle.playing.specs.Promise.{numbersOf as listNumbers};
+ghost use Rattle.playing.specs.Promise.{numbersOf as listedNumbers};
 ghost use Rattle.editing.specs.Promise.{numbersOf as editNumbers};
 ghost use Rattle.editing.specs.declared.Edit.the-variants.{Replace, Insert, Delete};
 ghost use Rattle.ohakelm.specs.Promise.{ReadExport, WriteExport, LabelExport, ListExport, RowsExport, EditExport, BitmapReadExport, BitmapWriteExport, listedAs, editedAs};
@@ -157,7 +157,7 @@ pub extern "C" fn ohakelm_label(title: &[u8], unicode: bool, stand_in: &[u8]) ->
 
 // The numbers of a list.
 fn list_answer(listed: Listed) -> ListAnswer
-    ensures { λ r. ⌜ r ≡ listedAs (listNumbers listed) ⌝ }
+    ensures { λ r. ⌜ r ≡ listedAs (listedNumbers listed) ⌝ }
 {
     match listed {
         Listed::Refused { number, place } => ListAnswer {

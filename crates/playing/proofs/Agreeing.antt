@@ -19,7 +19,7 @@ use Rattle.playing.specs.Sounding.{packed, numbers, entriesOf}
 use Rattle.playing.specs.Ranges.{Bounded, AllBounded}
 use Rattle.playing.specs.Playing.{Listing, playingList}
 use Rattle.playing.specs.Listing.{anyTooLong, listed, fitsNumbers, fitsBoth, listTone}
-use Rattle.playing.specs.Promise.{numbersOf, entriesIn, listAnswer, cellsAfter, rowsAfter, ListPromise, RowsPromise}
+use Rattle.playing.specs.Promise.{numbersOf, listNumbers, entriesIn, listAnswer, cellsAfter, rowsAfter, ListPromise, RowsPromise}
 use Rattle.playing.proofs.Below.{both}
 use Rattle.playing.proofs.Bounds.{list-bounded}
 use Rattle.playing.proofs.Packing.{length-numbers, entries-numbers}
@@ -124,9 +124,9 @@ forms-agree {m} {list} {rows} {l} {w} {n} {k} h i d s = go (listTone m (fitsBoth
 -- a refusal gives its number and its place, and 0 for the other numbers
 pub refusal-numbers : {m : List ℕ} {fits : Listing → Bool} {list l : List ℕ} {r : Listed} {n p : ℕ} → ListPromise m fits list l r → listTone m fits ≡ refused n p
     → numbersOf r ≡ record { refusal = n; place = p; entries = 0; mark = 0 }
-refusal-numbers h e = h .said ∙ ap (λ (x : Outcome Listing). numbersOf (listAnswer x)) e
+refusal-numbers h e = h .said ∙ ap listNumbers e
 
 -- a list that is made gives its entries and its mark, and no refusal
 pub made-numbers : {m : List ℕ} {fits : Listing → Bool} {list l : List ℕ} {r : Listed} {g : Listing} → ListPromise m fits list l r → listTone m fits ≡ accepted g
     → numbersOf r ≡ record { refusal = 0; place = 0; entries = length (g .entries); mark = g .mark }
-made-numbers h e = h .said ∙ ap (λ (x : Outcome Listing). numbersOf (listAnswer x)) e
+made-numbers h e = h .said ∙ ap listNumbers e

@@ -30,7 +30,7 @@ use Rattle.playing.specs.Counting.{entryCount, markFrom}
 use Rattle.playing.specs.Answers.{verdictOf}
 use Rattle.playing.specs.Filling.{patternsIn, endIn, PatternsAt}
 use Rattle.playing.specs.Listing.{anyTooLong, listed, fitsNumbers, fitsBoth, listTone}
-use Rattle.playing.specs.Promise.{numbersOf, listAnswer, cellsAfter, ListPromise}
+use Rattle.playing.specs.Promise.{numbersOf, listNumbers, listAnswer, cellsAfter, ListPromise}
 use Rattle.playing.proofs.Counts.{list-count}
 use Rattle.playing.proofs.Tallies.{list-mark}
 use Rattle.playing.proofs.Bounds.{list-most, none-too-long}
@@ -99,9 +99,14 @@ listable-there (refused n p) e = let z : _≡_ {A = ℕ} 0 1 = cc in absurd (ome
 
 -- ---- the answers
 
+-- the answer to an outcome has the outcome's numbers
+list-numbers : (x : Outcome Listing) → numbersOf (listAnswer x) ≡ listNumbers x
+list-numbers (accepted g) = refl
+list-numbers (refused n p) = refl
+
 -- an answer and cells that an outcome gives keep the promise
 promised : (m : List ℕ) (fits : Listing → Bool) (old : List ℕ) {x : Outcome Listing} → listTone m fits ≡ x → ListPromise m fits old (cellsAfter x old) (listAnswer x)
-promised m fits old e = rw (← e) (record { answer = refl; said = refl; leaves = refl })
+promised m fits old e = rw (← e) (record { answer = refl; said = list-numbers (listTone m fits); leaves = refl })
 
 module _ (m : List ℕ) (old : List ℕ) (rows : ℕ) {v : Verdict} (q : v ≡ verdictOf (readTone m)) where
   abbrev fits : Listing → Bool
@@ -184,4 +189,4 @@ enough-rows room g = go (fitsNumbers room g) refl
 pub cells-alone : (m old : List ℕ) {new : List ℕ} {r : Listed} → ListPromise m (fitsBoth (length old) (length old)) old new r → ListPromise m (fitsNumbers (length old)) old new r
 cells-alone m old h =
     let e = same-fits (fitsBoth (length old) (length old)) (fitsNumbers (length old)) (enough-rows (length old)) m in
-    record { answer = h .answer ∙ ap listAnswer e; said = h .said ∙ ap (λ (x : Outcome Listing). numbersOf (listAnswer x)) e; leaves = h .leaves ∙ ap (λ (x : Outcome Listing). cellsAfter x old) e }
+    record { answer = h .answer ∙ ap listAnswer e; said = h .said ∙ ap listNumbers e; leaves = h .leaves ∙ ap (λ (x : Outcome Listing). cellsAfter x old) e }

@@ -26,6 +26,11 @@ abbrev pub numbersOf : Listed → Numbers
 numbersOf (Made n k) = record { refusal = 0; place = 0; entries = n; mark = k }
 numbersOf (Refused n p) = record { refusal = n; place = p .0; entries = 0; mark = 0 }
 
+-- the numbers that the rules ask for
+abbrev pub listNumbers : Outcome Listing → Numbers
+listNumbers (accepted g) = record { refusal = 0; place = 0; entries = length (g .entries); mark = g .mark }
+listNumbers (refused n p) = record { refusal = n; place = p; entries = 0; mark = 0 }
+
 -- how many entries were made
 abbrev pub entriesIn : Listed → ℕ
 entriesIn r = numbersOf r .entries
@@ -48,7 +53,7 @@ rowsAfter (refused n p) old = old
 -- a list that fits: the answer, its numbers, and every cell
 pub record ListPromise (m : List ℕ) (fits : Listing → Bool) (list list′ : List ℕ) (r : Listed) : Type 0 where
   pub answer : r ≡ listAnswer (listTone m fits)
-  pub said : numbersOf r ≡ numbersOf (listAnswer (listTone m fits))
+  pub said : numbersOf r ≡ listNumbers (listTone m fits)
   pub leaves : list′ ≡ cellsAfter (listTone m fits) list
 
 -- the promise of `rows`: the same, and every row

@@ -29,7 +29,7 @@ use Rattle.reader.specs.declared.Reading.{Reading}
 use Rattle.reader.specs.declared.Reading.the-variants.{Read, Refused}
 use Rattle.reading.specs.Answers.{Within, place, entries}
 use Rattle.reader.specs.Judging.{judgedOf, Entries, TableAt, OctetsAt, tableOf, titleOf}
-use Rattle.reader.specs.Promise.{roomed, readInto, numbers, readAnswer, tableAfter, titleAfter, ReadPromise}
+use Rattle.reader.specs.Promise.{roomed, readInto, numbers, readNumbers, readAnswer, tableAfter, titleAfter, ReadPromise}
 
 -- ---- what stands where in a message that was accepted
 
@@ -144,10 +144,15 @@ sound-there m {s} {u} {o} {p} {e} {f} h = go (readTone m) refl h
         record { tone = t; told = told m t q; song = cc; unicode = cc; octets = cc; patterns = cc; entries = cc; place = ap (λ (x : BitPlace). x .0) z }
     go (refused n p′) q g = let z : _≡_ {A = ℕ} 0 1 = cc in absurd (omega arith)
 
+-- the answer to an outcome has the outcome's numbers
+read-numbers : (x : Outcome Tone) → numbers (readAnswer x) ≡ readNumbers x
+read-numbers (accepted t) = refl
+read-numbers (refused n p) = refl
+
 -- a promise from the outcome and what it leaves
 promised : (m table title table′ title′ : List ℕ) (r : Reading) (x : Outcome Tone) → readInto m (length title) (length table) ≡ x → r ≡ readAnswer x → table′ ≡ tableAfter x table → title′ ≡ titleAfter x title
     → ReadPromise m table title table′ title′ r
-promised m table title table′ title′ r x e a b c = record { answer = rw e a; said = rw e (ap numbers a); leavesTable = rw e b; leavesTitle = rw e c }
+promised m table title table′ title′ r x e a b c = record { answer = rw e a; said = rw e (ap numbers a ∙ read-numbers x); leavesTable = rw e b; leavesTitle = rw e c }
 
 module _ (m table title : List ℕ) {j : Judged} (q : j ≡ judgedOf (readTone m)) where
   pub read-faulty : {n : ℕ} {f : BitPlace} → j ≡ Faulty n f → ReadPromise m table title table title (Refused n f)

@@ -39,6 +39,19 @@ abbrev pub numbers : Reading → Numbers
 numbers (Read s u c p e) = record { refusal = 0; place = 0; song = s; unicode = u; characters = c; patterns = p; entries = e }
 numbers (Refused n p) = record { refusal = n; place = p .0; song = 0; unicode = false; characters = 0; patterns = 0; entries = 0 }
 
+-- the numbers that the rules ask for
+abbrev pub readNumbers : Outcome Tone → Numbers
+readNumbers (accepted t) = record {
+  refusal = 0;
+  place = 0;
+  song = t .song;
+  unicode = t .unicode;
+  characters = characters (t .unicode) (t .title);
+  patterns = length (t .patterns);
+  entries = entries (t .patterns);
+}
+readNumbers (refused n p) = record { refusal = n; place = p; song = 0; unicode = false; characters = 0; patterns = 0; entries = 0 }
+
 -- the answer to an outcome
 abbrev pub readAnswer : Outcome Tone → Reading
 readAnswer (accepted t) = Read (t .song) (t .unicode) (characters (t .unicode) (t .title)) (length (t .patterns)) (entries (t .patterns))
@@ -54,9 +67,9 @@ abbrev pub titleAfter : Outcome Tone → List ℕ → List ℕ
 titleAfter (accepted t) old = over (t .title) old
 titleAfter (refused n p) old = old
 
--- the promise: the answer, and every cell of the table and of the title
+-- the promise: the answer, its numbers, and every cell of the table and of the title
 pub record ReadPromise (m table title table′ title′ : List ℕ) (r : Reading) : Type 0 where
   pub answer : r ≡ readAnswer (readInto m (length title) (length table))
-  pub said : numbers r ≡ numbers (readAnswer (readInto m (length title) (length table)))
+  pub said : numbers r ≡ readNumbers (readInto m (length title) (length table))
   pub leavesTable : table′ ≡ tableAfter (readInto m (length title) (length table)) table
   pub leavesTitle : title′ ≡ titleAfter (readInto m (length title) (length table)) title

@@ -7,3 +7,4 @@ pub mod Filling
 pub mod Told
 pub mod Unique
 pub mod Demand2
+pub mod Order

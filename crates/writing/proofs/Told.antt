@@ -25,7 +25,7 @@ use Rattle.writing.specs.declared.Writing.{Writing}
 use Rattle.writing.specs.declared.Writing.the-variants.{Written, Refused}
 use Rattle.writing.specs.Judging.{songFine, titleFine, judgeTable, sized, toneOf, writeTone}
 use Rattle.writing.specs.Answers.{frontLength, atMost, judgedOf}
-use Rattle.writing.specs.Promise.{numbers, octetCount, writeAnswer, octetsAfter, WritePromise}
+use Rattle.writing.specs.Promise.{numbers, writeNumbers, octetCount, writeAnswer, octetsAfter, WritePromise}
 use Rattle.writing.proofs.GoodTables.{judged-is-good}
 use Rattle.writing.proofs.Accepting.{table-place}
 use Rattle.writing.proofs.Pieces.{plus-ten}
@@ -91,10 +91,15 @@ pub ruleset fronts = (front-basic, front-temporary)
 
 -- ---- the call
 
+-- the answer to an outcome has the outcome's numbers
+write-numbers : (x : Outcome Tone) → numbers (writeAnswer x) ≡ writeNumbers x
+write-numbers (accepted t) = refl
+write-numbers (refused n p) = refl
+
 -- a promise from the outcome and what it leaves
 promised : (song : ℕ) (u : Bool) (title table out out′ : List ℕ) (r : Writing) (x : Outcome Tone) → writeTone song u title table (length out) ≡ x → r ≡ writeAnswer x → out′ ≡ octetsAfter x out
     → WritePromise song u title table out out′ r
-promised song u title table out out′ r x e a b = record { answer = rw e a; said = rw e (ap numbers a); leaves = rw e b }
+promised song u title table out out′ r x e a b = record { answer = rw e a; said = rw e (ap numbers a ∙ write-numbers x); leaves = rw e b }
 
 module _ (song : ℕ) (u : Bool) (title table out : List ℕ) where
   pub write-none : song ≡ 0 → WritePromise song u title table out out (Refused 4 (place 0))

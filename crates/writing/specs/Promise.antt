@@ -25,6 +25,11 @@ abbrev pub numbers : Writing → Numbers
 numbers (Written n) = record { refusal = 0; place = 0; octets = n .0 }
 numbers (Refused n p) = record { refusal = n; place = p .0; octets = 0 }
 
+-- the numbers that the rules ask for
+abbrev pub writeNumbers : Outcome Tone → Numbers
+writeNumbers (accepted t) = record { refusal = 0; place = 0; octets = toneLength t }
+writeNumbers (refused n p) = record { refusal = n; place = p; octets = 0 }
+
 -- a number of octets
 abbrev pub octetCount : ℕ → OctetCount
 octetCount n = record { 0 = n }
@@ -39,8 +44,8 @@ abbrev pub octetsAfter : Outcome Tone → List ℕ → List ℕ
 octetsAfter (accepted t) old = over (toneOctets t) old
 octetsAfter (refused n p) old = old
 
--- the promise: the answer, and every octet lent
+-- the promise: the answer, its numbers, and every octet lent
 pub record WritePromise (song : ℕ) (unicode : Bool) (title table out out′ : List ℕ) (r : Writing) : Type 0 where
   pub answer : r ≡ writeAnswer (writeTone song unicode title table (length out))
-  pub said : numbers r ≡ numbers (writeAnswer (writeTone song unicode title table (length out)))
+  pub said : numbers r ≡ writeNumbers (writeTone song unicode title table (length out))
   pub leaves : out′ ≡ octetsAfter (writeTone song unicode title table (length out)) out
