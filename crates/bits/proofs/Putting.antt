@@ -158,18 +158,15 @@ turn {buf₀} {at₀} {n₀} {x} {buf} {at} {n} t h l =
       long = length-set buf at (x / 2 ^ k % 256) ∙ t .long;
     }
 
--- zeros up to the octet's end, and an octet of them, as the code counts them
-abbrev zeros : ℕ → ℕ
-zeros n = (8 - n % 8) % 8 + 8
-
-module _ (buf : List ℕ) (at n acc : ℕ) (i : InHand n acc) where
-  shifted : (acc * 2 ^ zeros n) % 18446744073709551616 ≡ joined acc (zeros n) 0
-  shifted = sym (add-zero ((acc * 2 ^ zeros n) % 18446744073709551616))
+-- w zeros behind the bits in hand
+module _ (buf : List ℕ) (at n acc w : ℕ) (i : InHand n acc) (h : w ≤ 24) where
+  shifted : (acc * 2 ^ w) % 18446744073709551616 ≡ joined acc w 0
+  shifted = sym (add-zero ((acc * 2 ^ w) % 18446744073709551616))
 
   -- the loop begins
-  pub begin : Turn buf at (n + zeros n) ((acc * 2 ^ zeros n) % 18446744073709551616) buf at (n + zeros n)
+  pub begin : Turn buf at (n + w) ((acc * 2 ^ w) % 18446744073709551616) buf at (n + w)
   begin = rw shifted (record {
-    same = ap (written buf at (n + zeros n)) (mod-eq-of-lt (joined-lt n acc (zeros n) 0 i (omega arith) (pow-pos (zeros n))));
+    same = ap (written buf at (n + w)) (mod-eq-of-lt (joined-lt n acc w 0 i h (pow-pos w)));
     place = refl;
     most = omega arith;
     rest = refl;
@@ -177,21 +174,17 @@ module _ (buf : List ℕ) (at n acc : ℕ) (i : InHand n acc) where
   })
 
   -- the loop ends
-  pub finish : {buf′ : List ℕ} {at′ n′ : ℕ} → Turn buf at (n + zeros n) ((acc * 2 ^ zeros n) % 18446744073709551616) buf′ at′ n′ → n′ < 8
+  pub finish : w ≡ fillerTo (8 * at + n) + 8 → {buf′ : List ℕ} {at′ n′ : ℕ} → Turn buf at (n + w) ((acc * 2 ^ w) % 18446744073709551616) buf′ at′ n′ → n′ < 8
       → Sealed (written buf at n acc) (8 * at + n) buf buf′ at′
-  finish {buf′} {at′} {n′} t h =
-      let x = (acc * 2 ^ zeros n) % 18446744073709551616 in
+  finish f {buf′} {at′} {n′} t l =
+      let x = (acc * 2 ^ w) % 18446744073709551616 in
       let e : n′ ≡ 0 = omega (arith, t .place) in
-      let f : zeros n ≡ fillerTo (8 * at + n) + 8 = omega arith in
       record {
-        bits = sym (whole buf′ at′ (x % 2 ^ n′)) ∙ ap (λ (k : ℕ). written buf′ at′ k (x % 2 ^ n′)) (sym e) ∙ t .same ∙ ap (written buf at (n + zeros n)) shifted
-            ∙ in-hand n acc (zeros n) 0 i (omega arith) (pow-pos (zeros n)) buf at
-            ∙ ap (λ (r : List Bool). written buf at n acc ++ r) (zero-bits (zeros n) ∙ ap (λ (k : ℕ). replicate k false) f);
+        bits = sym (whole buf′ at′ (x % 2 ^ n′)) ∙ ap (λ (k : ℕ). written buf′ at′ k (x % 2 ^ n′)) (sym e) ∙ t .same ∙ ap (written buf at (n + w)) shifted
+            ∙ in-hand n acc w 0 i h (pow-pos w) buf at ∙ ap (λ (r : List Bool). written buf at n acc ++ r) (zero-bits w ∙ ap (λ (k : ℕ). replicate k false) f);
         size = omega (arith, t .place);
         rest = t .rest;
       }
-
-pub ruleset seals = (turn, begin, finish)
 
 -- ---- one row of bits behind another
 
