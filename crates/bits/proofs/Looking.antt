@@ -40,7 +40,7 @@ within-four m i o w h k =
     ∙ front 4 (drop i m) (replicate (4 - length (drop i m)) 0) o w h l
     ∙ ap (λ (r : List ℕ). field (bitsOf r) o w) (sym (first-four (drop i m)) ∙ four-drop m i)
 
-num-four : (x y z u : ℕ) → x < 256 → y < 256 → z < 256 → u < 256 → num (bitsOf (x ∷ y ∷ z ∷ u ∷ [])) ≡ x * 16777216 + y * 65536 + z * 256 + u
+pub num-four : (x y z u : ℕ) → x < 256 → y < 256 → z < 256 → u < 256 → num (bitsOf (x ∷ y ∷ z ∷ u ∷ [])) ≡ x * 16777216 + y * 65536 + z * 256 + u
 num-four x y z u hx hy hz hu = simp (num-append, length-append, length-bits, num-bits, hx, hy, hz, hu) (omega arith)
 
 -- what `window` computes

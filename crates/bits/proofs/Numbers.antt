@@ -125,12 +125,12 @@ field-num l o w k h =
     let hk : length (drop w (drop o l)) ≡ k = length-drop w (drop o l) ∙ ap (λ (n : ℕ). n - w) (length-drop o l) ∙ omega arith in
     sym (rw (hw, hk, cut o w l) at (slot (take o l) (take w (drop o l)) (drop w (drop o l))))
 
--- ---- at 32 bits
+-- ---- in numbers of k bits
 
 -- 1 << w
-pub shl-one : (w : ℕ) → w ≤ 24 → (1 * 2 ^ w) % 4294967296 ≡ 2 ^ w
-shl-one w h = rw (one-mul (2 ^ w)) (mod-eq-of-lt (pow-lt {i = w} {j = 32} (omega arith)))
+pub shl-one : (k w : ℕ) → w < k → (1 * 2 ^ w) % 2 ^ k ≡ 2 ^ w
+shl-one k w h = rw (one-mul (2 ^ w)) (mod-eq-of-lt (pow-lt h))
 
 -- a mask of w bits
-pub mask : (y w : ℕ) → w ≤ 24 → (bitAnd y ((1 * 2 ^ w) % 4294967296 - 1) ≡ y % 2 ^ w) × (bitAnd y ((1 * 2 ^ w) % 4294967296 - 1) < 2 ^ w)
-mask y w h = rw (shl-one w h, and-mask y w) (refl, mod-lt y (pow-pos w))
+pub mask : (k y w : ℕ) → w < k → (bitAnd y ((1 * 2 ^ w) % 2 ^ k - 1) ≡ y % 2 ^ w) × (bitAnd y ((1 * 2 ^ w) % 2 ^ k - 1) < 2 ^ w)
+mask k y w h = rw (shl-one k w h, and-mask y w) (refl, mod-lt y (pow-pos w))

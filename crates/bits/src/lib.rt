@@ -3,7 +3,7 @@ ghost use Prim.Native.Nat.{_+_, _-_, _*_, _/_, _%_, _^_, _≤_, _<_};
 ghost use lib.ListN.{length, getD, drop};
 ghost use Rattle.bits.specs.Bits.{bitsN, bitsOf, num, placeAfter, octetsBefore, octetsTo};
 ghost use Rattle.bits.specs.Window.{four, Look};
-ghost use Rattle.bits.specs.Sink.{written, InHand, Put, Sealed};
+ghost use Rattle.bits.specs.Sink.{written, InHand, Stored, Put, Sealed};
 
 // A place in a message: how many bits stand ahead of it.
 pub struct BitPlace(pub usize);
@@ -83,28 +83,38 @@ pub fn part(x: u32, o: u32, w: u32) -> u32
 pub struct Sink {
     pub octets: OctetCount,
     pub n: u32,
-    pub acc: u32,
+    pub acc: u64,
 }
 
-// Writes the `w` bits that spell `v`.
+// Stores the four octets of a word. It is one store.
+fn store(buf: &mut [u8], at: usize, word: u32)
+    requires { ⌜ at + 4 ≤ length (now buf) ⌝ }
+    ensures { λ _. ⌜ Stored word (now (buf .entry)) (now (buf .exit)) at ⌝ }
+{
+    buf[at] = (word / 16777216) as u8;
+    buf[at + 1] = (word / 65536 % 256) as u8;
+    buf[at + 2] = (word / 256 % 256) as u8;
+    buf[at + 3] = (word % 256) as u8;
+}
+
+// Writes the `w` bits that spell `v`. They stay in hand until there are 32.
 pub fn put(buf: &mut [u8], s: Sink, w: u32, v: u32) -> Sink
     requires { ⌜ InHand (s .n) (s .acc) ⌝ }
     requires { ⌜ (w ≤ 24) × (v < 2 ^ w) × (placeAfter (s .octets .0) + s .n + w ≤ placeAfter (length (now buf))) ⌝ }
     ensures { λ r. ⌜ Put (written (now (buf .entry)) (s .octets .0) (s .n) (s .acc)) (bitsN w v) (placeAfter (s .octets .0) + s .n + w) (now (buf .entry)) (now (buf .exit)) (r .octets .0) (r .n) (r .acc) ⌝ }
 {
-    let mut at = s.octets.0;
-    let mut n = s.n + w;
-    let mut acc = (s.acc << w) + v;
-    while n >= 8 {
-        n -= 8;
-        buf[at] = (acc >> n) as u8;
-        acc = acc & ((1u32 << n) - 1);
-        at += 1;
+    let octets = s.octets;
+    let n = s.n + w;
+    let acc = (s.acc << w) + v as u64;
+    if n < 32 {
+        return Sink { octets, n, acc };
     }
+    let left = n - 32;
+    store(buf, octets.0, (acc >> left) as u32);
     Sink {
-        octets: OctetCount(at),
-        n,
-        acc,
+        octets: OctetCount(octets.0 + 4),
+        n: left,
+        acc: acc & ((1u64 << left) - 1),
     }
 }
 
@@ -114,7 +124,14 @@ pub fn seal(buf: &mut [u8], s: Sink) -> OctetCount
     requires { ⌜ octetsTo (placeAfter (s .octets .0) + s .n) + 1 ≤ length (now buf) ⌝ }
     ensures { λ r. ⌜ Sealed (written (now (buf .entry)) (s .octets .0) (s .n) (s .acc)) (placeAfter (s .octets .0) + s .n) (now (buf .entry)) (now (buf .exit)) (r .0) ⌝ }
 {
-    let n = s.n;
-    let t = put(buf, s, (8 - n) % 8 + 8, 0);
-    t.octets
+    let zeros = (8 - s.n % 8) % 8 + 8;
+    let bits = s.acc << zeros;
+    let mut at = s.octets.0;
+    let mut left = s.n + zeros;
+    while 8 <= left {
+        left -= 8;
+        buf[at] = ((bits >> left) % 256) as u8;
+        at += 1;
+    }
+    OctetCount(at)
 }

@@ -9,13 +9,14 @@ use lib.ListN.{length, getD, take, drop, set, length-drop}
 use lib.Seq.{take-add, drop-drop, getD-take, length-take-le}
 use mir.Val.{Fits}
 use mir.Syntax.{w64}
-use Rattle.bits.specs.Bits.{bitsN, bitsOf, field, placeAfter}
+use Rattle.bits.specs.Bits.{bitsN, bitsOf, field, placeAfter, octetsTo}
 use Rattle.bits.specs.Lent.{over}
 use Rattle.bits.specs.Window.{Look}
 use Rattle.bits.specs.Sink.{written, InHand, Put}
 use Rattle.bits.proofs.Numbers.{field-bits}
 use Rattle.bits.proofs.Octets.{length-bitsOf}
 use Rattle.bits.proofs.Looking.{seen}
+use Rattle.bits.proofs.Putting.{drop-further}
 use Rattle.bits.proofs.Filled.{filledTo, filled-more, filled-all, length-filled}
 
 -- ---- octets
@@ -71,7 +72,7 @@ pub record BitCopy (m : List ℕ) (at n : ℕ) (old : List Bool) (z : ℕ) (kept
   pub room : z + n ≤ 8 * length kept
   pub reached : placeAfter o + k + left ≡ z + n
   pub bits : written buf o k acc ++ take left (drop p (bitsOf m)) ≡ old ++ take n (drop at (bitsOf m))
-  pub rest : drop o buf ≡ drop o kept
+  pub rest : drop (octetsTo (z + n)) buf ≡ drop (octetsTo (z + n)) kept
   pub long : length buf ≡ length kept
 
 pub bits-begin : (m : List ℕ) (at n : ℕ) (buf : List ℕ) (o k acc : ℕ) → InHand k acc → (at + n ≤ 8 * length m) × (length m < 2 ^ 60) × (placeAfter o + k + n ≤ 8 * length buf)
@@ -86,7 +87,6 @@ module _ {m : List ℕ} {at n : ℕ} {old : List Bool} {z : ℕ} {kept : List �
       let s : take w (drop p (bitsOf m)) ≡ bitsN w v = bits-seen m p w lk l (omega (arith, c .place, c .inside)) ∙ ap (bitsN w) (sym ev) in
       let t : take left (drop p (bitsOf m)) ≡ bitsN w v ++ take (left - w) (drop (p + w) (bitsOf m)) =
       ap (λ (y : ℕ). take y (drop p (bitsOf m))) (split) ∙ take-add w (left - w) (drop p (bitsOf m)) ∙ ap₂ (λ (a b : List Bool). a ++ b) s (ap (take (left - w)) (drop-drop w p (bitsOf m))) in
-      let far : o ≤ o′ = omega (arith, q .place, q .hand .short, c .hand .short) in
       record {
         place = omega (arith, c .place);
         fewer = omega (arith, c .fewer);
@@ -97,17 +97,12 @@ module _ {m : List ℕ} {at n : ℕ} {old : List Bool} {z : ℕ} {kept : List �
         reached = omega (arith, q .place, c .reached);
         bits = ap (λ (y : List Bool). y ++ take (left - w) (drop (p + w) (bitsOf m))) (q .bits) ∙ append-assoc (written buf o k acc) (bitsN w v) (take (left - w) (drop (p + w) (bitsOf m)))
             ∙ ap (λ (y : List Bool). written buf o k acc ++ y) (sym t) ∙ c .bits;
-        rest = q .rest ∙ behind far;
+        rest = drop-further (octetsTo (placeAfter o + k + w)) (octetsTo (z + n)) buf′ buf (omega (arith, c .reached)) (q .rest) ∙ c .rest;
         long = n′ ∙ c .long;
       }
     where
       split : left ≡ w + (left - w)
       split = omega arith
-
-      behind : o ≤ o′ → drop o′ buf ≡ drop o′ kept
-      behind h =
-          let e : o + (o′ - o) ≡ o′ = omega arith in
-          ap (λ (y : ℕ). drop y buf) (sym e) ∙ sym (drop-drop (o′ - o) o buf) ∙ ap (drop (o′ - o)) (c .rest) ∙ drop-drop (o′ - o) o kept ∙ ap (λ (y : ℕ). drop y kept) e
 
   -- a turn of 24 bits
   module _ (h : 24 ≤ left) where

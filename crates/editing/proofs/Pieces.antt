@@ -30,7 +30,7 @@ new-above e h = rw (le-leb 1 (kind e) (omega arith), lt-leb (kind e) 5 h) refl
 
 module _ (e : ℕ) {w : ℕ} (some : 1 ≤ kind e) (most : kind e ≤ 5) (hw : (w ≡ width (kind e)) × (w ≤ 14)) where
   bound : (1 * 2 ^ w) % 4294967296 ≡ 2 ^ width (kind e)
-  bound = shl-one w (omega (arith, hw .1)) ∙ ap (λ (x : ℕ). 2 ^ x) (hw .0)
+  bound = shl-one 32 w (omega (arith, hw .1)) ∙ ap (λ (x : ℕ). 2 ^ x) (hw .0)
 
   pub new-wide : (1 * 2 ^ w) % 4294967296 ≤ payload e → false ≡ isNew e
   new-wide h = rw (le-leb 1 (kind e) some, le-leb (kind e) 5 most, le-ltb (payload e) (2 ^ width (kind e)) (rw bound at h)) refl

@@ -36,13 +36,13 @@ after known (p ∷ ps) = after (learn known (header p)) ps
 learn-keeps : (known : List Bool) (h : ℕ) → length (learn known h) ≡ length known
 learn-keeps known h = pick-elim (λ (l : List Bool). length l ≡ length known) (eqb (specifier h) 0) (λ _. refl) (λ _. length-set known (partOf h) true)
 
--- the id of a header that was accepted is known then: a definition makes it so, and a recall's was
+-- behind a header that is allowed its id is known: a definition makes it so, and a recall's was known before
 pub learn-set : (known : List Bool) (h : ℕ) → recallable known h ≡ true → learn known h ≡ set known (partOf h) true
-learn-set known h r = go (eqb (specifier h) 0) r
+learn-set known h allowed = go (eqb (specifier h) 0) allowed
   where
-    go : (t : Bool) → pick t (getD known (partOf h) false) true ≡ true → pick t known (set known (partOf h) true) ≡ set known (partOf h) true
-    go true e = sym (set-getD known (partOf h) false) ∙ ap (λ (b : Bool). set known (partOf h) b) e
-    go false e = refl
+    go : (recall : Bool) → pick recall (getD known (partOf h) false) true ≡ true → pick recall known (set known (partOf h) true) ≡ set known (partOf h) true
+    go true k = sym (rw k at (set-getD known (partOf h) false))
+    go false k = refl
 
 -- one pattern more: an id is known then if it was, or the pattern defines it
 learned : (known : List Bool) (p : Pattern) (id : ℕ) → Sound p → length known ≡ 4 → (getD (learn known (header p)) id false ≡ true) ↔ (((p .id ≡ id) × (1 ≤ length (p .body))) ⊎ (getD known id false ≡ true))

@@ -6,7 +6,6 @@ use mathlib.Core.Path.{_≡_, refl, sym, ap, ap₂, subst, _∙_}
 use mathlib.Core.Bool.{Bool, true, false}
 use mathlib.Core.List.{List, [], _∷_, _++_, append-assoc}
 use lib.ListN.{length, getD, take, drop, replicate, length-append, take-append-drop}
-use lib.Seq.{drop-drop, length-take-le}
 use lib.Dec.{leb}
 use borrow.Author.Tests.{leb-true}
 use mir.Val.{Fits}
@@ -17,7 +16,7 @@ use Rattle.bits.specs.Outcome.{Outcome, accepted, refused}
 use Rattle.bits.specs.Sink.{written, InHand, Put, Sealed}
 use Rattle.bits.proofs.Numbers.{length-bits}
 use Rattle.bits.proofs.Octets.{octets-of, octets-take}
-use Rattle.bits.proofs.Putting.{nothing, put-then}
+use Rattle.bits.proofs.Putting.{nothing, drop-further, put-then}
 use Rattle.tone.specs.Tone.{Tone, frontOf, cells, patternsOf, characters}
 use Rattle.tone.specs.Writing.{commandBits, titleBits, tableBits, frontBits, songBits, endBits, toneBits, toneLength, toneOctets}
 use Rattle.tone.proofs.Rows.{and-true}
@@ -27,7 +26,7 @@ use Rattle.reader.proofs.Told.{cells-entries}
 use Rattle.writing.specs.Judging.{judgeTable, toneOf, writeTone}
 use Rattle.writing.specs.Answers.{frontLength}
 use Rattle.writing.specs.Appending.{frontWith}
-use Rattle.writing.proofs.Pieces.{command-length, title-length}
+use Rattle.writing.proofs.Pieces.{put-as, command-length, title-length}
 use Rattle.writing.proofs.GoodTables.{GoodTable, judged-is-good}
 use Rattle.writing.proofs.Accepting.{Passed, passed}
 
@@ -42,10 +41,7 @@ module _ (t : Tone) {old mid new : List ℕ} {at n acc r : ℕ} (p : Put [] (son
   sealed-bits = s .bits ∙ ap₂ (λ (x : List Bool) (y : ℕ). x ++ replicate (fillerTo y + 8) false) (p .bits) (p .place)
 
   sealed-rest : drop r new ≡ drop r old
-  sealed-rest =
-      let k : at + (r - at) ≡ r = omega (arith, s .size) in
-      let d : (l : List ℕ) → drop r l ≡ drop (r - at) (drop at l) = λ l. sym (drop-drop (r - at) at l ∙ ap (λ (x : ℕ). drop x l) k) in
-      s .rest ∙ d mid ∙ ap (drop (r - at)) (p .rest) ∙ sym (d old)
+  sealed-rest = s .rest ∙ drop-further (octetsTo (length (songBits t))) r mid old (omega (arith, sealed-size)) (p .rest)
 
   sealed-over : Octets new → new ≡ over (toneOctets t) old
   sealed-over o =
@@ -84,7 +80,8 @@ module _ (song : ℕ) (u : Bool) (title : List ℕ) (count : ℕ) (out : List �
           → Put [] (frontBits (frontWith song u title count)) (length (frontBits (frontWith song u title count))) out b₃ at₃ n₃ acc₃
       front-put p₃ =
           let q = put-then (put-then p₁ p₂ (omega (arith, p₁ .place))) p₃ (omega (arith, p₂ .place)) in
-          record { bits = q .bits ∙ ap₂ (λ (x y : List Bool). x ++ y) (nothing out) (parts song u title count); place = omega (arith, size song u title count, p₁ .place, p₂ .place, p₃ .place); hand = q .hand; rest = q .rest }
+          let z : 8 * at₂ + n₂ + 8 ≡ length (frontBits (frontWith song u title count)) = omega (arith, size song u title count, p₁ .place, p₂ .place) in
+          rw (nothing out) at (put-as (parts song u title count) z q)
 
 pub ruleset fronts = (front-room, front-title-room, front-count-room, front-put)
 
@@ -134,9 +131,7 @@ module _ (song : ℕ) (u : Bool) (title table out : List ℕ) {count : ℕ} (h :
       fill-seal l₂ = omega (arith, fine .fits, end)
 
       all : Put [] (songBits tone) (length (songBits tone)) out b₂ at₂ n₂ acc₂
-      all =
-          let q = put-then p₁ p₂ (omega (arith, p₁ .place)) in
-          record { bits = q .bits ∙ whole; place = end; hand = q .hand; rest = q .rest }
+      all = put-as whole (sym (p₂ .place) ∙ end) (put-then p₁ p₂ (omega (arith, p₁ .place)))
 
       module _ {b₃ : List ℕ} {r : ℕ} (s : Sealed (written b₂ at₂ n₂ acc₂) (8 * at₂ + n₂) b₂ b₃ r) where
         pub fill-octets : r ≡ toneLength tone

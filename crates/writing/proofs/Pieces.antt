@@ -28,8 +28,8 @@ use Rattle.reader.specs.Judging.{Entries}
 use Rattle.writing.specs.Appending.{reached, Appended}
 
 -- what was put, said another way
-put-as : {old a b : List Bool} {end end′ : ℕ} {kept buf : List ℕ} {at n acc : ℕ} → a ≡ b → end ≡ end′ → Put old a end kept buf at n acc → Put old b end′ kept buf at n acc
-put-as {old} e f p = record { bits = p .bits ∙ ap (λ (x : List Bool). old ++ x) e; place = p .place ∙ f; hand = p .hand; rest = p .rest }
+pub put-as : {old a b : List Bool} {end end′ : ℕ} {kept buf : List ℕ} {at n acc : ℕ} → a ≡ b → end ≡ end′ → Put old a end kept buf at n acc → Put old b end′ kept buf at n acc
+put-as e f p = rw (← e, ← f) p
 
 -- ---- an entry
 
@@ -61,6 +61,27 @@ module _ {e w : ℕ} (h : InTable e) (ew : w ≡ width (kind e)) where
   entry-put z p = put-as spelled (ap (λ (x : ℕ). z + x) (ap (λ (x : ℕ). 3 + x) ew ∙ sym (length-entryBits e))) p
 
 pub ruleset entries = (entry-value, entry-fits, entry-room, entry-put)
+
+-- a note: its width is known, and its id is joined to it by a sum
+module _ {e : ℕ} (h : InTable e) (note : kind e ≡ 1) where
+  nine : 9 ≡ width (kind e)
+  unfolding width
+  nine = rw note refl
+
+  spells : (kind e * 2 ^ 9) % 4294967296 + payload e ≡ 512 + payload e
+  spells = rw note refl
+
+  pub note-value : 512 + payload e < 2 ^ 12
+  note-value = rw (← spells) (entry-value h nine)
+
+  pub note-room : (s : Sink) (buf : List ℕ) → reached s + length (entryBits e) ≤ placeAfter (length buf) → reached s + 12 ≤ placeAfter (length buf)
+  note-room s buf l = entry-room h nine s buf l
+
+  pub note-put : (z : ℕ) {old : List Bool} {kept buf : List ℕ} {at n acc : ℕ} → Put old (bitsN 12 (512 + payload e)) (z + 12) kept buf at n acc
+      → Put old (entryBits e) (z + length (entryBits e)) kept buf at n acc
+  note-put z p = entry-put h nine z (rw spells p)
+
+pub ruleset notes = (note-value, note-room, note-put)
 
 -- ---- a row of pieces, one a turn: `bits` of a list are those of its items one after the other
 

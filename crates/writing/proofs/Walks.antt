@@ -6,7 +6,7 @@ use native.Mathlib.Numerals.{add-one, one-add}
 use mathlib.Core.Path.{_≡_, refl, sym, ap, ap₂, subst, _∙_}
 use mathlib.Core.Bool.{Bool, true, false, _&&_}
 use mathlib.Core.List.{List, [], _∷_, _++_}
-use lib.ListN.{length, getD, take, drop, length-append, length-drop, drop-of-length-le}
+use lib.ListN.{length, getD, set, take, drop, length-append, length-drop, drop-of-length-le}
 use lib.Seq.{drop-cons, drop-drop, take-add, take-all}
 use lib.Dec.{leb, ltb, eqb}
 use borrow.Author.Tests.{le-leb, lt-leb, eq-eqb, ne-eqb, eqb-true, leb-true}
@@ -15,9 +15,10 @@ use mir.Syntax.{w32, w64}
 use Rattle.bits.specs.Choice.{pick}
 use Rattle.bits.specs.Outcome.{Outcome, accepted, refused}
 use Rattle.tone.specs.Table.{kind, payload, width, allowed, InTable, Instruction}
-use Rattle.tone.specs.Tone.{specifier, noneKnown, recallable, learn, Instructions}
+use Rattle.tone.specs.Tone.{specifier, partOf, noneKnown, recallable, learn, Instructions}
 use Rattle.tone.specs.Writing.{entryBits, tableBits}
 use Rattle.tone.proofs.Rows.{tableBits-append, length-entryBits, width-most}
+use Rattle.tone.proofs.Recalls.{learn-set}
 use Rattle.writing.specs.declared.Weighed.{Weighed}
 use Rattle.writing.specs.declared.Weighed.the-variants.{Bits, Fault}
 use Rattle.writing.specs.declared.Judged.{Judged}
@@ -246,9 +247,9 @@ module _ {table : List ℕ} {known : List Bool} {patterns bits i : ℕ} (w : Row
             ∙ ap (λ (x : ℕ). length (tableBits (take i table)) + x)
             (length-append b r ∙ ap₂ (λ (x y : ℕ). x + y) (length-entryBits (getD table i 0) ∙ sym (header-told known (getD table i 0) own-told .2)) (sym (told .bits)))
 
-        pub row-on : {known′ : List Bool} {bits′ : ℕ} → known′ ≡ learn known (getD table i 0) → bits′ ≡ atMost (bits + (own + more))
-            → RowWalk table known′ (patterns + 1) bits′ (i + (1 + specifier (getD table i 0)))
-        row-on {known′} {bits′} ek eb =
+        pub row-on : {bits′ : ℕ} → bits′ ≡ atMost (bits + (own + more))
+            → RowWalk table (set known (partOf (getD table i 0)) true) (patterns + 1) bits′ (i + (1 + specifier (getD table i 0)))
+        row-on {bits′} eb =
             let n = specifier (getD table i 0) in
             let l = bits-more in
             let d : drop n (drop (i + 1) table) ≡ drop (i + (1 + n)) table = drop-drop n (i + 1) table ∙ ap (λ (x : ℕ). drop x table) (add-assoc i 1 n) in
@@ -256,7 +257,7 @@ module _ {table : List ℕ} {known : List Bool} {patterns bits i : ℕ} (w : Row
               inside = whole;
               fewer = omega (arith, w .fewer);
               weighs = rw l (omega (arith, eb, w .weighs));
-              goes = behind ∙ (rw (weighed-bits (bodyLength n (drop (i + 1) table)) (sym g′ ∙ q′), d, ek, add-one patterns));
+              goes = behind ∙ (rw (weighed-bits (bodyLength n (drop (i + 1) table)) (sym g′ ∙ q′), d, add-one patterns) (ap (λ (x : List Bool). fromStage (stage 0 x (suc patterns)) (drop (i + (1 + n)) table)) (learn-set known (getD table i 0) (header-told known (getD table i 0) own-told .1))));
             }
 
 pub ruleset rows = (row-begins, row-few, row-none, row-many, row-sound, row-header-fault, row-body-fault, row-small, row-far, row-on)

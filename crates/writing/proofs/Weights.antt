@@ -13,7 +13,6 @@ use borrow.Author.Tests.{le-leb, lt-leb, lt-ltb, le-ltb, eq-eqb, ne-eqb, leb-tru
 use Rattle.bits.specs.Choice.{pick}
 use Rattle.bits.specs.Outcome.{Outcome, accepted, refused}
 use Rattle.bits.proofs.Choice.{pick-elim}
-use Rattle.bits.proofs.Numbers.{shl-one}
 use Rattle.tone.specs.Table.{kind, payload, width, allowed, InTable}
 use Rattle.tone.specs.Tone.{specifier, partOf, recallable}
 use Rattle.tone.proofs.Rows.{and-true, width-most}
@@ -46,6 +45,23 @@ module _ (e : ℕ) where
   unfolding entryFine
   weight-kind h = rw (lt-leb (kind e) 5 h)
 
+  -- a note is told by its code alone: one that is allowed fits its bits
+  module _ (note : kind e ≡ 1) {a : Bool} (ea : a ≡ allowed 1 (payload e)) where
+    pub weight-note-code : a ≡ false → Weight 0
+    unfolding entryFine
+    weight-note-code f = rw (note, ← ea, f) (go (ltb (payload e) (2 ^ width 1)))
+      where
+        go : (b : Bool) → 0 ≡ pick (b && false) (3 + width 1) 0
+        go true = refl
+        go false = refl
+
+    pub weight-note : a ≡ true → Weight 12
+    unfolding entryFine allowed width
+    weight-note t =
+        let l = leb-true (payload e / 32) 12 (and-true (leb (payload e / 32) 12) (leb (payload e / 4 % 8) 5) (sym ea ∙ t) .0) in
+        let s : payload e < 512 = omega arith in
+        rw (note, ← ea, t, lt-ltb (payload e) 512 s)
+
   module _ {w : ℕ} {b : Bool} (h : kind e ≤ 5) (ew : w ≡ width (kind e)) (eb : b ≡ ltb (payload e) (2 ^ w)) where
     fits : ltb (payload e) (2 ^ width (kind e)) ≡ b
     fits = rw (← ew) (sym eb)
@@ -63,7 +79,7 @@ module _ (e : ℕ) where
       unfolding entryFine
       weight-good t = rw (le-leb (kind e) 5 h, fits, l, ← ea, t, ew)
 
-pub ruleset weights = (weight-kind, weight-large, weight-code, weight-good)
+pub ruleset weights = (weight-kind, weight-note-code, weight-note, weight-large, weight-code, weight-good)
 
 -- ---- an instruction
 

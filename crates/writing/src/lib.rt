@@ -49,16 +49,22 @@ fn fits(payload: u32, w: u32) -> bool
     payload < (1u32 << w)
 }
 
-// The bits of an entry, 0 where it is not in the instruction table.
+// The bits of an entry, 0 where it is not in the instruction table. A note is the common one, so it is tested first.
 fn entry_bits(e: u32) -> u32
     ensures { λ r. ⌜ (r ≡ pick (entryFine e) (entryLength e) 0) × (r ≤ 17) ⌝ }
 {
     let kind = e / 65536;
+    let payload = e % 65536;
+    if kind == 1 {
+        if reading::allowed(1, payload) {
+            return 12;
+        }
+        return 0;
+    }
     if 5 < kind {
         return 0;
     }
     let w = reading::width(kind);
-    let payload = e % 65536;
     if fits(payload, w) {
         if reading::allowed(kind, payload) {
             return 3 + w;
@@ -159,8 +165,7 @@ fn judge(table: &[u32]) -> Judged
                     return Judged::Faulty { number };
                 }
                 Weighed::Bits { bits: more } => {
-                    let after = reading::learned(known, e);
-                    known = after;
+                    known[(e / 4096 % 4) as usize] = true;
                     bits = longer(bits, own + more);
                     patterns += 1;
                     i += 1 + (e % 256) as usize;
@@ -190,6 +195,9 @@ fn put_entry(out: &mut [u8], from: Sink, e: u32) -> Sink
     ensures { λ r. ⌜ Appended from (entryBits e) (now (out .entry)) (now (out .exit)) r ⌝ }
 {
     let kind = e / 65536;
+    if kind == 1 {
+        return bits::put(out, from, 12, 512 + e % 65536);
+    }
     let w = reading::width(kind);
     bits::put(out, from, 3 + w, (kind << w) + e % 65536)
 }

@@ -20,10 +20,10 @@ shl-result : tie.Need-shl-result
 shl-result c = search needs
 
 sub-result-2 : tie.Need-sub-result-2
-sub-result-2 c = let w = c .args .w in rw (shl-one w (omega arith)) (pow-pos w)
+sub-result-2 c = let w = c .args .w in rw (shl-one 32 w (omega arith)) (pow-pos w)
 
 returns : tie.Need-returns
-returns c = let a = c .args in mask (a .x / 2 ^ (24 - (a .o + a .w))) (a .w) (omega arith)
+returns c = let a = c .args in mask 32 (a .x / 2 ^ (24 - (a .o + a .w))) (a .w) (omega arith)
 
 pub part-spec : {M : Type 1} → statement M
 part-spec = tie.close (tie.spec add-result sub-result shr-result shl-result sub-result-2 returns)

@@ -1,89 +1,66 @@
--- `bits::put` meets its contract. Each turn hands eight bits over to the buffer; the bits in hand fall.
+-- `bits::put` meets its contract. The bits stay in hand, or a word of them is handed over.
+use borrow.Author.Needs.{needs}
 use Rattle.bits.proofs.put.Statement.{statement}
 use Rattle.bits.proofs.put.Tie as tie
-use borrow.Author.Needs.{needs}
-use native.Mathlib.Omega.{arith}
-use Prim.Native.Nat.{_+_, _-_, _≤_}
-use native.Mathlib.Nat.{lt-of-lt-of-le}
-use lib.Pow.{pow-pos, pow-mono}
-use Rattle.bits.proofs.Numbers.{shl-one}
-use Rattle.bits.proofs.Putting.{Turn, turn, begin, finish, join-fits, spill}
+use Rattle.bits.proofs.Putting.{puts}
 
-abbrev Inv-loop : tie.InvT-loop
-Inv-loop buf₀ w v at₀ n₀ acc₀ buf at n acc = Turn buf₀ at₀ n₀ acc₀ buf at n acc
+add-n : tie.Need-add-n
+add-n c = search needs
 
-abbrev μ-loop : tie.MeasureT-loop
-μ-loop buf₀ w v at₀ n₀ acc₀ buf at n acc = n
+shl-acc : tie.Need-shl-acc
+shl-acc c = search needs
 
-add-n : tie.Need-add-n Inv-loop μ-loop
-add-n c = omega arith
+add-acc : tie.Need-add-acc
+add-acc c = search (puts, needs)
 
-shl-acc : tie.Need-shl-acc Inv-loop μ-loop
-shl-acc c = omega arith
+returns : tie.Need-returns
+returns c = search (puts, needs)
 
-add-acc : tie.Need-add-acc Inv-loop μ-loop
-add-acc c =
-    let a = c .before .before .args in
-    let p = c .before .before .pre in
-    let h : a .s .n + a .w ≤ 31 = omega arith in
-    record { fits = lt-of-lt-of-le (join-fits (a .s .n) (a .s .acc) (a .w) (a .v) (p .0 .small) (p .1 .1) h) (pow-mono {j = 32} (omega arith)) }
+cast-store : tie.Need-cast-store
+cast-store c = search needs
 
-loop-holds : tie.Need-loop-holds Inv-loop μ-loop
-loop-holds c =
-    let a = c .before .before .args in
-    let p = c .before .before .pre in
-    begin (a .buf .now) (a .s .octets .0) (a .s .n) (a .s .acc) (a .w) (a .v) (p .0 .small) (p .1 .1) (omega arith)
+shr-store : tie.Need-shr-store
+shr-store c = search needs
 
-shr-buf : tie.Need-shr-buf Inv-loop μ-loop
-shr-buf c = omega arith
+cast-store-2 : tie.Need-cast-store-2
+cast-store-2 c = search (puts, needs)
 
-cast-buf : tie.Need-cast-buf Inv-loop μ-loop
-cast-buf c = record { fits = spill (c .before .loop .inv) (omega arith) }
+store-requires : tie.Need-store-requires
+store-requires c κs = search needs
 
-slice-write-buf : tie.Need-slice-write-buf Inv-loop μ-loop
-slice-write-buf c = omega arith
+add-t17 : tie.Need-add-t17
+add-t17 c = search needs
 
-shl-acc-2 : tie.Need-shl-acc-2 Inv-loop μ-loop
-shl-acc-2 c = omega arith
+cast-t11 : tie.Need-cast-t11
+cast-t11 c = search needs
 
-sub-acc : tie.Need-sub-acc Inv-loop μ-loop
-sub-acc c = let k = c .before .loop .n - 8 in rw (shl-one k (omega arith)) (pow-pos k)
+shl-t9 : tie.Need-shl-t9
+shl-t9 c = search needs
 
-add-at : tie.Need-add-at Inv-loop μ-loop
-add-at c = omega arith
+sub-t10 : tie.Need-sub-t10
+sub-t10 c = search (puts, needs)
 
-loop-less : tie.Need-loop-less Inv-loop μ-loop
-loop-less c = omega arith
-
-loop-again : tie.Need-loop-again Inv-loop μ-loop
-loop-again c = turn (c .before .loop .inv) (omega arith) (omega arith)
-
-same-length : tie.Need-same-length Inv-loop μ-loop
+same-length : tie.Need-same-length
 same-length c = search needs
 
-returns : tie.Need-returns Inv-loop μ-loop
-returns c =
-    let p = c .before .before .before .before .pre in
-    let a = c .before .before .before .before .args in
-    finish (a .s .n) (a .s .acc) (a .w) (a .v) (p .0 .small) (p .1 .1) (omega arith) (c .before .loop .inv) (omega arith)
+returns-2 : tie.Need-returns-2
+returns-2 c = search (puts, needs)
 
 pub put-spec : {M : Type 1} → statement M
 put-spec =
     tie.close
     (tie.spec
-    Inv-loop
-    μ-loop
     add-n
     shl-acc
     add-acc
-    loop-holds
-    shr-buf
-    cast-buf
-    slice-write-buf
-    shl-acc-2
-    sub-acc
-    add-at
-    loop-less
-    loop-again
+    returns
+    cast-store
+    shr-store
+    cast-store-2
+    store-requires
+    add-t17
+    cast-t11
+    shl-t9
+    sub-t10
     same-length
-    returns)
+    returns-2)

@@ -10,7 +10,7 @@ shl-result : tie.Need-shl-result
 shl-result c = search needs
 
 returns : tie.Need-returns
-returns c = rw (shl-one (c .args .w) (omega arith)) refl
+returns c = rw (shl-one 32 (c .args .w) (omega arith)) refl
 
 pub fits-spec : {M : Type 1} → statement M
 fits-spec = tie.close (tie.spec shl-result returns)

@@ -1,7 +1,7 @@
 -- `writing::judge` meets its contract. Each turn judges one pattern.
+use borrow.Author.Needs.{needs}
 use Rattle.writing.proofs.judge.Statement.{statement}
 use Rattle.writing.proofs.judge.Tie as tie
-use borrow.Author.Needs.{needs}
 use Prim.Native.Nat.{_-_}
 use lib.ListN.{length}
 use Rattle.writing.proofs.Walks.{RowWalk, rows}
@@ -48,8 +48,11 @@ returns-2 c = search (rows, needs)
 enum-known-more : tie.Need-enum-known-more Inv-loop μ-loop
 enum-known-more c = search (rows, needs)
 
-learned-requires : tie.Need-learned-requires Inv-loop μ-loop
-learned-requires c κs = search (rows, needs)
+cast-known : tie.Need-cast-known Inv-loop μ-loop
+cast-known c = search (rows, needs)
+
+array-write-known : tie.Need-array-write-known Inv-loop μ-loop
+array-write-known c = search (rows, needs)
 
 add-longer : tie.Need-add-longer Inv-loop μ-loop
 add-longer c = search (rows, needs)
@@ -81,8 +84,8 @@ returns-3 c = search (rows, needs)
 returns-4 : tie.Need-returns-4 Inv-loop μ-loop
 returns-4 c = search (rows, needs)
 
-cast-t24 : tie.Need-cast-t24 Inv-loop μ-loop
-cast-t24 c = search (rows, needs)
+cast-t27 : tie.Need-cast-t27 Inv-loop μ-loop
+cast-t27 c = search (rows, needs)
 
 returns-5 : tie.Need-returns-5 Inv-loop μ-loop
 returns-5 c = search (rows, needs)
@@ -105,7 +108,8 @@ judge-spec =
     enum-known-number-2
     returns-2
     enum-known-more
-    learned-requires
+    cast-known
+    array-write-known
     add-longer
     longer-requires
     add-patterns
@@ -116,5 +120,5 @@ judge-spec =
     loop-again
     returns-3
     returns-4
-    cast-t24
+    cast-t27
     returns-5)
