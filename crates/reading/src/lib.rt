@@ -6,7 +6,7 @@ ghost use Rattle.bits.specs.Choice.{pick};
 ghost use Rattle.bits.specs.Bits.{bitsOf, placeAfter};
 ghost use Rattle.bits.specs.Window.{Look};
 ghost use Rattle.tone.specs.Table.{width as widthOf, allowed as allowedOf};
-ghost use Rattle.tone.specs.Tone.{perCharacter, noneKnown, learn};
+ghost use Rattle.tone.specs.Tone.{perCharacter, noneKnown};
 ghost use Rattle.tone.specs.Reading.{element, anyOf, filled, soundPart, parts as partsDue, command, text as textDue, title as titleDue, titled as titledDue, front};
 ghost use Rattle.tone.specs.Reading.{headerDue, instructionDue, bodyDue, patternsDue, ending as endingDue, rest as restDue};
 ghost use Rattle.reading.specs.Answers.{Within, stepAs, stepOf, commandOf, noteIn, notes as notesOf, entries as entriesOf, openingOf, SomeEntry, EntryAt, Passed};
@@ -240,18 +240,6 @@ pub fn body(msg: &[u8], at: BitPlace, n: u32) -> Step
         value: notes,
         next: place,
     }
-}
-
-// The ids known after a header: a definition makes its own known.
-pub fn learned(known: [bool; 4], header: u32) -> [bool; 4]
-    ensures { λ r. ⌜ r ≡ learn known header ⌝ }
-{
-    if header % 256 == 0 {
-        return known;
-    }
-    let mut after = known;
-    after[(header / 4096 % 4) as usize] = true;
-    after
 }
 
 // `n` patterns. The number is how many entries they have in the tone table.
