@@ -10,5 +10,6 @@ pub mod Changes
 pub mod Planning
 pub mod Finishing
 pub mod Exactly
+pub mod Order
 pub mod Unique
 pub mod Calls
