@@ -1,0 +1,458 @@
+// Runs the cases of reading and writing a tone, and prints a line for each call.
+//
+// The cases are lines of standard input, each a letter, a space and words with one space between:
+//
+//   # ..                  a remark, passed over
+//   m TIMES HEX           the octets, so many times, go behind the message in hand
+//   t TIMES HEX           the same behind the title in hand
+//   c TIMES CELL CELL ..  the same of cells and the table in hand
+//   r CELLS OCTETS NAME   reads the message, with so many cells of a table and octets of a title lent, and drops it
+//   w SONG UNICODE ROOM NAME   writes the song type, UNICODE (1) or not (0), the title and the table, with so many octets
+//                         of output lent, and drops title and table
+//
+// A line of output has the name, the numbers of the answer, and what is lent with one cell more on each side, which is not
+// lent. All of it is 7 or the octet 77 ahead of the call. Up to 48 octets or cells are printed, more as a digest.
+//
+//   NAME: refusal place song unicode characters patterns entries: table: title    of a reading
+//   NAME: refusal place octets: output                                            of a writing
+ghost use mathlib.Core.Path.{_≡_};
+ghost use Prim.Native.Nat.{_+_, _≤_, _<_};
+ghost use lib.ListN.{length};
+use reader::Reading;
+use writing::Writing;
+
+// How much of the message, the title and the table is in hand.
+struct InHand {
+    msg: usize,
+    title: usize,
+    table: usize,
+}
+
+// A number of the text, and where the next word starts.
+struct Parsed {
+    value: u32,
+    next: usize,
+}
+
+// ---- printing
+
+// Prints a number, and a space ahead of it.
+fn number(n: u64) {
+    io::write_all(1, b" ");
+    io::print_decimal(1, n);
+}
+
+// Prints an octet as two hexadecimal digits.
+fn octet(x: u8) {
+    io::print_hex(1, x as u64, 2);
+}
+
+// Prints octets.
+fn octets(s: &[u8]) {
+    let mut i = 0;
+    while i < s.len() {
+        octet(s[i]);
+        i += 1;
+    }
+}
+
+// An octet as a wider number, with its bound.
+fn wide(x: u8) -> u64
+    ensures { λ r. ⌜ r < 256 ⌝ }
+{
+    x as u64
+}
+
+// A cell as a wider number, with its bound.
+fn wider(x: u32) -> u64
+    ensures { λ r. ⌜ r < 4294967296 ⌝ }
+{
+    x as u64
+}
+
+// Prints cells.
+fn cells(s: &[u32]) {
+    let mut i = 0;
+    while i < s.len() {
+        number(wider(s[i]));
+        i += 1;
+    }
+}
+
+// Octets as one number, to which each octet and its place matter.
+fn digest(s: &[u8]) -> u64 {
+    let mut d: u64 = 1;
+    let mut i = 0;
+    while i < s.len() {
+        d = (d * 31 + wide(s[i])) % 1000003;
+        i += 1;
+    }
+    d
+}
+
+// The same of cells.
+fn digest_cells(s: &[u32]) -> u64 {
+    let mut d: u64 = 1;
+    let mut i = 0;
+    while i < s.len() {
+        d = (d * 31 + wider(s[i])) % 1000003;
+        i += 1;
+    }
+    d
+}
+
+// Prints a buffer of octets: all of them, or their digest where there are many.
+fn show_octets(s: &[u8]) {
+    io::write_all(1, b": ");
+    if s.len() <= 48 {
+        octets(s);
+        return;
+    }
+    io::print_decimal(1, digest(s));
+}
+
+// The same of cells.
+fn show_cells(s: &[u32]) {
+    io::write_all(1, b":");
+    if s.len() <= 48 {
+        cells(s);
+        return;
+    }
+    number(digest_cells(s));
+}
+
+// Prints the numbers of a refusal.
+fn show_refusal(no: u32, place: usize) {
+    number(no as u64);
+    number(place as u64);
+}
+
+// ---- the calls
+
+// Reads a message with all but the first and the last of two buffers lent. Prints the answer and the buffers.
+fn read(msg: &[u8], table: &mut [u32], title: &mut [u8])
+    requires { ⌜ (2 ≤ length (now table)) × (2 ≤ length (now title)) ⌝ }
+{
+    let table_end = table.len() - 1;
+    let title_end = title.len() - 1;
+    match reader::read(msg, &mut table[1..table_end], &mut title[1..title_end]) {
+        Reading::Read {
+            song,
+            unicode,
+            characters,
+            patterns,
+            entries,
+        } => {
+            show_refusal(0, 0);
+            number(song as u64);
+            number(unicode as u64);
+            number(characters as u64);
+            number(patterns as u64);
+            number(entries as u64);
+        }
+        Reading::Refused { number: no, place } => {
+            show_refusal(no, place.0);
+            io::write_all(1, b" 0 0 0 0 0");
+        }
+    }
+    show_cells(table);
+    show_octets(title);
+}
+
+// Reads a message with so many cells and octets lent.
+fn lend_read(msg: &[u8], cells: u32, octets: u32) {
+    let mut table = [7u32; 3600];
+    let mut title = [119u8; 40];
+    let table_end = cells as usize + 2;
+    let title_end = octets as usize + 2;
+    if 3600 < table_end {
+        return;
+    }
+    if 40 < title_end {
+        return;
+    }
+    read(msg, &mut table[0..table_end], &mut title[0..title_end]);
+}
+
+// Writes a tone with all but the first and the last of a buffer lent. Prints the answer and the buffer.
+fn write(song: u32, unicode: bool, title: &[u8], table: &[u32], out: &mut [u8])
+    requires { ⌜ 2 ≤ length (now out) ⌝ }
+{
+    let end = out.len() - 1;
+    match writing::write(song, unicode, title, table, &mut out[1..end]) {
+        Writing::Written { octets: n } => {
+            show_refusal(0, 0);
+            number(n.0 as u64);
+        }
+        Writing::Refused { number: no, place } => {
+            show_refusal(no, place.0);
+            number(0);
+        }
+    }
+    show_octets(out);
+}
+
+// Writes a tone with so many octets lent.
+fn lend_write(song: u32, unicode: bool, title: &[u8], table: &[u32], room: u32) {
+    let mut out = [119u8; 4200];
+    let end = room as usize + 2;
+    if 4200 < end {
+        return;
+    }
+    write(song, unicode, title, table, &mut out[0..end]);
+}
+
+// ---- the text
+
+// The value of a digit, hexadecimal or decimal.
+fn digit(x: u8) -> u8
+    ensures { λ r. ⌜ r < 16 ⌝ }
+{
+    if x < b'a' {
+        return x % 16;
+    }
+    (x - 87) % 16
+}
+
+// The number that starts at a place, and the place behind the space that ends it.
+fn word(line: &[u8], at: usize) -> Parsed
+    requires { ⌜ at ≤ length (now line) ⌝ }
+    ensures { λ r. ⌜ (at ≤ r .next) × (r .next ≤ length (now (line .entry))) ⌝ }
+{
+    let mut value: u64 = 0;
+    let mut i = at;
+    while i < line.len() {
+        let x = line[i];
+        i += 1;
+        if x == b' ' {
+            return Parsed {
+                value: value as u32,
+                next: i,
+            };
+        }
+        value = (value * 10 + wide(digit(x))) % 4294967296;
+    }
+    Parsed {
+        value: value as u32,
+        next: i,
+    }
+}
+
+// Where the line that starts at a place ends.
+fn line_end(text: &[u8], at: usize) -> usize
+    requires { ⌜ at ≤ length (now text) ⌝ }
+    ensures { λ r. ⌜ (at ≤ r) × (r ≤ length (now (text .entry))) ⌝ }
+{
+    let mut i = at;
+    while i < text.len() {
+        if text[i] == b'\n' {
+            return i;
+        }
+        i += 1;
+    }
+    i
+}
+
+// The octet that two hexadecimal digits from a place on give; 0 where there is one digit only.
+fn octet_at(line: &[u8], at: usize) -> u8
+    requires { ⌜ at < length (now line) ⌝ }
+{
+    let low = at + 1;
+    if low == line.len() {
+        return 0;
+    }
+    digit(line[at]) * 16 + digit(line[low])
+}
+
+// Puts the octets of a line, from a place on, behind those in a buffer. It answers how many are then in it.
+fn add_octets(line: &[u8], from: usize, buf: &mut [u8], used: usize) -> usize {
+    let mut n = used;
+    let mut i = from;
+    while n < buf.len() {
+        if line.len() <= i {
+            return n;
+        }
+        buf[n] = octet_at(line, i);
+        n += 1;
+        i += 2;
+    }
+    n
+}
+
+// The same of cells.
+fn add_cells(line: &[u8], from: usize, table: &mut [u32], used: usize) -> usize
+    requires { ⌜ from ≤ length (now line) ⌝ }
+{
+    let mut n = used;
+    let mut i = from;
+    while n < table.len() {
+        if line.len() <= i {
+            return n;
+        }
+        let w = word(line, i);
+        table[n] = w.value;
+        i = w.next;
+        n += 1;
+    }
+    n
+}
+
+// Puts what a line gives, from a place on, behind what is in hand.
+fn add(
+    line: &[u8],
+    from: usize,
+    hand: InHand,
+    msg: &mut [u8; 4100],
+    title: &mut [u8; 40],
+    table: &mut [u32; 4100],
+) -> InHand
+    requires { ⌜ (from ≤ length (now line)) × (0 < length (now line)) ⌝ }
+{
+    let letter = line[0];
+    if letter == b'm' {
+        let n = add_octets(line, from, msg, hand.msg);
+        return InHand {
+            msg: n,
+            title: hand.title,
+            table: hand.table,
+        };
+    }
+    if letter == b't' {
+        let n = add_octets(line, from, title, hand.title);
+        return InHand {
+            msg: hand.msg,
+            title: n,
+            table: hand.table,
+        };
+    }
+    let n = add_cells(line, from, table, hand.table);
+    InHand {
+        msg: hand.msg,
+        title: hand.title,
+        table: n,
+    }
+}
+
+// The same so many times as the line says.
+fn add_times(
+    line: &[u8],
+    hand: InHand,
+    msg: &mut [u8; 4100],
+    title: &mut [u8; 40],
+    table: &mut [u32; 4100],
+) -> InHand
+    requires { ⌜ 2 ≤ length (now line) ⌝ }
+{
+    let times = word(line, 2);
+    let mut h = hand;
+    let mut i = 0;
+    while i < times.value {
+        h = add(line, times.next, h, msg, title, table);
+        i += 1;
+    }
+    h
+}
+
+// Prints the name of a case, which a line has from a place on.
+fn name(line: &[u8], at: usize)
+    requires { ⌜ at ≤ length (now line) ⌝ }
+{
+    io::write_all(1, &line[at..]);
+    io::write_all(1, b":");
+}
+
+// Reads the message in hand as a line says.
+fn read_case(line: &[u8], msg: &[u8], used: usize)
+    requires { ⌜ 2 ≤ length (now line) ⌝ }
+{
+    if msg.len() < used {
+        return;
+    }
+    let cells = word(line, 2);
+    let octets = word(line, cells.next);
+    name(line, octets.next);
+    lend_read(&msg[0..used], cells.value, octets.value);
+    io::write_all(1, b"\n");
+}
+
+// Writes the title and the table in hand as a line says.
+fn write_case(line: &[u8], title: &[u8], octets: usize, table: &[u32], cells: usize)
+    requires { ⌜ 2 ≤ length (now line) ⌝ }
+{
+    if title.len() < octets {
+        return;
+    }
+    if table.len() < cells {
+        return;
+    }
+    let song = word(line, 2);
+    let unicode = word(line, song.next);
+    let room = word(line, unicode.next);
+    name(line, room.next);
+    lend_write(
+        song.value,
+        unicode.value == 1,
+        &title[0..octets],
+        &table[0..cells],
+        room.value,
+    );
+    io::write_all(1, b"\n");
+}
+
+// Does what a line says, and answers what is then in hand.
+fn act(
+    line: &[u8],
+    hand: InHand,
+    msg: &mut [u8; 4100],
+    title: &mut [u8; 40],
+    table: &mut [u32; 4100],
+) -> InHand {
+    if line.len() < 2 {
+        return hand;
+    }
+    let letter = line[0];
+    if letter == b'#' {
+        return hand;
+    }
+    if letter == b'r' {
+        read_case(line, msg, hand.msg);
+        return InHand {
+            msg: 0,
+            title: hand.title,
+            table: hand.table,
+        };
+    }
+    if letter == b'w' {
+        write_case(line, title, hand.title, table, hand.table);
+        return InHand {
+            msg: hand.msg,
+            title: 0,
+            table: 0,
+        };
+    }
+    add_times(line, hand, msg, title, table)
+}
+
+// Does what each line of a text says.
+fn run(text: &[u8]) {
+    let mut msg = [0u8; 4100];
+    let mut title = [0u8; 40];
+    let mut table = [0u32; 4100];
+    let mut hand = InHand {
+        msg: 0,
+        title: 0,
+        table: 0,
+    };
+    let mut at = 0;
+    while at < text.len() {
+        let end = line_end(text, at);
+        hand = act(&text[at..end], hand, &mut msg, &mut title, &mut table);
+        at = end + 1;
+    }
+}
+
+fn main() {
+    let mut text = [0u8; 32768];
+    let n = io::read_full(0, &mut text);
+    run(&text[..n]);
+}
