@@ -1,4 +1,5 @@
-// Runs the cases of reading and writing a tone, and prints a line for each call.
+// Runs the cases of reading and writing a tone, and prints a line for each call. What it must print was worked out from
+// the rules by other means.
 //
 // The cases are lines of standard input, each a letter, a space and words with one space between:
 //
@@ -26,6 +27,35 @@ struct InHand {
     msg: usize,
     title: usize,
     table: usize,
+}
+
+impl InHand {
+    // The same with so much of a message.
+    fn with_msg(self, n: usize) -> InHand {
+        InHand {
+            msg: n,
+            title: self.title,
+            table: self.table,
+        }
+    }
+
+    // The same with so much of a title.
+    fn with_title(self, n: usize) -> InHand {
+        InHand {
+            msg: self.msg,
+            title: n,
+            table: self.table,
+        }
+    }
+
+    // The same with so much of a table.
+    fn with_table(self, n: usize) -> InHand {
+        InHand {
+            msg: self.msg,
+            title: self.title,
+            table: n,
+        }
+    }
 }
 
 // A number of the text, and where the next word starts.
@@ -127,15 +157,9 @@ fn show_refusal(no: u32, place: usize) {
     number(place as u64);
 }
 
-// ---- the calls
-
-// Reads a message with all but the first and the last of two buffers lent. Prints the answer and the buffers.
-fn read(msg: &[u8], table: &mut [u32], title: &mut [u8])
-    requires { ⌜ (2 ≤ length (now table)) × (2 ≤ length (now title)) ⌝ }
-{
-    let table_end = table.len() - 1;
-    let title_end = title.len() - 1;
-    match reader::read(msg, &mut table[1..table_end], &mut title[1..title_end]) {
+// Prints the numbers of a reading.
+fn show_reading(answer: Reading) {
+    match answer {
         Reading::Read {
             song,
             unicode,
@@ -155,6 +179,31 @@ fn read(msg: &[u8], table: &mut [u32], title: &mut [u8])
             io::write_all(1, b" 0 0 0 0 0");
         }
     }
+}
+
+// Prints the numbers of a writing.
+fn show_writing(answer: Writing) {
+    match answer {
+        Writing::Written { octets: n } => {
+            show_refusal(0, 0);
+            number(n.0 as u64);
+        }
+        Writing::Refused { number: no, place } => {
+            show_refusal(no, place.0);
+            number(0);
+        }
+    }
+}
+
+// ---- the calls
+
+// Reads a message with all but the first and the last of two buffers lent. Prints the answer and the buffers.
+fn read(msg: &[u8], table: &mut [u32], title: &mut [u8])
+    requires { ⌜ (2 ≤ length (now table)) × (2 ≤ length (now title)) ⌝ }
+{
+    let table_end = table.len() - 1;
+    let title_end = title.len() - 1;
+    show_reading(reader::read(msg, &mut table[1..table_end], &mut title[1..title_end]));
     show_cells(table);
     show_octets(title);
 }
@@ -179,16 +228,7 @@ fn write(song: u32, unicode: bool, title: &[u8], table: &[u32], out: &mut [u8])
     requires { ⌜ 2 ≤ length (now out) ⌝ }
 {
     let end = out.len() - 1;
-    match writing::write(song, unicode, title, table, &mut out[1..end]) {
-        Writing::Written { octets: n } => {
-            show_refusal(0, 0);
-            number(n.0 as u64);
-        }
-        Writing::Refused { number: no, place } => {
-            show_refusal(no, place.0);
-            number(0);
-        }
-    }
+    show_writing(writing::write(song, unicode, title, table, &mut out[1..end]));
     show_octets(out);
 }
 
@@ -310,27 +350,12 @@ fn add(
 {
     let letter = line[0];
     if letter == b'm' {
-        let n = add_octets(line, from, msg, hand.msg);
-        return InHand {
-            msg: n,
-            title: hand.title,
-            table: hand.table,
-        };
+        return hand.with_msg(add_octets(line, from, msg, hand.msg));
     }
     if letter == b't' {
-        let n = add_octets(line, from, title, hand.title);
-        return InHand {
-            msg: hand.msg,
-            title: n,
-            table: hand.table,
-        };
+        return hand.with_title(add_octets(line, from, title, hand.title));
     }
-    let n = add_cells(line, from, table, hand.table);
-    InHand {
-        msg: hand.msg,
-        title: hand.title,
-        table: n,
-    }
+    hand.with_table(add_cells(line, from, table, hand.table))
 }
 
 // The same so many times as the line says.
@@ -416,19 +441,11 @@ fn act(
     }
     if letter == b'r' {
         read_case(line, msg, hand.msg);
-        return InHand {
-            msg: 0,
-            title: hand.title,
-            table: hand.table,
-        };
+        return hand.with_msg(0);
     }
     if letter == b'w' {
         write_case(line, title, hand.title, table, hand.table);
-        return InHand {
-            msg: hand.msg,
-            title: 0,
-            table: 0,
-        };
+        return hand.with_title(0).with_table(0);
     }
     add_times(line, hand, msg, title, table)
 }
@@ -455,4 +472,7 @@ fn main() {
     let mut text = [0u8; 32768];
     let n = io::read_full(0, &mut text);
     run(&text[..n]);
+    if n == text.len() {
+        io::write_all(1, b"there may be more cases than there is room for\n");
+    }
 }
