@@ -3,59 +3,29 @@
 //
 // The cases are lines of standard input, each a letter, a space and words with one space between:
 //
-//   # ..                  a remark, passed over
-//   m TIMES HEX           the octets, so many times, go behind the message in hand
-//   t TIMES HEX           the same behind the title in hand
-//   c TIMES CELL CELL ..  the same of cells and the table in hand
-//   r CELLS OCTETS NAME   reads the message, with so many cells of a table and octets of a title lent, and drops it
-//   w SONG UNICODE ROOM NAME   writes the song type, UNICODE (1) or not (0), the title and the table, with so many octets
-//                         of output lent, and drops title and table
+//   # ..                       a remark, passed over
+//   o TIMES HEX                the octets, so many times, go behind those in hand
+//   c TIMES CELL CELL ..       the same of cells
+//   r CELLS OCTETS NAME        reads the octets in hand, with so many cells of a table and octets of a title lent
+//   w SONG UNICODE ROOM NAME   writes a tone of this song type, with UNICODE (1) or not (0), the octets in hand as its
+//                              title and the cells in hand as its table, with so many octets of output lent
+//
+// A call leaves nothing in hand.
 //
 // A line of output has the name, the numbers of the answer, and what is lent with one cell more on each side, which is not
 // lent. All of it is 7 or the octet 77 ahead of the call. Up to 48 octets or cells are printed, more as a digest.
 //
 //   NAME: refusal place song unicode characters patterns entries: table: title    of a reading
 //   NAME: refusal place octets: output                                            of a writing
-ghost use mathlib.Core.Path.{_≡_};
-ghost use Prim.Native.Nat.{_+_, _≤_, _<_};
+ghost use Prim.Native.Nat.{_≤_, _<_};
 ghost use lib.ListN.{length};
 use reader::Reading;
 use writing::Writing;
 
-// How much of the message, the title and the table is in hand.
+// How many octets and cells are in hand.
 struct InHand {
-    msg: usize,
-    title: usize,
-    table: usize,
-}
-
-impl InHand {
-    // The same with so much of a message.
-    fn with_msg(self, n: usize) -> InHand {
-        InHand {
-            msg: n,
-            title: self.title,
-            table: self.table,
-        }
-    }
-
-    // The same with so much of a title.
-    fn with_title(self, n: usize) -> InHand {
-        InHand {
-            msg: self.msg,
-            title: n,
-            table: self.table,
-        }
-    }
-
-    // The same with so much of a table.
-    fn with_table(self, n: usize) -> InHand {
-        InHand {
-            msg: self.msg,
-            title: self.title,
-            table: n,
-        }
-    }
+    octets: usize,
+    cells: usize,
 }
 
 // A number of the text, and where the next word starts.
@@ -72,20 +42,6 @@ fn number(n: u64) {
     io::print_decimal(1, n);
 }
 
-// Prints an octet as two hexadecimal digits.
-fn octet(x: u8) {
-    io::print_hex(1, x as u64, 2);
-}
-
-// Prints octets.
-fn octets(s: &[u8]) {
-    let mut i = 0;
-    while i < s.len() {
-        octet(s[i]);
-        i += 1;
-    }
-}
-
 // An octet as a wider number, with its bound.
 fn wide(x: u8) -> u64
     ensures { λ r. ⌜ r < 256 ⌝ }
@@ -98,6 +54,15 @@ fn wider(x: u32) -> u64
     ensures { λ r. ⌜ r < 4294967296 ⌝ }
 {
     x as u64
+}
+
+// Prints octets, each as two hexadecimal digits.
+fn octets(s: &[u8]) {
+    let mut i = 0;
+    while i < s.len() {
+        io::print_hex(1, wide(s[i]), 2);
+        i += 1;
+    }
 }
 
 // Prints cells.
@@ -151,12 +116,6 @@ fn show_cells(s: &[u32]) {
     number(digest_cells(s));
 }
 
-// Prints the numbers of a refusal.
-fn show_refusal(no: u32, place: usize) {
-    number(no as u64);
-    number(place as u64);
-}
-
 // Prints the numbers of a reading.
 fn show_reading(answer: Reading) {
     match answer {
@@ -167,7 +126,7 @@ fn show_reading(answer: Reading) {
             patterns,
             entries,
         } => {
-            show_refusal(0, 0);
+            io::write_all(1, b" 0 0");
             number(song as u64);
             number(unicode as u64);
             number(characters as u64);
@@ -175,7 +134,8 @@ fn show_reading(answer: Reading) {
             number(entries as u64);
         }
         Reading::Refused { number: no, place } => {
-            show_refusal(no, place.0);
+            number(no as u64);
+            number(place.0 as u64);
             io::write_all(1, b" 0 0 0 0 0");
         }
     }
@@ -185,11 +145,12 @@ fn show_reading(answer: Reading) {
 fn show_writing(answer: Writing) {
     match answer {
         Writing::Written { octets: n } => {
-            show_refusal(0, 0);
+            io::write_all(1, b" 0 0");
             number(n.0 as u64);
         }
         Writing::Refused { number: no, place } => {
-            show_refusal(no, place.0);
+            number(no as u64);
+            number(place.0 as u64);
             number(0);
         }
     }
@@ -342,37 +303,32 @@ fn add(
     line: &[u8],
     from: usize,
     hand: InHand,
-    msg: &mut [u8; 4100],
-    title: &mut [u8; 40],
-    table: &mut [u32; 4100],
+    octets: &mut [u8; 4100],
+    cells: &mut [u32; 4100],
 ) -> InHand
     requires { ⌜ (from ≤ length (now line)) × (0 < length (now line)) ⌝ }
 {
-    let letter = line[0];
-    if letter == b'm' {
-        return hand.with_msg(add_octets(line, from, msg, hand.msg));
+    if line[0] == b'o' {
+        return InHand {
+            octets: add_octets(line, from, octets, hand.octets),
+            cells: hand.cells,
+        };
     }
-    if letter == b't' {
-        return hand.with_title(add_octets(line, from, title, hand.title));
+    InHand {
+        octets: hand.octets,
+        cells: add_cells(line, from, cells, hand.cells),
     }
-    hand.with_table(add_cells(line, from, table, hand.table))
 }
 
 // The same so many times as the line says.
-fn add_times(
-    line: &[u8],
-    hand: InHand,
-    msg: &mut [u8; 4100],
-    title: &mut [u8; 40],
-    table: &mut [u32; 4100],
-) -> InHand
+fn add_times(line: &[u8], hand: InHand, octets: &mut [u8; 4100], cells: &mut [u32; 4100]) -> InHand
     requires { ⌜ 2 ≤ length (now line) ⌝ }
 {
     let times = word(line, 2);
     let mut h = hand;
     let mut i = 0;
     while i < times.value {
-        h = add(line, times.next, h, msg, title, table);
+        h = add(line, times.next, h, octets, cells);
         i += 1;
     }
     h
@@ -386,52 +342,49 @@ fn name(line: &[u8], at: usize)
     io::write_all(1, b":");
 }
 
-// Reads the message in hand as a line says.
-fn read_case(line: &[u8], msg: &[u8], used: usize)
+// Reads a message as a line says.
+fn read_case(line: &[u8], msg: &[u8])
     requires { ⌜ 2 ≤ length (now line) ⌝ }
 {
-    if msg.len() < used {
-        return;
-    }
     let cells = word(line, 2);
     let octets = word(line, cells.next);
     name(line, octets.next);
-    lend_read(&msg[0..used], cells.value, octets.value);
-    io::write_all(1, b"\n");
+    lend_read(msg, cells.value, octets.value);
 }
 
-// Writes the title and the table in hand as a line says.
-fn write_case(line: &[u8], title: &[u8], octets: usize, table: &[u32], cells: usize)
+// Writes a title and a table as a line says.
+fn write_case(line: &[u8], title: &[u8], table: &[u32])
     requires { ⌜ 2 ≤ length (now line) ⌝ }
 {
-    if title.len() < octets {
-        return;
-    }
-    if table.len() < cells {
-        return;
-    }
     let song = word(line, 2);
     let unicode = word(line, song.next);
     let room = word(line, unicode.next);
     name(line, room.next);
-    lend_write(
-        song.value,
-        unicode.value == 1,
-        &title[0..octets],
-        &table[0..cells],
-        room.value,
-    );
+    lend_write(song.value, unicode.value == 1, title, table, room.value);
+}
+
+// Makes the call that a line says with what is in hand, and ends the line of output.
+fn call(line: &[u8], hand: InHand, octets: &[u8], cells: &[u32])
+    requires { ⌜ 2 ≤ length (now line) ⌝ }
+{
+    let octets_end = hand.octets;
+    let cells_end = hand.cells;
+    if octets.len() < octets_end {
+        return;
+    }
+    if cells.len() < cells_end {
+        return;
+    }
+    if line[0] == b'r' {
+        read_case(line, &octets[0..octets_end]);
+    } else {
+        write_case(line, &octets[0..octets_end], &cells[0..cells_end]);
+    }
     io::write_all(1, b"\n");
 }
 
 // Does what a line says, and answers what is then in hand.
-fn act(
-    line: &[u8],
-    hand: InHand,
-    msg: &mut [u8; 4100],
-    title: &mut [u8; 40],
-    table: &mut [u32; 4100],
-) -> InHand {
+fn act(line: &[u8], hand: InHand, octets: &mut [u8; 4100], cells: &mut [u32; 4100]) -> InHand {
     if line.len() < 2 {
         return hand;
     }
@@ -439,31 +392,28 @@ fn act(
     if letter == b'#' {
         return hand;
     }
-    if letter == b'r' {
-        read_case(line, msg, hand.msg);
-        return hand.with_msg(0);
+    if letter == b'o' || letter == b'c' {
+        return add_times(line, hand, octets, cells);
     }
-    if letter == b'w' {
-        write_case(line, title, hand.title, table, hand.table);
-        return hand.with_title(0).with_table(0);
+    call(line, hand, octets, cells);
+    InHand {
+        octets: 0,
+        cells: 0,
     }
-    add_times(line, hand, msg, title, table)
 }
 
 // Does what each line of a text says.
 fn run(text: &[u8]) {
-    let mut msg = [0u8; 4100];
-    let mut title = [0u8; 40];
-    let mut table = [0u32; 4100];
+    let mut octets = [0u8; 4100];
+    let mut cells = [0u32; 4100];
     let mut hand = InHand {
-        msg: 0,
-        title: 0,
-        table: 0,
+        octets: 0,
+        cells: 0,
     };
     let mut at = 0;
     while at < text.len() {
         let end = line_end(text, at);
-        hand = act(&text[at..end], hand, &mut msg, &mut title, &mut table);
+        hand = act(&text[at..end], hand, &mut octets, &mut cells);
         at = end + 1;
     }
 }

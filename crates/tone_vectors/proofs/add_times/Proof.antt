@@ -5,10 +5,10 @@ use borrow.Author.Needs.{needs}
 use Prim.Native.Nat.{_-_}
 
 abbrev Inv-loop : tie.InvT-loop
-Inv-loop line msg₀ title₀ table₀ times h₀ i₀ msg title table h i = Unit {0}
+Inv-loop line octets₀ cells₀ times h₀ i₀ octets cells h i = Unit {0}
 
 abbrev μ-loop : tie.MeasureT-loop
-μ-loop line msg₀ title₀ table₀ times h₀ i₀ msg title table h i = times .value - i
+μ-loop line octets₀ cells₀ times h₀ i₀ octets cells h i = times .value - i
 
 word-requires : tie.Need-word-requires Inv-loop μ-loop
 word-requires c κs = search needs

@@ -6,10 +6,10 @@ use Prim.Native.Nat.{_-_}
 use lib.ListN.{length}
 
 abbrev Inv-loop : tie.InvT-loop
-Inv-loop text msg₀ title₀ table₀ hand₀ at₀ msg title table hand at = Unit {0}
+Inv-loop text octets₀ cells₀ hand₀ at₀ octets cells hand at = Unit {0}
 
 abbrev μ-loop : tie.MeasureT-loop
-μ-loop text msg₀ title₀ table₀ hand₀ at₀ msg title table hand at = length text - at
+μ-loop text octets₀ cells₀ hand₀ at₀ octets cells hand at = length text - at
 
 loop-holds : tie.Need-loop-holds Inv-loop μ-loop
 loop-holds c = search needs
