@@ -1,0 +1,71 @@
+-- `tone_vectors::word` meets its contract. The place stays inside the line and the number below 2 ^ 32; the octets left fall.
+use Rattle.tone_vectors.proofs.word.Statement.{statement}
+use Rattle.tone_vectors.proofs.word.Tie as tie
+use borrow.Author.Needs.{needs}
+use Prim.Native.Nat.{_-_, _≤_, _<_}
+use lib.ListN.{length}
+
+abbrev Inv-loop : tie.InvT-loop
+Inv-loop line at value₀ i₀ value i = ((at ≤ i) × (i ≤ length line)) × (value < 4294967296)
+
+abbrev μ-loop : tie.MeasureT-loop
+μ-loop line at value₀ i₀ value i = length line - i
+
+loop-holds : tie.Need-loop-holds Inv-loop μ-loop
+loop-holds c = search needs
+
+shared-slice-read-x : tie.Need-shared-slice-read-x Inv-loop μ-loop
+shared-slice-read-x c = search needs
+
+add-i : tie.Need-add-i Inv-loop μ-loop
+add-i c = search needs
+
+cast-t10 : tie.Need-cast-t10 Inv-loop μ-loop
+cast-t10 c = search needs
+
+returns : tie.Need-returns Inv-loop μ-loop
+returns c = search needs
+
+mul-value : tie.Need-mul-value Inv-loop μ-loop
+mul-value c = search needs
+
+digit-requires : tie.Need-digit-requires Inv-loop μ-loop
+digit-requires c κs = search needs
+
+wide-requires : tie.Need-wide-requires Inv-loop μ-loop
+wide-requires c κs = search needs
+
+add-value : tie.Need-add-value Inv-loop μ-loop
+add-value c = search needs
+
+loop-less : tie.Need-loop-less Inv-loop μ-loop
+loop-less c = search needs
+
+loop-again : tie.Need-loop-again Inv-loop μ-loop
+loop-again c = search needs
+
+cast-t14 : tie.Need-cast-t14 Inv-loop μ-loop
+cast-t14 c = search needs
+
+returns-2 : tie.Need-returns-2 Inv-loop μ-loop
+returns-2 c = search needs
+
+pub word-spec : {M : Type 1} → statement M
+word-spec =
+    tie.close
+    (tie.spec
+    Inv-loop
+    μ-loop
+    loop-holds
+    shared-slice-read-x
+    add-i
+    cast-t10
+    returns
+    mul-value
+    digit-requires
+    wide-requires
+    add-value
+    loop-less
+    loop-again
+    cast-t14
+    returns-2)

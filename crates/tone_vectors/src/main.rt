@@ -1,0 +1,428 @@
+// Runs the cases of reading and writing a tone, and prints a line for each call. What it must print was worked out from
+// the rules by other means.
+//
+// The cases are lines of standard input, each a letter, a space and words with one space between:
+//
+//   # ..                       a remark, passed over
+//   o TIMES HEX                the octets, so many times, go behind those in hand
+//   c TIMES CELL CELL ..       the same of cells
+//   r CELLS OCTETS NAME        reads the octets in hand, with so many cells of a table and octets of a title lent
+//   w SONG UNICODE ROOM NAME   writes a tone of this song type, with UNICODE (1) or not (0), the octets in hand as its
+//                              title and the cells in hand as its table, with so many octets of output lent
+//
+// A call leaves nothing in hand.
+//
+// A line of output has the name, the numbers of the answer, and what is lent with one cell more on each side, which is not
+// lent. All of it is 7 or the octet 77 ahead of the call. Up to 48 octets or cells are printed, more as a digest.
+//
+//   NAME: refusal place song unicode characters patterns entries: table: title    of a reading
+//   NAME: refusal place octets: output                                            of a writing
+ghost use Prim.Native.Nat.{_≤_, _<_};
+ghost use lib.ListN.{length};
+use reader::Reading;
+use writing::Writing;
+
+// How many octets and cells are in hand.
+struct InHand {
+    octets: usize,
+    cells: usize,
+}
+
+// A number of the text, and where the next word starts.
+struct Parsed {
+    value: u32,
+    next: usize,
+}
+
+// ---- printing
+
+// Prints a number, and a space ahead of it.
+fn number(n: u64) {
+    io::write_all(1, b" ");
+    io::print_decimal(1, n);
+}
+
+// An octet as a wider number, with its bound.
+fn wide(x: u8) -> u64
+    ensures { λ r. ⌜ r < 256 ⌝ }
+{
+    x as u64
+}
+
+// A cell as a wider number, with its bound.
+fn wider(x: u32) -> u64
+    ensures { λ r. ⌜ r < 4294967296 ⌝ }
+{
+    x as u64
+}
+
+// Prints octets, each as two hexadecimal digits.
+fn octets(s: &[u8]) {
+    let mut i = 0;
+    while i < s.len() {
+        io::print_hex(1, wide(s[i]), 2);
+        i += 1;
+    }
+}
+
+// Prints cells.
+fn cells(s: &[u32]) {
+    let mut i = 0;
+    while i < s.len() {
+        number(wider(s[i]));
+        i += 1;
+    }
+}
+
+// Octets as one number, to which each octet and its place matter.
+fn digest(s: &[u8]) -> u64 {
+    let mut d: u64 = 1;
+    let mut i = 0;
+    while i < s.len() {
+        d = (d * 31 + wide(s[i])) % 1000003;
+        i += 1;
+    }
+    d
+}
+
+// The same of cells.
+fn digest_cells(s: &[u32]) -> u64 {
+    let mut d: u64 = 1;
+    let mut i = 0;
+    while i < s.len() {
+        d = (d * 31 + wider(s[i])) % 1000003;
+        i += 1;
+    }
+    d
+}
+
+// Prints a buffer of octets: all of them, or their digest where there are many.
+fn show_octets(s: &[u8]) {
+    io::write_all(1, b": ");
+    if s.len() <= 48 {
+        octets(s);
+        return;
+    }
+    io::print_decimal(1, digest(s));
+}
+
+// The same of cells.
+fn show_cells(s: &[u32]) {
+    io::write_all(1, b":");
+    if s.len() <= 48 {
+        cells(s);
+        return;
+    }
+    number(digest_cells(s));
+}
+
+// Prints the numbers of a reading.
+fn show_reading(answer: Reading) {
+    match answer {
+        Reading::Read {
+            song,
+            unicode,
+            characters,
+            patterns,
+            entries,
+        } => {
+            io::write_all(1, b" 0 0");
+            number(song as u64);
+            number(unicode as u64);
+            number(characters as u64);
+            number(patterns as u64);
+            number(entries as u64);
+        }
+        Reading::Refused { number: no, place } => {
+            number(no as u64);
+            number(place.0 as u64);
+            io::write_all(1, b" 0 0 0 0 0");
+        }
+    }
+}
+
+// Prints the numbers of a writing.
+fn show_writing(answer: Writing) {
+    match answer {
+        Writing::Written { octets: n } => {
+            io::write_all(1, b" 0 0");
+            number(n.0 as u64);
+        }
+        Writing::Refused { number: no, place } => {
+            number(no as u64);
+            number(place.0 as u64);
+            number(0);
+        }
+    }
+}
+
+// ---- the calls
+
+// Reads a message with all but the first and the last of two buffers lent. Prints the answer and the buffers.
+fn read(msg: &[u8], table: &mut [u32], title: &mut [u8])
+    requires { ⌜ (2 ≤ length (now table)) × (2 ≤ length (now title)) ⌝ }
+{
+    let table_end = table.len() - 1;
+    let title_end = title.len() - 1;
+    show_reading(reader::read(msg, &mut table[1..table_end], &mut title[1..title_end]));
+    show_cells(table);
+    show_octets(title);
+}
+
+// Reads a message with so many cells and octets lent.
+fn lend_read(msg: &[u8], cells: u32, octets: u32) {
+    let mut table = [7u32; 3600];
+    let mut title = [119u8; 40];
+    let table_end = cells as usize + 2;
+    let title_end = octets as usize + 2;
+    if 3600 < table_end {
+        return;
+    }
+    if 40 < title_end {
+        return;
+    }
+    read(msg, &mut table[0..table_end], &mut title[0..title_end]);
+}
+
+// Writes a tone with all but the first and the last of a buffer lent. Prints the answer and the buffer.
+fn write(song: u32, unicode: bool, title: &[u8], table: &[u32], out: &mut [u8])
+    requires { ⌜ 2 ≤ length (now out) ⌝ }
+{
+    let end = out.len() - 1;
+    show_writing(writing::write(song, unicode, title, table, &mut out[1..end]));
+    show_octets(out);
+}
+
+// Writes a tone with so many octets lent.
+fn lend_write(song: u32, unicode: bool, title: &[u8], table: &[u32], room: u32) {
+    let mut out = [119u8; 4200];
+    let end = room as usize + 2;
+    if 4200 < end {
+        return;
+    }
+    write(song, unicode, title, table, &mut out[0..end]);
+}
+
+// ---- the text
+
+// The value of a digit, hexadecimal or decimal.
+fn digit(x: u8) -> u8
+    ensures { λ r. ⌜ r < 16 ⌝ }
+{
+    if x < b'a' {
+        return x % 16;
+    }
+    (x - 87) % 16
+}
+
+// The number that starts at a place, and the place behind the space that ends it.
+fn word(line: &[u8], at: usize) -> Parsed
+    requires { ⌜ at ≤ length (now line) ⌝ }
+    ensures { λ r. ⌜ (at ≤ r .next) × (r .next ≤ length (now (line .entry))) ⌝ }
+{
+    let mut value: u64 = 0;
+    let mut i = at;
+    while i < line.len() {
+        let x = line[i];
+        i += 1;
+        if x == b' ' {
+            return Parsed {
+                value: value as u32,
+                next: i,
+            };
+        }
+        value = (value * 10 + wide(digit(x))) % 4294967296;
+    }
+    Parsed {
+        value: value as u32,
+        next: i,
+    }
+}
+
+// Where the line that starts at a place ends.
+fn line_end(text: &[u8], at: usize) -> usize
+    requires { ⌜ at ≤ length (now text) ⌝ }
+    ensures { λ r. ⌜ (at ≤ r) × (r ≤ length (now (text .entry))) ⌝ }
+{
+    let mut i = at;
+    while i < text.len() {
+        if text[i] == b'\n' {
+            return i;
+        }
+        i += 1;
+    }
+    i
+}
+
+// The octet that two hexadecimal digits from a place on give; 0 where there is one digit only.
+fn octet_at(line: &[u8], at: usize) -> u8
+    requires { ⌜ at < length (now line) ⌝ }
+{
+    let low = at + 1;
+    if low == line.len() {
+        return 0;
+    }
+    digit(line[at]) * 16 + digit(line[low])
+}
+
+// Puts the octets of a line, from a place on, behind those in a buffer. It answers how many are then in it.
+fn add_octets(line: &[u8], from: usize, buf: &mut [u8], used: usize) -> usize {
+    let mut n = used;
+    let mut i = from;
+    while n < buf.len() {
+        if line.len() <= i {
+            return n;
+        }
+        buf[n] = octet_at(line, i);
+        n += 1;
+        i += 2;
+    }
+    n
+}
+
+// The same of cells.
+fn add_cells(line: &[u8], from: usize, table: &mut [u32], used: usize) -> usize
+    requires { ⌜ from ≤ length (now line) ⌝ }
+{
+    let mut n = used;
+    let mut i = from;
+    while n < table.len() {
+        if line.len() <= i {
+            return n;
+        }
+        let w = word(line, i);
+        table[n] = w.value;
+        i = w.next;
+        n += 1;
+    }
+    n
+}
+
+// Puts what a line gives, from a place on, behind what is in hand.
+fn add(
+    line: &[u8],
+    from: usize,
+    hand: InHand,
+    octets: &mut [u8; 4100],
+    cells: &mut [u32; 4100],
+) -> InHand
+    requires { ⌜ (from ≤ length (now line)) × (0 < length (now line)) ⌝ }
+{
+    if line[0] == b'o' {
+        return InHand {
+            octets: add_octets(line, from, octets, hand.octets),
+            cells: hand.cells,
+        };
+    }
+    InHand {
+        octets: hand.octets,
+        cells: add_cells(line, from, cells, hand.cells),
+    }
+}
+
+// The same so many times as the line says.
+fn add_times(line: &[u8], hand: InHand, octets: &mut [u8; 4100], cells: &mut [u32; 4100]) -> InHand
+    requires { ⌜ 2 ≤ length (now line) ⌝ }
+{
+    let times = word(line, 2);
+    let mut h = hand;
+    let mut i = 0;
+    while i < times.value {
+        h = add(line, times.next, h, octets, cells);
+        i += 1;
+    }
+    h
+}
+
+// Prints the name of a case, which a line has from a place on.
+fn name(line: &[u8], at: usize)
+    requires { ⌜ at ≤ length (now line) ⌝ }
+{
+    io::write_all(1, &line[at..]);
+    io::write_all(1, b":");
+}
+
+// Reads a message as a line says.
+fn read_case(line: &[u8], msg: &[u8])
+    requires { ⌜ 2 ≤ length (now line) ⌝ }
+{
+    let cells = word(line, 2);
+    let octets = word(line, cells.next);
+    name(line, octets.next);
+    lend_read(msg, cells.value, octets.value);
+}
+
+// Writes a title and a table as a line says.
+fn write_case(line: &[u8], title: &[u8], table: &[u32])
+    requires { ⌜ 2 ≤ length (now line) ⌝ }
+{
+    let song = word(line, 2);
+    let unicode = word(line, song.next);
+    let room = word(line, unicode.next);
+    name(line, room.next);
+    lend_write(song.value, unicode.value == 1, title, table, room.value);
+}
+
+// Makes the call that a line says with what is in hand, and ends the line of output.
+fn call(line: &[u8], hand: InHand, octets: &[u8], cells: &[u32])
+    requires { ⌜ 2 ≤ length (now line) ⌝ }
+{
+    let octets_end = hand.octets;
+    let cells_end = hand.cells;
+    if octets.len() < octets_end {
+        return;
+    }
+    if cells.len() < cells_end {
+        return;
+    }
+    if line[0] == b'r' {
+        read_case(line, &octets[0..octets_end]);
+    } else {
+        write_case(line, &octets[0..octets_end], &cells[0..cells_end]);
+    }
+    io::write_all(1, b"\n");
+}
+
+// Does what a line says, and answers what is then in hand.
+fn act(line: &[u8], hand: InHand, octets: &mut [u8; 4100], cells: &mut [u32; 4100]) -> InHand {
+    if line.len() < 2 {
+        return hand;
+    }
+    let letter = line[0];
+    if letter == b'#' {
+        return hand;
+    }
+    if letter == b'o' || letter == b'c' {
+        return add_times(line, hand, octets, cells);
+    }
+    call(line, hand, octets, cells);
+    InHand {
+        octets: 0,
+        cells: 0,
+    }
+}
+
+// Does what each line of a text says.
+fn run(text: &[u8]) {
+    let mut octets = [0u8; 4100];
+    let mut cells = [0u32; 4100];
+    let mut hand = InHand {
+        octets: 0,
+        cells: 0,
+    };
+    let mut at = 0;
+    while at < text.len() {
+        let end = line_end(text, at);
+        hand = act(&text[at..end], hand, &mut octets, &mut cells);
+        at = end + 1;
+    }
+}
+
+fn main() {
+    let mut text = [0u8; 32768];
+    let n = io::read_full(0, &mut text);
+    run(&text[..n]);
+    if n == text.len() {
+        io::write_all(1, b"there may be more cases than there is room for\n");
+    }
+}
