@@ -14,12 +14,13 @@ use Rattle.bits.specs.Bits.{bitsOf, octets, Octets, octetsTo}
 use Rattle.bits.specs.Lent.{over}
 use Rattle.bits.specs.Outcome.{Outcome, accepted, refused}
 use Rattle.bits.specs.declared.BitPlace.{BitPlace}
+use Rattle.bits.specs.declared.OctetCount.{OctetCount}
 use Rattle.bits.proofs.Octets.{length-bitsOf}
 use Rattle.tone.specs.Tone.{Tone, frontOf, cells, Formed}
 use Rattle.tone.specs.Writing.{tableBits, frontBits, songBits, endBits, toneBits, toneLength, toneOctets, mostOctets, WellFormed}
 use Rattle.tone.specs.Reading.{readTone}
 use Rattle.tone.proofs.Demand2.{octets-are, written-is-accepted, length-toneOctets}
-use Rattle.reading.specs.Answers.{Within, place}
+use Rattle.reading.specs.Answers.{Within, place, octetCount}
 use Rattle.reader.specs.declared.Judged.{Judged}
 use Rattle.reader.specs.declared.Judged.the-variants.{Sound, Faulty}
 use Rattle.reader.specs.Judging.{judgedOf}
@@ -41,7 +42,7 @@ use Rattle.editing.specs.Change.{changed}
 use Rattle.editing.specs.Editing.{Edited, editTone, inBuffer, beside, withList, andThen, editMessage, cleared, bufferAfter, listAfter}
 use Rattle.editing.specs.Places.{Built, joined, toneIn, toneOf, Accepted}
 use Rattle.editing.specs.Plan.{Known, CanBuild, Going, Plans}
-use Rattle.editing.specs.Promise.{numbersOf, editNumbers, editAnswer, octetCount, Leaves, EditPromise}
+use Rattle.editing.specs.Promise.{numbersOf, editNumbers, editAnswer, Leaves, EditPromise}
 use Rattle.editing.proofs.Changes.{cleared-over}
 use Rattle.editing.proofs.Builds.{length-joined}
 
@@ -177,7 +178,7 @@ module _ (buf list : List ℕ) (used : ℕ) (ed : Edit) (k i : ℕ) where
             let e₂ : p ≡ place p′ = cc in
             leaves (refused n′ p′) used buf list buf list (Refused n p) (cc) refl refl
 
-    module _ {j : Judged} {s : ℕ} {u : Bool} {o ps es : ℕ} {f : BitPlace} (q : j ≡ judgedOf (readTone (take used buf))) (g : j ≡ Sound s u o ps es f) where
+    module _ {j : Judged} {s : ℕ} {u : Bool} {o : OctetCount} {ps es : ℕ} {f : BitPlace} (q : j ≡ judgedOf (readTone (take used buf))) (g : j ≡ Sound s u o ps es f) where
       there : SoundThere (take used buf) s u o ps es f
       there = sound-there (take used buf) (sym g ∙ q)
 

@@ -4,10 +4,9 @@ use mathlib.Core.Path.{_≡_}
 use mathlib.Core.List.{List}
 use lib.ListN.{length}
 use lib.IntN.{ℤ, pos, _-ℤ_}
-use Rattle.bits.specs.declared.OctetCount.{OctetCount}
 use Rattle.bits.specs.Outcome.{Outcome, accepted, refused}
 use Rattle.tone.specs.Writing.{toneLength}
-use Rattle.reading.specs.Answers.{place}
+use Rattle.reading.specs.Answers.{place, octetCount}
 use Rattle.editing.specs.declared.Edit.{Edit}
 use Rattle.editing.specs.declared.Answer.{Answer}
 use Rattle.editing.specs.declared.Answer.the-variants.{Edited as Made, Refused}
@@ -38,10 +37,6 @@ editNumbers used (accepted d) = record {
   change = pos (toneLength (d .tone)) -ℤ pos used;
 }
 editNumbers used (refused n p) = record { refusal = n; place = p; length = 0; entries = 0; mark = 0; change = pos 0 }
-
--- a number as an octet count
-abbrev pub octetCount : ℕ → OctetCount
-octetCount n = record { 0 = n }
 
 -- the answer to an outcome
 abbrev pub editAnswer : ℕ → Outcome Edited → Answer

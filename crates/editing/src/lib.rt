@@ -195,11 +195,12 @@ fn find_spot(msg: &[u8], next: BitPlace, i: usize, r: usize, n: usize) -> Spot
 
 // ---- copying
 
-// Copies the first `n` octets.
-fn copy_octets(from: &[u8], n: usize, to: &mut [u8])
-    requires { ⌜ (n ≤ length (now from)) × (n ≤ length (now to)) ⌝ }
-    ensures { λ _. ⌜ now (to .exit) ≡ over (take n (now (from .entry))) (now (to .entry)) ⌝ }
+// Copies so many octets from the front.
+fn copy_octets(from: &[u8], octets: OctetCount, to: &mut [u8])
+    requires { ⌜ (octets .0 ≤ length (now from)) × (octets .0 ≤ length (now to)) ⌝ }
+    ensures { λ _. ⌜ now (to .exit) ≡ over (take (octets .0) (now (from .entry))) (now (to .entry)) ⌝ }
 {
+    let n = octets.0;
     let mut i: usize = 0;
     while i < n {
         to[i] = from[i];
@@ -228,48 +229,55 @@ fn copy_bits(msg: &[u8], at: BitPlace, n: usize, out: &mut [u8], sink: Sink) -> 
     bits::put(out, s, left as u32, bits::part(x, 0, left as u32))
 }
 
-// Copies the first `n` bits of a message to the start of a buffer.
-fn copy_front(msg: &[u8], n: usize, out: &mut [u8]) -> Sink
-    requires { ⌜ (n ≤ placeAfter (length (now msg))) × (length (now msg) < 2 ^ 60) × (n ≤ placeAfter (length (now out))) ⌝ }
-    ensures { λ r. ⌜ Begun (take n (bitsOf (now (msg .entry)))) (now (out .exit)) (r .octets .0) (r .n) (r .acc) ⌝ }
+// Copies the bits of a message up to a place to the start of a buffer.
+fn copy_front(msg: &[u8], end: BitPlace, out: &mut [u8]) -> Sink
+    requires { ⌜ (end .0 ≤ placeAfter (length (now msg))) × (length (now msg) < 2 ^ 60) × (end .0 ≤ placeAfter (length (now out))) ⌝ }
+    ensures { λ r. ⌜ Begun (take (end .0) (bitsOf (now (msg .entry)))) (now (out .exit)) (r .octets .0) (r .n) (r .acc) ⌝ }
 {
-    let whole = bits::octets_before(BitPlace(n));
-    copy_octets(msg, whole.0, out);
+    let whole = bits::octets_before(end);
+    copy_octets(msg, whole, out);
     let at = bits::place_after(whole);
     let s = Sink {
         octets: whole,
         n: 0,
         acc: 0,
     };
-    copy_bits(msg, at, n - at.0, out, s)
+    copy_bits(msg, at, end.0 - at.0, out, s)
 }
 
 // ---- building a message anew
 
 // The bits ahead of a header, and the header.
-fn put_header(msg: &[u8], head: usize, cell: u32, out: &mut [u8]) -> Sink
-    requires { ⌜ (head ≤ placeAfter (length (now msg))) × (length (now msg) < 2 ^ 60) × (cell < 2 ^ 17) × (head + 17 ≤ placeAfter (length (now out))) ⌝ }
-    ensures { λ r. ⌜ Begun (headed (bitsOf (now (msg .entry))) head cell) (now (out .exit)) (r .octets .0) (r .n) (r .acc) ⌝ }
+fn put_header(msg: &[u8], head: BitPlace, cell: u32, out: &mut [u8]) -> Sink
+    requires { ⌜ (head .0 ≤ placeAfter (length (now msg))) × (length (now msg) < 2 ^ 60) × (cell < 2 ^ 17) × (head .0 + 17 ≤ placeAfter (length (now out))) ⌝ }
+    ensures { λ r. ⌜ Begun (headed (bitsOf (now (msg .entry))) (head .0) cell) (now (out .exit)) (r .octets .0) (r .n) (r .acc) ⌝ }
 {
     let s = copy_front(msg, head, out);
     bits::put(out, s, 17, cell)
 }
 
 // Then the bits up to a place.
-fn put_ahead(msg: &[u8], head: usize, cell: u32, at: usize, out: &mut [u8]) -> Sink
-    requires { ⌜ (head + 17 ≤ at) × (at ≤ placeAfter (length (now msg))) × (length (now msg) < 2 ^ 60) × (cell < 2 ^ 17) × (at ≤ placeAfter (length (now out))) ⌝ }
-    ensures { λ r. ⌜ Begun (reached (bitsOf (now (msg .entry))) head cell at) (now (out .exit)) (r .octets .0) (r .n) (r .acc) ⌝ }
+fn put_ahead(msg: &[u8], head: BitPlace, cell: u32, at: BitPlace, out: &mut [u8]) -> Sink
+    requires { ⌜ (head .0 + 17 ≤ at .0) × (at .0 ≤ placeAfter (length (now msg))) × (length (now msg) < 2 ^ 60) × (cell < 2 ^ 17) × (at .0 ≤ placeAfter (length (now out))) ⌝ }
+    ensures { λ r. ⌜ Begun (reached (bitsOf (now (msg .entry))) (head .0) cell (at .0)) (now (out .exit)) (r .octets .0) (r .n) (r .acc) ⌝ }
 {
     let s = put_header(msg, head, cell, out);
-    let behind = head + 17;
-    copy_bits(msg, BitPlace(behind), at - behind, out, s)
+    let behind = BitPlace(head.0 + 17);
+    copy_bits(msg, behind, at.0 - behind.0, out, s)
 }
 
 // Then a piece.
-fn put_piece(msg: &[u8], head: usize, cell: u32, at: usize, piece: Piece, out: &mut [u8]) -> Sink
-    requires { ⌜ (head + 17 ≤ at) × (at ≤ placeAfter (length (now msg))) × (length (now msg) < 2 ^ 60) × (cell < 2 ^ 17) × (at + piece .width ≤ placeAfter (length (now out))) ⌝ }
+fn put_piece(
+    msg: &[u8],
+    head: BitPlace,
+    cell: u32,
+    at: BitPlace,
+    piece: Piece,
+    out: &mut [u8],
+) -> Sink
+    requires { ⌜ (head .0 + 17 ≤ at .0) × (at .0 ≤ placeAfter (length (now msg))) × (length (now msg) < 2 ^ 60) × (cell < 2 ^ 17) × (at .0 + piece .width ≤ placeAfter (length (now out))) ⌝ }
     requires { ⌜ (piece .width ≤ 17) × (piece .value < 2 ^ piece .width) ⌝ }
-    ensures { λ r. ⌜ Begun (pieced (bitsOf (now (msg .entry))) head cell at (piece .width) (piece .value)) (now (out .exit)) (r .octets .0) (r .n) (r .acc) ⌝ }
+    ensures { λ r. ⌜ Begun (pieced (bitsOf (now (msg .entry))) (head .0) cell (at .0) (piece .width) (piece .value)) (now (out .exit)) (r .octets .0) (r .n) (r .acc) ⌝ }
 {
     let s = put_ahead(msg, head, cell, at, out);
     bits::put(out, s, piece.width, piece.value)
@@ -289,8 +297,9 @@ fn build(
     requires { ⌜ octetsTo (spot .at .0 + piece .width + (spot .end .0 - spot .behind .0)) + 1 ≤ length (now out) ⌝ }
     ensures { λ r. ⌜ Built (joined (bitsOf (now (msg .entry))) (header .0) cell (spot .at .0) (piece .width) (piece .value) (spot .behind .0) (spot .end .0)) (now (out .exit)) (r .0) ⌝ }
 {
-    let s = put_piece(msg, header.0, cell, spot.at.0, piece, out);
+    let at = spot.at;
     let behind = spot.behind;
+    let s = put_piece(msg, header, cell, at, piece, out);
     let n = spot.end.0 - behind.0;
     let t = copy_bits(msg, behind, n, out, s);
     bits::seal(out, t)
@@ -412,13 +421,14 @@ fn change(new: OctetCount, old: OctetCount) -> i32
     new.0 as i32 - old.0 as i32
 }
 
-// Zeros from one place of a buffer up to another.
-fn clear(buf: &mut [u8], from: usize, to: usize)
-    requires { ⌜ to ≤ length (now buf) ⌝ }
-    ensures { λ _. ⌜ now (buf .exit) ≡ cleared from to (now (buf .entry)) ⌝ }
+// Zeros behind so many octets of a buffer, up to so many.
+fn clear(buf: &mut [u8], from: OctetCount, to: OctetCount)
+    requires { ⌜ to .0 ≤ length (now buf) ⌝ }
+    ensures { λ _. ⌜ now (buf .exit) ≡ cleared (from .0) (to .0) (now (buf .entry)) ⌝ }
 {
-    let mut i = from;
-    while i < to {
+    let end = to.0;
+    let mut i = from.0;
+    while i < end {
         buf[i] = 0;
         i += 1;
     }
@@ -432,14 +442,14 @@ fn finish(buf: &mut [u8], used: OctetCount, new: &[u8], list: &mut [u32]) -> Ans
     match playing::list(new, list) {
         Listed::Refused { number, place } => Answer::Refused { number, place },
         Listed::Made { entries, mark } => {
-            let n = new.len();
-            copy_octets(new, n, buf);
-            clear(buf, n, used.0);
+            let length = OctetCount(new.len());
+            copy_octets(new, length, buf);
+            clear(buf, length, used);
             Answer::Edited {
-                length: OctetCount(n),
+                length,
                 entries,
                 mark,
-                change: change(OctetCount(n), used),
+                change: change(length, used),
             }
         }
     }

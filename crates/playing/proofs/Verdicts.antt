@@ -10,6 +10,7 @@ use borrow.Author.Tests.{le-ltb, eq-eqb}
 use Rattle.bits.specs.Bits.{bitsOf, placeAfter}
 use Rattle.bits.specs.Outcome.{Outcome, accepted, refused}
 use Rattle.bits.specs.declared.BitPlace.{BitPlace}
+use Rattle.bits.specs.declared.OctetCount.{OctetCount}
 use Rattle.tone.specs.Tone.{Pattern, Tone, Front, noneKnown}
 use Rattle.tone.specs.Writing.{mostOctets}
 use Rattle.tone.specs.Reading.{Got, got, bad, front, patternsDue, ending, rest, wholeTone, readTone}
@@ -52,7 +53,7 @@ counted-there f (got ps p) {q = q} e = let z : q ≡ place p = cc in record { pa
 counted-there f (bad n p e′) e = let z : _≡_ {A = ℕ} 0 1 = cc in absurd (omega arith)
 
 -- a front that was opened
-opened-there : (x : Got Front) {s : ℕ} {u : Bool} {o c : ℕ} {q : BitPlace} → Opened s u o c q ≡ openingOf x → (f : Front) × (x ≡ got f (q .0)) × (c ≡ f .count)
+opened-there : (x : Got Front) {s : ℕ} {u : Bool} {o : OctetCount} {c : ℕ} {q : BitPlace} → Opened s u o c q ≡ openingOf x → (f : Front) × (x ≡ got f (q .0)) × (c ≡ f .count)
 opened-there (got f p) {q = q} e = let z : q ≡ place p = cc in (f, rw z refl, cc)
 opened-there (bad n p e′) e = let z : _≡_ {A = ℕ} 0 1 = cc in absurd (omega arith)
 
@@ -106,7 +107,7 @@ module _ (m : List ℕ) (short : length m ≤ mostOctets) {o : Opening} (q : o �
   pub verdict-closed : {n : ℕ} {f : BitPlace} → o ≡ Closed n f → Faulty n f ≡ verdictOf (readTone m)
   verdict-closed g = as-refused (readTone m) (judge-closed m short q g)
 
-  module _ {song : ℕ} {unicode : Bool} {octets count : ℕ} {f : BitPlace} (g : o ≡ Opened song unicode octets count f) {s : Tally} (q′ : s ≡ tallyAs total (rest count (bitsOf m) (f .0))) where
+  module _ {song : ℕ} {unicode : Bool} {octets : OctetCount} {count : ℕ} {f : BitPlace} (g : o ≡ Opened song unicode octets count f) {s : Tally} (q′ : s ≡ tallyAs total (rest count (bitsOf m) (f .0))) where
     pub verdict-bad : {n : ℕ} {f′ : BitPlace} → s ≡ Stopped n f′ → Faulty n f′ ≡ verdictOf (readTone m)
     verdict-bad g′ =
         let b = stopped-there total (rest count (bitsOf m) (f .0)) (sym g′ ∙ q′) in

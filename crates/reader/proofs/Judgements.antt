@@ -11,6 +11,7 @@ use borrow.Author.Tests.{lt-ltb, le-ltb, eq-eqb, ne-eqb}
 use Rattle.bits.specs.Bits.{bitsOf, placeAfter}
 use Rattle.bits.specs.Outcome.{accepted, refused}
 use Rattle.bits.specs.declared.BitPlace.{BitPlace}
+use Rattle.bits.specs.declared.OctetCount.{OctetCount}
 use Rattle.bits.proofs.Octets.{length-bitsOf}
 use Rattle.tone.specs.Tone.{Pattern, Tone, Front, frontOf, noneKnown}
 use Rattle.tone.specs.Writing.{frontBits, mostOctets}
@@ -23,7 +24,7 @@ use Rattle.reading.specs.declared.Opening.{Opening}
 use Rattle.reading.specs.declared.Opening.the-variants.{Opened, Closed}
 use Rattle.reader.specs.declared.Judged.{Judged}
 use Rattle.reader.specs.declared.Judged.the-variants.{Sound, Faulty}
-use Rattle.reading.specs.Answers.{Within, place, stepAs, entries, openingOf}
+use Rattle.reading.specs.Answers.{Within, place, stepAs, entries, openingOf, octetCount}
 use Rattle.reader.specs.Judging.{judgedOf}
 use Rattle.reading.proofs.Steps.{step-there, step-good, step-bad}
 use Rattle.reading.proofs.Walks.{stays}
@@ -39,10 +40,11 @@ record FrontThere (x : Got Front) (s : ℕ) (u : Bool) (o c at : ℕ) : Type 0 w
   octets : o ≡ length (front .title)
   count : c ≡ front .count
 
-open-good : (x : Got Front) {s : ℕ} {u : Bool} {o c : ℕ} {q : BitPlace} → Opened s u o c q ≡ openingOf x → FrontThere x s u o c (q .0)
+open-good : (x : Got Front) {s : ℕ} {u : Bool} {o : OctetCount} {c : ℕ} {q : BitPlace} → Opened s u o c q ≡ openingOf x → FrontThere x s u (o .0) c (q .0)
 open-good (got f p) {s} {u} {o} {c} {q} e =
     let z : q ≡ place p = cc in
-    record { front = f; there = rw z refl; song = cc; unicode = cc; octets = cc; count = cc }
+    let y : o ≡ octetCount (length (f .title)) = cc in
+    record { front = f; there = rw z refl; song = cc; unicode = cc; octets = ap (λ (x : OctetCount). x .0) y; count = cc }
 open-good (bad n p e′) e = let z : _≡_ {A = ℕ} 0 1 = cc in absurd (omega arith)
 
 open-bad : (x : Got Front) {n : ℕ} {q : BitPlace} → Closed n q ≡ openingOf x → (e : ℕ) × (x ≡ bad n (q .0) e)
@@ -58,8 +60,8 @@ module _ (m : List ℕ) (short : length m ≤ mostOctets) {o : Opening} (q : o �
   unfolding readTone wholeTone
   judge-closed g = let b = open-bad (front (bitsOf m) 0) (sym g ∙ q) in rw (le-ltb mostOctets (length m) short, b .1)
 
-  module _ {song : ℕ} {unicode : Bool} {octets count : ℕ} {f : BitPlace} (g : o ≡ Opened song unicode octets count f) where
-    opened : FrontThere (front (bitsOf m) 0) song unicode octets count (f .0)
+  module _ {song : ℕ} {unicode : Bool} {octets : OctetCount} {count : ℕ} {f : BitPlace} (g : o ≡ Opened song unicode octets count f) where
+    opened : FrontThere (front (bitsOf m) 0) song unicode (octets .0) count (f .0)
     opened = open-good (front (bitsOf m) 0) (sym g ∙ q)
 
     pub judge-within : Within m (f .0)
@@ -95,7 +97,7 @@ module _ (m : List ℕ) (short : length m ≤ mostOctets) {o : Opening} (q : o �
             ap (λ (x : Front). place (length (frontBits x))) same ∙ ap place (sym (front-exact .sound (bitsOf m) 0 (omega arith) (opened .there) .end ∙ zero-add (length (frontBits fr)))) in
             let e₁ = opened .song in
             let e₂ = opened .unicode in
-            let e₃ = opened .octets in
+            let e₃ : octets ≡ octetCount (length (fr .title)) = ap octetCount (opened .octets) in
             let e₄ = closed .2 in
             rw (le-ltb mostOctets (length m) short, opened .there, ← opened .count, closed .1, ← e, eq-eqb (f′ .0) end h) (cc)
 

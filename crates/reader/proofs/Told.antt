@@ -15,6 +15,7 @@ use Rattle.bits.specs.Bits.{bitsN, bitsOf, Octets}
 use Rattle.bits.specs.Lent.{over}
 use Rattle.bits.specs.Outcome.{Outcome, accepted, refused}
 use Rattle.bits.specs.declared.BitPlace.{BitPlace}
+use Rattle.bits.specs.declared.OctetCount.{OctetCount}
 use Rattle.bits.proofs.Numbers.{length-bits}
 use Rattle.bits.proofs.Octets.{length-bitsOf}
 use Rattle.tone.specs.Table.{kind, payload, width, allowed, InTable}
@@ -27,7 +28,7 @@ use Rattle.reader.specs.declared.Judged.{Judged}
 use Rattle.reader.specs.declared.Judged.the-variants.{Sound, Faulty}
 use Rattle.reader.specs.declared.Reading.{Reading}
 use Rattle.reader.specs.declared.Reading.the-variants.{Read, Refused}
-use Rattle.reading.specs.Answers.{Within, place, entries}
+use Rattle.reading.specs.Answers.{Within, place, entries, octetCount}
 use Rattle.reader.specs.Judging.{judgedOf, Entries, TableAt, OctetsAt, tableOf, titleOf}
 use Rattle.reader.specs.Promise.{roomed, readInto, numbers, readNumbers, readAnswer, tableAfter, titleAfter, ReadPromise}
 
@@ -125,23 +126,24 @@ module _ (m : List ℕ) (t : Tone) (w : Told m t) where
 -- ---- what `read` shows
 
 -- the tone behind a message that was judged sound
-pub record SoundThere (m : List ℕ) (s : ℕ) (u : Bool) (o p e : ℕ) (f : BitPlace) : Type 0 where
+pub record SoundThere (m : List ℕ) (s : ℕ) (u : Bool) (o : OctetCount) (p e : ℕ) (f : BitPlace) : Type 0 where
   pub tone : Tone
   pub told : Told m tone
   pub song : s ≡ tone .song
   pub unicode : u ≡ tone .unicode
-  pub octets : o ≡ length (tone .title)
+  pub octets : o .0 ≡ length (tone .title)
   pub patterns : p ≡ length (tone .patterns)
   pub entries : e ≡ entries (tone .patterns)
   pub place : f .0 ≡ length (frontBits (frontOf tone))
 
-pub sound-there : (m : List ℕ) {s : ℕ} {u : Bool} {o p e : ℕ} {f : BitPlace} → Sound s u o p e f ≡ judgedOf (readTone m) → SoundThere m s u o p e f
+pub sound-there : (m : List ℕ) {s : ℕ} {u : Bool} {o : OctetCount} {p e : ℕ} {f : BitPlace} → Sound s u o p e f ≡ judgedOf (readTone m) → SoundThere m s u o p e f
 sound-there m {s} {u} {o} {p} {e} {f} h = go (readTone m) refl h
   where
     go : (x : Outcome Tone) → readTone m ≡ x → Sound s u o p e f ≡ judgedOf x → SoundThere m s u o p e f
     go (accepted t) q g =
         let z : f ≡ place (length (frontBits (frontOf t))) = cc in
-        record { tone = t; told = told m t q; song = cc; unicode = cc; octets = cc; patterns = cc; entries = cc; place = ap (λ (x : BitPlace). x .0) z }
+        let y : o ≡ octetCount (length (t .title)) = cc in
+        record { tone = t; told = told m t q; song = cc; unicode = cc; octets = ap (λ (x : OctetCount). x .0) y; patterns = cc; entries = cc; place = ap (λ (x : BitPlace). x .0) z }
     go (refused n p′) q g = let z : _≡_ {A = ℕ} 0 1 = cc in absurd (omega arith)
 
 -- the answer to an outcome has the outcome's numbers
@@ -164,14 +166,14 @@ module _ (m table title : List ℕ) {j : Judged} (q : j ≡ judgedOf (readTone m
           let e : Refused n f ≡ Refused n′ (place p) = cc in
           promised m table title table title (Refused n f) (refused n′ p) (rw y refl) e refl refl
 
-  module _ {s : ℕ} {u : Bool} {o p e : ℕ} {f : BitPlace} (g : j ≡ Sound s u o p e f) where
+  module _ {s : ℕ} {u : Bool} {o : OctetCount} {p e : ℕ} {f : BitPlace} (g : j ≡ Sound s u o p e f) where
     there : SoundThere m s u o p e f
     there = sound-there m (sym g ∙ q)
 
     read-fits : length (there .tone .title) ≤ length title → entries (there .tone .patterns) ≤ length table → readInto m (length title) (length table) ≡ accepted (there .tone)
     read-fits a b = rw (there .told .reads, le-leb (length (there .tone .title)) (length title) a, le-leb (entries (there .tone .patterns)) (length table) b)
 
-    pub read-no-title : length title < o → ReadPromise m table title table title (Refused 11 (place 0))
+    pub read-no-title : length title < o .0 → ReadPromise m table title table title (Refused 11 (place 0))
     read-no-title h =
         let l : length title < length (there .tone .title) = rw (← there .octets) h in
         promised m table title table title (Refused 11 (place 0)) (refused 11 0) (rw (there .told .reads, lt-leb (length (there .tone .title)) (length title) l)) refl refl refl
@@ -192,23 +194,23 @@ module _ (m table title : List ℕ) {j : Judged} (q : j ≡ judgedOf (readTone m
         let n = ap length (w .bits) ∙ length-append (frontBits (frontOf (there .tone))) (tableBits (cells (there .tone .patterns)) ++ w .behind) in
         omega (arith, there .place, n, length-bitsOf m)
 
-    pub read-place : 8 + 8 * o ≤ f .0
+    pub read-place : 8 + 8 * o .0 ≤ f .0
     read-place = omega (arith, there .octets, there .place, title-room m (there .tone) (there .told))
 
-    pub read-small : o < 2 ^ 32
+    pub read-small : o .0 < 2 ^ 32
     read-small = let b = there .told .short in omega (arith, read-place, front-short)
 
     pub read-within : Within m (f .0)
     read-within = let b = there .told .short in record { inside = front-short; counted = omega arith }
 
-    module _ {d : ℕ} (h : d + 8 * o + 8 ≡ f .0) where
+    module _ {d : ℕ} (h : d + 8 * o .0 + 8 ≡ f .0) where
       pub read-title-within : Within m d
       read-title-within = let b = there .told .short in record { inside = omega (arith, front-short); counted = omega arith }
 
       pub read-title-at : OctetsAt m d (titleOf m)
       read-title-at = rw (there .told .reads) (title-there m (there .tone) (there .told) d (rw (← there .octets, ← there .place) h))
 
-    pub read-title-octets : o ≡ length (titleOf m)
+    pub read-title-octets : o .0 ≡ length (titleOf m)
     read-title-octets = rw (there .told .reads) (there .octets)
 
     pub read-table-entries : e ≡ length (tableOf m)
@@ -217,17 +219,17 @@ module _ (m table title : List ℕ) {j : Judged} (q : j ≡ judgedOf (readTone m
     pub read-table-at : TableAt m (f .0) (tableOf m)
     read-table-at = rw (there .told .reads) (subst (λ (x : ℕ). TableAt m x (cells (there .tone .patterns))) (sym (there .place)) (table-there m (there .tone) (there .told)))
 
-    pub read-done : {table′ title′ : List ℕ} {k : ℕ} → o ≤ length title → e ≤ length table → title′ ≡ over (titleOf m) title → table′ ≡ over (tableOf m) table → (k ≡ perCharacter u) × (k ≤ 2) × (1 ≤ k)
-        → ReadPromise m table title table′ title′ (Read s u (o / k) p e)
+    pub read-done : {table′ title′ : List ℕ} {k : ℕ} → o .0 ≤ length title → e ≤ length table → title′ ≡ over (titleOf m) title → table′ ≡ over (tableOf m) table → k ≡ o .0 / perCharacter u
+        → ReadPromise m table title table′ title′ (Read s u k p e)
     read-done {table′} {title′} {k} a b c d h =
         let x = there .tone in
         let r = there .told .reads in
         let e₁ = there .song in
         let e₂ = there .unicode in
-        let e₃ : o / k ≡ characters (x .unicode) (x .title) = ap₂ (λ (a b : ℕ). a / b) (there .octets) (h .0 ∙ ap perCharacter e₂) in
+        let e₃ : k ≡ characters (x .unicode) (x .title) = h ∙ ap₂ (λ (a b : ℕ). a / b) (there .octets) (ap perCharacter e₂) in
         let e₄ = there .patterns in
         let e₅ = there .entries in
-        promised m table title table′ title′ (Read s u (o / k) p e) (accepted x)
+        promised m table title table′ title′ (Read s u k p e) (accepted x)
         (read-fits (rw (← there .octets) a) (rw (← there .entries) b)) (cc) (rw r at d) (rw r at c)
 
 pub ruleset readings = (read-faulty, read-no-title, read-no-table, read-place, read-small, read-within, read-title-within, read-title-at, read-title-octets, read-table-entries, read-table-at, read-done)

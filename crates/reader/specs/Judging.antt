@@ -10,14 +10,14 @@ use Rattle.tone.specs.Table.{InTable}
 use Rattle.tone.specs.Tone.{Tone, frontOf, cells}
 use Rattle.tone.specs.Writing.{tableBits, frontBits}
 use Rattle.tone.specs.Reading.{readTone}
-use Rattle.reading.specs.Answers.{place, entries}
+use Rattle.reading.specs.Answers.{place, octetCount, entries}
 use Rattle.reader.specs.declared.Judged.{Judged}
 use Rattle.reader.specs.declared.Judged.the-variants.{Sound, Faulty}
 
 -- a tone that was judged, or the refusal: song type, UNICODE or not, the title's octets, the patterns, the entries, and the place of the first pattern
 abbrev pub judgedOf : Outcome Tone → Judged
 judgedOf (accepted t) =
-    Sound (t .song) (t .unicode) (length (t .title)) (length (t .patterns)) (entries (t .patterns)) (place (length (frontBits (frontOf t))))
+    Sound (t .song) (t .unicode) (octetCount (length (t .title))) (length (t .patterns)) (entries (t .patterns)) (place (length (frontBits (frontOf t))))
 judgedOf (refused n p) = Faulty n (place p)
 
 -- the table and the title of a message that is accepted

@@ -1,10 +1,11 @@
 ghost use mathlib.Core.Path.{_≡_};
 ghost use mathlib.Core.Bool.{Bool};
 ghost use mathlib.Core.List.{List};
-ghost use Prim.Native.Nat.{ℕ, _+_, _*_, _^_, _≤_, _<_};
+ghost use Prim.Native.Nat.{ℕ, _+_, _*_, _/_, _^_, _≤_, _<_};
 ghost use lib.ListN.{length};
 ghost use Rattle.bits.specs.Bits.{bitsOf, placeAfter};
 ghost use Rattle.bits.specs.Lent.{over};
+ghost use Rattle.tone.specs.Tone.{perCharacter};
 ghost use Rattle.tone.specs.Reading.{readTone, front as frontDue, rest as restDue};
 ghost use Rattle.reading.specs.Answers.{Within, openingOf, stepAs, entries as entriesOf};
 ghost use Rattle.reader.specs.Judging.{judgedOf, TableAt, OctetsAt, tableOf, titleOf};
@@ -20,7 +21,7 @@ pub enum Judged {
     Sound {
         song: u32,
         unicode: bool,
-        octets: u32,
+        octets: OctetCount,
         patterns: u32,
         entries: u32,
         at: BitPlace,
@@ -160,12 +161,13 @@ fn fill_table(msg: &[u8], at: BitPlace, n: usize, table: &mut [u32])
     }
 }
 
-// Writes the `n` octets that stand at a place to the title.
-fn fill_title(msg: &[u8], at: BitPlace, n: usize, title: &mut [u8])
+// Writes so many octets that stand at a place to the title.
+fn fill_title(msg: &[u8], at: BitPlace, octets: OctetCount, title: &mut [u8])
     requires { ⌜ Within (now msg) (at .0) ⌝ }
-    requires { ⌜ (n ≤ length (now title)) × (n ≡ length (titleOf (now msg))) × OctetsAt (now msg) (at .0) (titleOf (now msg)) ⌝ }
+    requires { ⌜ (octets .0 ≤ length (now title)) × (octets .0 ≡ length (titleOf (now msg))) × OctetsAt (now msg) (at .0) (titleOf (now msg)) ⌝ }
     ensures { λ _. ⌜ now (title .exit) ≡ over (titleOf (now (msg .entry))) (now (title .entry)) ⌝ }
 {
+    let n = octets.0;
     let mut place = at;
     let mut i: usize = 0;
     while i < n {
@@ -176,11 +178,19 @@ fn fill_title(msg: &[u8], at: BitPlace, n: usize, title: &mut [u8])
 }
 
 // Where a title of so many octets starts, in a front that ends at a place: it stands ahead of the pattern count.
-fn title_place(end: BitPlace, octets: u32) -> BitPlace
-    requires { ⌜ (8 + 8 * octets ≤ end .0) × (octets < 2 ^ 32) ⌝ }
-    ensures { λ r. ⌜ r .0 + 8 * octets + 8 ≡ end .0 ⌝ }
+fn title_place(end: BitPlace, octets: OctetCount) -> BitPlace
+    requires { ⌜ (8 + 8 * octets .0 ≤ end .0) × (octets .0 < 2 ^ 32) ⌝ }
+    ensures { λ r. ⌜ r .0 + 8 * octets .0 + 8 ≡ end .0 ⌝ }
 {
-    BitPlace(end.0 - 8 - bits::place_after(OctetCount(octets as usize)).0)
+    BitPlace(end.0 - 8 - bits::place_after(octets).0)
+}
+
+// How many characters a title of so many octets has.
+fn characters_in(octets: OctetCount, unicode: bool) -> u32
+    requires { ⌜ octets .0 < 2 ^ 32 ⌝ }
+    ensures { λ r. ⌜ r ≡ octets .0 / perCharacter unicode ⌝ }
+{
+    octets.0 as u32 / reading::character_octets(unicode)
 }
 
 // Reads a tone message into a lent table and a lent title.
@@ -200,7 +210,7 @@ pub fn read(msg: &[u8], table: &mut [u32], title: &mut [u8]) -> Reading
             entries,
             at,
         } => {
-            if title.len() < octets as usize {
+            if title.len() < octets.0 {
                 return Reading::Refused {
                     number: 11,
                     place: BitPlace(0),
@@ -212,12 +222,13 @@ pub fn read(msg: &[u8], table: &mut [u32], title: &mut [u8]) -> Reading
                     place: BitPlace(0),
                 };
             }
-            fill_title(msg, title_place(at, octets), octets as usize, title);
+            let characters = characters_in(octets, unicode);
+            fill_title(msg, title_place(at, octets), octets, title);
             fill_table(msg, at, entries as usize, table);
             Reading::Read {
                 song,
                 unicode,
-                characters: octets / reading::character_octets(unicode),
+                characters,
                 patterns,
                 entries,
             }

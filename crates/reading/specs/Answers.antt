@@ -8,6 +8,7 @@ use lib.Dec.{eqb}
 use Rattle.bits.specs.Choice.{pick}
 use Rattle.bits.specs.Bits.{bitsOf, Octets, placeAfter}
 use Rattle.bits.specs.declared.BitPlace.{BitPlace}
+use Rattle.bits.specs.declared.OctetCount.{OctetCount}
 use Rattle.bits.specs.Outcome.{Outcome, accepted, refused}
 use Rattle.reading.specs.declared.Step.{Step}
 use Rattle.reading.specs.declared.Step.the-variants.{Good, Bad}
@@ -29,6 +30,10 @@ pub record Within (m : List ℕ) (at : ℕ) : Type 0 where
 -- a number as a bit place
 abbrev pub place : ℕ → BitPlace
 place p = record { 0 = p }
+
+-- a number as an octet count
+abbrev pub octetCount : ℕ → OctetCount
+octetCount n = record { 0 = n }
 
 -- what was read, as the number that f makes of it, or the refusal
 abbrev pub stepAs : {A : Type 0} → (A → ℕ) → Got A → Step
@@ -59,7 +64,7 @@ commandOf (bad n p e) = Withheld n (place p)
 
 -- the front as the code answers it, or the refusal
 abbrev pub openingOf : Got Front → Opening
-openingOf (got f p) = Opened (f .song) (f .unicode) (length (f .title)) (f .count) (place p)
+openingOf (got f p) = Opened (f .song) (f .unicode) (octetCount (length (f .title))) (f .count) (place p)
 openingOf (bad n p e) = Closed n (place p)
 
 -- ---- what stands at a place of a message that was judged

@@ -32,7 +32,7 @@ pub enum Opening {
     Opened {
         song: u32,
         unicode: bool,
-        octets: u32,
+        octets: OctetCount,
         count: u32,
         next: BitPlace,
     },
@@ -440,7 +440,7 @@ fn titled(msg: &[u8], at: BitPlace, song: u32, unicode: bool) -> Opening
                 Opening::Opened {
                     song,
                     unicode,
-                    octets,
+                    octets: OctetCount(octets as usize),
                     count: value,
                     next,
                 }

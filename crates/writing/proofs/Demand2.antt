@@ -20,14 +20,14 @@ use Rattle.tone.specs.Reading.{readTone}
 use Rattle.tone.proofs.Rows.{and-true, and-is}
 use Rattle.tone.proofs.Tables.{patterns-of-cells}
 use Rattle.tone.proofs.Demand2.{accepted-is-written, written-is-accepted, length-toneOctets, octets-toneOctets}
-use Rattle.reading.specs.Answers.{entries}
+use Rattle.reading.specs.Answers.{octetCount, entries}
 use Rattle.reader.specs.declared.Reading.{Reading}
 use Rattle.reader.specs.declared.Reading.the-variants.{Read, Refused}
 use Rattle.reader.specs.Promise.{roomed, readInto, readAnswer, tableAfter, titleAfter, ReadPromise}
 use Rattle.writing.specs.declared.Writing.{Writing}
 use Rattle.writing.specs.declared.Writing.the-variants.{Written, Refused as Rejected}
 use Rattle.writing.specs.Judging.{toneOf, writeTone}
-use Rattle.writing.specs.Promise.{octetCount, writeAnswer, octetsAfter, WritePromise}
+use Rattle.writing.specs.Promise.{writeAnswer, octetsAfter, WritePromise}
 use Rattle.writing.proofs.Walks.{not-refused}
 use Rattle.writing.proofs.Accepting.{Writable, accepted-is-writable, writable-is-accepted}
 

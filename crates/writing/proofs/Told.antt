@@ -18,14 +18,14 @@ use Rattle.tone.specs.Tone.{Tone, frontOf, cells, patternsOf, perCharacter, cha
 use Rattle.tone.specs.Writing.{tableBits, frontBits, songBits, toneLength, toneOctets, mostOctets}
 use Rattle.tone.proofs.Rows.{and-true as conj}
 use Rattle.tone.proofs.Fronts.{song-fine}
-use Rattle.reading.specs.Answers.{place}
+use Rattle.reading.specs.Answers.{place, octetCount}
 use Rattle.writing.specs.declared.Judged.{Judged}
 use Rattle.writing.specs.declared.Judged.the-variants.{Sound, Faulty}
 use Rattle.writing.specs.declared.Writing.{Writing}
 use Rattle.writing.specs.declared.Writing.the-variants.{Written, Refused}
 use Rattle.writing.specs.Judging.{songFine, titleFine, judgeTable, sized, toneOf, writeTone}
 use Rattle.writing.specs.Answers.{frontLength, atMost, judgedOf}
-use Rattle.writing.specs.Promise.{numbers, writeNumbers, octetCount, writeAnswer, octetsAfter, WritePromise}
+use Rattle.writing.specs.Promise.{numbers, writeNumbers, writeAnswer, octetsAfter, WritePromise}
 use Rattle.writing.proofs.GoodTables.{judged-is-good}
 use Rattle.writing.proofs.Accepting.{table-place}
 use Rattle.writing.proofs.Pieces.{plus-ten}

@@ -6,10 +6,9 @@ use mathlib.Core.List.{List}
 use lib.ListN.{length}
 use Rattle.bits.specs.Lent.{over}
 use Rattle.bits.specs.Outcome.{Outcome, accepted, refused}
-use Rattle.bits.specs.declared.OctetCount.{OctetCount}
 use Rattle.tone.specs.Tone.{Tone}
 use Rattle.tone.specs.Writing.{toneLength, toneOctets}
-use Rattle.reading.specs.Answers.{place}
+use Rattle.reading.specs.Answers.{place, octetCount}
 use Rattle.writing.specs.declared.Writing.{Writing}
 use Rattle.writing.specs.declared.Writing.the-variants.{Written, Refused}
 use Rattle.writing.specs.Judging.{writeTone}
@@ -29,10 +28,6 @@ numbers (Refused n p) = record { refusal = n; place = p .0; octets = 0 }
 abbrev pub writeNumbers : Outcome Tone → Numbers
 writeNumbers (accepted t) = record { refusal = 0; place = 0; octets = toneLength t }
 writeNumbers (refused n p) = record { refusal = n; place = p; octets = 0 }
-
--- a number of octets
-abbrev pub octetCount : ℕ → OctetCount
-octetCount n = record { 0 = n }
 
 -- the answer to an outcome
 abbrev pub writeAnswer : Outcome Tone → Writing

@@ -329,13 +329,13 @@ fn titled(song: u32, unicode: bool, title: &[u8]) -> bool
 }
 
 // The bits ahead of the patterns, with so many octets of title.
-fn front_bits(song: u32, unicode: bool, octets: usize) -> usize
-    requires { ⌜ octets < 2 ^ 60 ⌝ }
-    ensures { λ r. ⌜ r ≡ frontLength song unicode octets ⌝ }
+fn front_bits(song: u32, unicode: bool, octets: OctetCount) -> usize
+    requires { ⌜ octets .0 < 2 ^ 60 ⌝ }
+    ensures { λ r. ⌜ r ≡ frontLength song unicode (octets .0) ⌝ }
 {
     let lead = lead_bits(unicode) as usize;
     if song == 1 {
-        return lead + 22 + bits::place_after(OctetCount(octets)).0;
+        return lead + 22 + bits::place_after(octets).0;
     }
     lead + 18
 }
@@ -351,7 +351,7 @@ fn save(song: u32, unicode: bool, title: &[u8], table: &[u32], out: &mut [u8]) -
             place: BitPlace(0),
         },
         Judged::Sound { patterns, bits } => {
-            let end = BitPlace(front_bits(song, unicode, title.len()) + bits);
+            let end = BitPlace(front_bits(song, unicode, OctetCount(title.len())) + bits);
             let octets = bits::octets_to(end).0 + 1;
             if 4096 < octets {
                 return Writing::Refused {

@@ -6,10 +6,10 @@ use Prim.Native.Nat.{_-_}
 use Rattle.editing.proofs.Changes.{Clearing, clears}
 
 abbrev Inv-loop : tie.InvT-loop
-Inv-loop buf₀ from to i₀ buf i = Clearing i₀ to buf₀ buf i
+Inv-loop buf₀ end i₀ buf i = Clearing i₀ end buf₀ buf i
 
 abbrev μ-loop : tie.MeasureT-loop
-μ-loop buf₀ from to i₀ buf i = to - i
+μ-loop buf₀ end i₀ buf i = end - i
 
 loop-holds : tie.Need-loop-holds Inv-loop μ-loop
 loop-holds c = search (clears, needs)

@@ -7,10 +7,10 @@ use Rattle.editing.proofs.Copies.{OctetCopy, octets}
 -- `editing::copy_octets` meets its contract. Each turn copies one octet.
 
 abbrev Inv-loop : tie.InvT-loop
-Inv-loop from n to₀ i₀ to i = OctetCopy from n to₀ to i
+Inv-loop from to₀ n i₀ to i = OctetCopy from n to₀ to i
 
 abbrev μ-loop : tie.MeasureT-loop
-μ-loop from n to₀ i₀ to i = n - i
+μ-loop from to₀ n i₀ to i = n - i
 
 loop-holds : tie.Need-loop-holds Inv-loop μ-loop
 loop-holds c = search (octets, needs)

@@ -13,7 +13,7 @@ put-requires c κs =
     let b = c .before .before .before .copy-front .ensures in
     let p = c .before .before .before .before .before .before .before .pre in
     let a = c .before .before .before .before .before .before .before .args in
-    (b .hand, (omega arith, p .2, omega (arith, b .place, length-front (a .msg .now) (a .head) (a .cell) 0 (p .0), c .before .before .before .copy-front .kept .1 .1 .0)))
+    (b .hand, (omega arith, p .2, omega (arith, b .place, length-front (a .msg .now) (a .head .0) (a .cell) 0 (p .0), c .before .before .before .copy-front .kept .1 .1 .0)))
 
 same-length : tie.Need-same-length
 same-length c = search needs

@@ -13,7 +13,7 @@ put-requires c κs =
     let b = c .before .before .before .put-ahead .ensures in
     let p = c .before .before .before .before .before .before .before .pre in
     let a = c .before .before .before .before .before .before .before .args in
-    (b .hand, (omega arith, p .1 .1, omega (arith, b .place, length-reached (a .msg .now) (a .head) (a .cell) (a .at) (p .0 .0) (p .0 .1), c .before .before .before .put-ahead .kept .1 .1 .1 .1 .0)))
+    (b .hand, (omega arith, p .1 .1, omega (arith, b .place, length-reached (a .msg .now) (a .head .0) (a .cell) (a .at .0) (p .0 .0) (p .0 .1), c .before .before .before .put-ahead .kept .1 .1 .1 .1 .0)))
 
 same-length : tie.Need-same-length
 same-length c = search needs

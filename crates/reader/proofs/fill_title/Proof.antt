@@ -7,10 +7,10 @@ use Rattle.reader.specs.Judging.{titleOf}
 use Rattle.reader.proofs.Filling.{TitleFill, titles}
 
 abbrev Inv-loop : tie.InvT-loop
-Inv-loop msg n title₀ place₀ i₀ title place i = TitleFill msg (titleOf msg) n title₀ title (place .0) i
+Inv-loop msg title₀ n place₀ i₀ title place i = TitleFill msg (titleOf msg) n title₀ title (place .0) i
 
 abbrev μ-loop : tie.MeasureT-loop
-μ-loop msg n title₀ place₀ i₀ title place i = n - i
+μ-loop msg title₀ n place₀ i₀ title place i = n - i
 
 loop-holds : tie.Need-loop-holds Inv-loop μ-loop
 loop-holds c = search (titles, needs)
@@ -27,8 +27,8 @@ cast-title c = search (titles, needs)
 slice-write-title : tie.Need-slice-write-title Inv-loop μ-loop
 slice-write-title c = search (titles, needs)
 
-add-t12 : tie.Need-add-t12 Inv-loop μ-loop
-add-t12 c = search (titles, needs)
+add-t13 : tie.Need-add-t13 Inv-loop μ-loop
+add-t13 c = search (titles, needs)
 
 add-i : tie.Need-add-i Inv-loop μ-loop
 add-i c = search (titles, needs)
@@ -56,7 +56,7 @@ fill-title-spec =
     part-requires
     cast-title
     slice-write-title
-    add-t12
+    add-t13
     add-i
     loop-less
     loop-again

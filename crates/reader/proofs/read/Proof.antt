@@ -13,9 +13,6 @@ enum-known-number c = search needs
 enum-known-song : tie.Need-enum-known-song
 enum-known-song c = search needs
 
-cast-if1 : tie.Need-cast-if1
-cast-if1 c = search needs
-
 returns : tie.Need-returns
 returns c = search (readings, needs)
 
@@ -25,11 +22,11 @@ cast-if2 c = search needs
 returns-2 : tie.Need-returns-2
 returns-2 c = search (readings, needs)
 
+characters-in-requires : tie.Need-characters-in-requires
+characters-in-requires c κs = search (readings, needs)
+
 title-place-requires : tie.Need-title-place-requires
 title-place-requires c κs = search (readings, needs)
-
-cast-fill-title : tie.Need-cast-fill-title
-cast-fill-title c = search needs
 
 fill-title-requires : tie.Need-fill-title-requires
 fill-title-requires c κs = search (readings, needs)
@@ -39,12 +36,6 @@ cast-fill-table c = search needs
 
 fill-table-requires : tie.Need-fill-table-requires
 fill-table-requires c κs = search (readings, needs)
-
-character-octets-requires : tie.Need-character-octets-requires
-character-octets-requires c κs = search needs
-
-div-t26 : tie.Need-div-t26
-div-t26 c = search needs
 
 returns-3 : tie.Need-returns-3
 returns-3 c = search (readings, needs)
@@ -65,17 +56,14 @@ read-spec =
     judge-requires
     enum-known-number
     enum-known-song
-    cast-if1
     returns
     cast-if2
     returns-2
+    characters-in-requires
     title-place-requires
-    cast-fill-title
     fill-title-requires
     cast-fill-table
     fill-table-requires
-    character-octets-requires
-    div-t26
     returns-3
     same-length
     same-length-2

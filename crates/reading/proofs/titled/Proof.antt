@@ -25,6 +25,9 @@ enum-known-value c = search needs
 returns : tie.Need-returns
 returns c = search (titles, needs)
 
+cast-t18 : tie.Need-cast-t18
+cast-t18 c = search (titles, needs)
+
 returns-2 : tie.Need-returns-2
 returns-2 c = search (titles, needs)
 
@@ -45,6 +48,7 @@ titled-spec =
     enum-known-number-2
     enum-known-value
     returns
+    cast-t18
     returns-2
     returns-3
     returns-4)

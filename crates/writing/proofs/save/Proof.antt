@@ -16,8 +16,8 @@ enum-known-patterns c = search needs
 front-bits-requires : tie.Need-front-bits-requires
 front-bits-requires c κs = search (savings, needs)
 
-add-t16 : tie.Need-add-t16
-add-t16 c = search (savings, needs)
+add-t17 : tie.Need-add-t17
+add-t17 c = search (savings, needs)
 
 octets-to-requires : tie.Need-octets-to-requires
 octets-to-requires c κs = search (savings, needs)
@@ -51,7 +51,7 @@ save-spec =
     enum-known-number
     enum-known-patterns
     front-bits-requires
-    add-t16
+    add-t17
     octets-to-requires
     add-octets
     returns
