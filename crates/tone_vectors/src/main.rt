@@ -28,93 +28,7 @@ struct InHand {
     cells: usize,
 }
 
-// A number of the text, and where the next word starts.
-struct Parsed {
-    value: u32,
-    next: usize,
-}
-
 // ---- printing
-
-// Prints a number, and a space ahead of it.
-fn number(n: u64) {
-    io::write_all(1, b" ");
-    io::print_decimal(1, n);
-}
-
-// An octet as a wider number, with its bound.
-fn wide(x: u8) -> u64
-    ensures { λ r. ⌜ r < 256 ⌝ }
-{
-    x as u64
-}
-
-// A cell as a wider number, with its bound.
-fn wider(x: u32) -> u64
-    ensures { λ r. ⌜ r < 4294967296 ⌝ }
-{
-    x as u64
-}
-
-// Prints octets, each as two hexadecimal digits.
-fn octets(s: &[u8]) {
-    let mut i = 0;
-    while i < s.len() {
-        io::print_hex(1, wide(s[i]), 2);
-        i += 1;
-    }
-}
-
-// Prints cells.
-fn cells(s: &[u32]) {
-    let mut i = 0;
-    while i < s.len() {
-        number(wider(s[i]));
-        i += 1;
-    }
-}
-
-// Octets as one number, to which each octet and its place matter.
-fn digest(s: &[u8]) -> u64 {
-    let mut d: u64 = 1;
-    let mut i = 0;
-    while i < s.len() {
-        d = (d * 31 + wide(s[i])) % 1000003;
-        i += 1;
-    }
-    d
-}
-
-// The same of cells.
-fn digest_cells(s: &[u32]) -> u64 {
-    let mut d: u64 = 1;
-    let mut i = 0;
-    while i < s.len() {
-        d = (d * 31 + wider(s[i])) % 1000003;
-        i += 1;
-    }
-    d
-}
-
-// Prints a buffer of octets: all of them, or their digest where there are many.
-fn show_octets(s: &[u8]) {
-    io::write_all(1, b": ");
-    if s.len() <= 48 {
-        octets(s);
-        return;
-    }
-    io::print_decimal(1, digest(s));
-}
-
-// The same of cells.
-fn show_cells(s: &[u32]) {
-    io::write_all(1, b":");
-    if s.len() <= 48 {
-        cells(s);
-        return;
-    }
-    number(digest_cells(s));
-}
 
 // Prints the numbers of a reading.
 fn show_reading(answer: Reading) {
@@ -127,15 +41,15 @@ fn show_reading(answer: Reading) {
             entries,
         } => {
             io::write_all(1, b" 0 0");
-            number(song as u64);
-            number(unicode as u64);
-            number(characters as u64);
-            number(patterns as u64);
-            number(entries as u64);
+            vectors::number(song as u64);
+            vectors::number(unicode as u64);
+            vectors::number(characters as u64);
+            vectors::number(patterns as u64);
+            vectors::number(entries as u64);
         }
         Reading::Refused { number: no, place } => {
-            number(no as u64);
-            number(place.0 as u64);
+            vectors::number(no as u64);
+            vectors::number(place.0 as u64);
             io::write_all(1, b" 0 0 0 0 0");
         }
     }
@@ -146,12 +60,12 @@ fn show_writing(answer: Writing) {
     match answer {
         Writing::Written { octets: n } => {
             io::write_all(1, b" 0 0");
-            number(n.0 as u64);
+            vectors::number(n.0 as u64);
         }
         Writing::Refused { number: no, place } => {
-            number(no as u64);
-            number(place.0 as u64);
-            number(0);
+            vectors::number(no as u64);
+            vectors::number(place.0 as u64);
+            vectors::number(0);
         }
     }
 }
@@ -165,8 +79,10 @@ fn read(msg: &[u8], table: &mut [u32], title: &mut [u8])
     let table_end = table.len() - 1;
     let title_end = title.len() - 1;
     show_reading(reader::read(msg, &mut table[1..table_end], &mut title[1..title_end]));
-    show_cells(table);
-    show_octets(title);
+    io::write_all(1, b":");
+    vectors::show_cells(table);
+    io::write_all(1, b":");
+    vectors::show_octets(title);
 }
 
 // Reads a message with so many cells and octets lent.
@@ -190,7 +106,8 @@ fn write(song: u32, unicode: bool, title: &[u8], table: &[u32], out: &mut [u8])
 {
     let end = out.len() - 1;
     show_writing(writing::write(song, unicode, title, table, &mut out[1..end]));
-    show_octets(out);
+    io::write_all(1, b":");
+    vectors::show_octets(out);
 }
 
 // Writes a tone with so many octets lent.
@@ -205,82 +122,7 @@ fn lend_write(song: u32, unicode: bool, title: &[u8], table: &[u32], room: u32) 
 
 // ---- the text
 
-// The value of a digit, hexadecimal or decimal.
-fn digit(x: u8) -> u8
-    ensures { λ r. ⌜ r < 16 ⌝ }
-{
-    if x < b'a' {
-        return x % 16;
-    }
-    (x - 87) % 16
-}
-
-// The number that starts at a place, and the place behind the space that ends it.
-fn word(line: &[u8], at: usize) -> Parsed
-    requires { ⌜ at ≤ length (now line) ⌝ }
-    ensures { λ r. ⌜ (at ≤ r .next) × (r .next ≤ length (now (line .entry))) ⌝ }
-{
-    let mut value: u64 = 0;
-    let mut i = at;
-    while i < line.len() {
-        let x = line[i];
-        i += 1;
-        if x == b' ' {
-            return Parsed {
-                value: value as u32,
-                next: i,
-            };
-        }
-        value = (value * 10 + wide(digit(x))) % 4294967296;
-    }
-    Parsed {
-        value: value as u32,
-        next: i,
-    }
-}
-
-// Where the line that starts at a place ends.
-fn line_end(text: &[u8], at: usize) -> usize
-    requires { ⌜ at ≤ length (now text) ⌝ }
-    ensures { λ r. ⌜ (at ≤ r) × (r ≤ length (now (text .entry))) ⌝ }
-{
-    let mut i = at;
-    while i < text.len() {
-        if text[i] == b'\n' {
-            return i;
-        }
-        i += 1;
-    }
-    i
-}
-
-// The octet that two hexadecimal digits from a place on give; 0 where there is one digit only.
-fn octet_at(line: &[u8], at: usize) -> u8
-    requires { ⌜ at < length (now line) ⌝ }
-{
-    let low = at + 1;
-    if low == line.len() {
-        return 0;
-    }
-    digit(line[at]) * 16 + digit(line[low])
-}
-
-// Puts the octets of a line, from a place on, behind those in a buffer. It answers how many are then in it.
-fn add_octets(line: &[u8], from: usize, buf: &mut [u8], used: usize) -> usize {
-    let mut n = used;
-    let mut i = from;
-    while n < buf.len() {
-        if line.len() <= i {
-            return n;
-        }
-        buf[n] = octet_at(line, i);
-        n += 1;
-        i += 2;
-    }
-    n
-}
-
-// The same of cells.
+// Puts the cells of a line, from a place on, behind those in a table. It answers how many are then in it.
 fn add_cells(line: &[u8], from: usize, table: &mut [u32], used: usize) -> usize
     requires { ⌜ from ≤ length (now line) ⌝ }
 {
@@ -290,8 +132,8 @@ fn add_cells(line: &[u8], from: usize, table: &mut [u32], used: usize) -> usize
         if line.len() <= i {
             return n;
         }
-        let w = word(line, i);
-        table[n] = w.value;
+        let w = vectors::word(line, i);
+        table[n] = vectors::cell(w.value);
         i = w.next;
         n += 1;
     }
@@ -310,7 +152,7 @@ fn add(
 {
     if line[0] == b'o' {
         return InHand {
-            octets: add_octets(line, from, octets, hand.octets),
+            octets: vectors::add_octets(line, from, octets, hand.octets),
             cells: hand.cells,
         };
     }
@@ -324,7 +166,7 @@ fn add(
 fn add_times(line: &[u8], hand: InHand, octets: &mut [u8; 4100], cells: &mut [u32; 4100]) -> InHand
     requires { ⌜ 2 ≤ length (now line) ⌝ }
 {
-    let times = word(line, 2);
+    let times = vectors::word(line, 2);
     let mut h = hand;
     let mut i = 0;
     while i < times.value {
@@ -334,33 +176,31 @@ fn add_times(line: &[u8], hand: InHand, octets: &mut [u8; 4100], cells: &mut [u3
     h
 }
 
-// Prints the name of a case, which a line has from a place on.
-fn name(line: &[u8], at: usize)
-    requires { ⌜ at ≤ length (now line) ⌝ }
-{
-    io::write_all(1, &line[at..]);
-    io::write_all(1, b":");
-}
-
 // Reads a message as a line says.
 fn read_case(line: &[u8], msg: &[u8])
     requires { ⌜ 2 ≤ length (now line) ⌝ }
 {
-    let cells = word(line, 2);
-    let octets = word(line, cells.next);
-    name(line, octets.next);
-    lend_read(msg, cells.value, octets.value);
+    let cells = vectors::word(line, 2);
+    let octets = vectors::word(line, cells.next);
+    vectors::name(line, octets.next);
+    lend_read(msg, vectors::cell(cells.value), vectors::cell(octets.value));
 }
 
 // Writes a title and a table as a line says.
 fn write_case(line: &[u8], title: &[u8], table: &[u32])
     requires { ⌜ 2 ≤ length (now line) ⌝ }
 {
-    let song = word(line, 2);
-    let unicode = word(line, song.next);
-    let room = word(line, unicode.next);
-    name(line, room.next);
-    lend_write(song.value, unicode.value == 1, title, table, room.value);
+    let song = vectors::word(line, 2);
+    let unicode = vectors::word(line, song.next);
+    let room = vectors::word(line, unicode.next);
+    vectors::name(line, room.next);
+    lend_write(
+        vectors::cell(song.value),
+        unicode.value == 1,
+        title,
+        table,
+        vectors::cell(room.value),
+    );
 }
 
 // Makes the call that a line says with what is in hand, and ends the line of output.
@@ -412,7 +252,7 @@ fn run(text: &[u8]) {
     };
     let mut at = 0;
     while at < text.len() {
-        let end = line_end(text, at);
+        let end = vectors::line_end(text, at);
         hand = act(&text[at..end], hand, &mut octets, &mut cells);
         at = end + 1;
     }

@@ -24,6 +24,9 @@ returns c = search needs
 word-requires : tie.Need-word-requires Inv-loop μ-loop
 word-requires c κs = search needs
 
+cell-requires : tie.Need-cell-requires Inv-loop μ-loop
+cell-requires c κs = search needs
+
 mul-table : tie.Need-mul-table Inv-loop μ-loop
 mul-table c = search needs
 
@@ -55,6 +58,7 @@ add-cells-spec =
     same-length
     returns
     word-requires
+    cell-requires
     mul-table
     slice-write-table
     add-n

@@ -1,6 +1,6 @@
--- `tone_vectors::add_octets` meets its contract. The length of the buffer stays, and its room falls.
-use Rattle.tone_vectors.proofs.add_octets.Statement.{statement}
-use Rattle.tone_vectors.proofs.add_octets.Tie as tie
+-- `vectors::add_octets` meets its contract. The length of the buffer stays, and its room falls.
+use Rattle.vectors.proofs.add_octets.Statement.{statement}
+use Rattle.vectors.proofs.add_octets.Tie as tie
 use borrow.Author.Needs.{needs}
 use Prim.Native.Nat.{_-_}
 use mathlib.Core.Path.{_≡_}

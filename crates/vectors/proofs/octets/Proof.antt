@@ -1,6 +1,6 @@
--- `editing_vectors::octets` meets its contract. The octets left fall.
-use Rattle.editing_vectors.proofs.octets.Statement.{statement}
-use Rattle.editing_vectors.proofs.octets.Tie as tie
+-- `vectors::octets` meets its contract. The octets left fall.
+use Rattle.vectors.proofs.octets.Statement.{statement}
+use Rattle.vectors.proofs.octets.Tie as tie
 use borrow.Author.Needs.{needs}
 use Prim.Native.Nat.{_-_}
 use lib.ListN.{length}
@@ -14,11 +14,14 @@ abbrev μ-loop : tie.MeasureT-loop
 loop-holds : tie.Need-loop-holds Inv-loop μ-loop
 loop-holds c = search needs
 
-shared-slice-read-octet : tie.Need-shared-slice-read-octet Inv-loop μ-loop
-shared-slice-read-octet c = search needs
+shared-slice-read-wide : tie.Need-shared-slice-read-wide Inv-loop μ-loop
+shared-slice-read-wide c = search needs
 
-octet-requires : tie.Need-octet-requires Inv-loop μ-loop
-octet-requires c κs = search needs
+wide-requires : tie.Need-wide-requires Inv-loop μ-loop
+wide-requires c κs = search needs
+
+print-hex-requires : tie.Need-print-hex-requires Inv-loop μ-loop
+print-hex-requires c κs = search needs
 
 add-i : tie.Need-add-i Inv-loop μ-loop
 add-i c = search needs
@@ -39,8 +42,9 @@ octets-spec =
     Inv-loop
     μ-loop
     loop-holds
-    shared-slice-read-octet
-    octet-requires
+    shared-slice-read-wide
+    wide-requires
+    print-hex-requires
     add-i
     loop-less
     loop-again

@@ -1,18 +1,21 @@
--- `tone_vectors::cells` meets its contract. The cells left fall.
-use Rattle.tone_vectors.proofs.cells.Statement.{statement}
-use Rattle.tone_vectors.proofs.cells.Tie as tie
+-- `vectors::digest_cells` meets its contract. The number stays below 1,000,003; the cells left fall.
+use Rattle.vectors.proofs.digest_cells.Statement.{statement}
+use Rattle.vectors.proofs.digest_cells.Tie as tie
 use borrow.Author.Needs.{needs}
-use Prim.Native.Nat.{_-_}
+use Prim.Native.Nat.{_-_, _<_}
 use lib.ListN.{length}
 
 abbrev Inv-loop : tie.InvT-loop
-Inv-loop s i₀ i = Unit {0}
+Inv-loop s d₀ i₀ d i = d < 1000003
 
 abbrev μ-loop : tie.MeasureT-loop
-μ-loop s i₀ i = length s - i
+μ-loop s d₀ i₀ d i = length s - i
 
 loop-holds : tie.Need-loop-holds Inv-loop μ-loop
 loop-holds c = search needs
+
+mul-d : tie.Need-mul-d Inv-loop μ-loop
+mul-d c = search needs
 
 mul-wider : tie.Need-mul-wider Inv-loop μ-loop
 mul-wider c = search needs
@@ -23,8 +26,8 @@ shared-slice-read-wider c = search needs
 wider-requires : tie.Need-wider-requires Inv-loop μ-loop
 wider-requires c κs = search needs
 
-number-requires : tie.Need-number-requires Inv-loop μ-loop
-number-requires c κs = search needs
+add-d : tie.Need-add-d Inv-loop μ-loop
+add-d c = search needs
 
 add-i : tie.Need-add-i Inv-loop μ-loop
 add-i c = search needs
@@ -38,17 +41,18 @@ loop-again c = search needs
 returns : tie.Need-returns Inv-loop μ-loop
 returns c = search needs
 
-pub cells-spec : {M : Type 1} → statement M
-cells-spec =
+pub digest-cells-spec : {M : Type 1} → statement M
+digest-cells-spec =
     tie.close
     (tie.spec
     Inv-loop
     μ-loop
     loop-holds
+    mul-d
     mul-wider
     shared-slice-read-wider
     wider-requires
-    number-requires
+    add-d
     add-i
     loop-less
     loop-again

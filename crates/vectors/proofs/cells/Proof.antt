@@ -1,21 +1,18 @@
--- `editing_vectors::digest_list` meets its contract. The number stays below 1,000,003; the cells left fall.
-use Rattle.editing_vectors.proofs.digest_list.Statement.{statement}
-use Rattle.editing_vectors.proofs.digest_list.Tie as tie
+-- `vectors::cells` meets its contract. The cells left fall.
+use Rattle.vectors.proofs.cells.Statement.{statement}
+use Rattle.vectors.proofs.cells.Tie as tie
 use borrow.Author.Needs.{needs}
-use Prim.Native.Nat.{_-_, _<_}
+use Prim.Native.Nat.{_-_}
 use lib.ListN.{length}
 
 abbrev Inv-loop : tie.InvT-loop
-Inv-loop s d₀ i₀ d i = d < 1000003
+Inv-loop s i₀ i = Unit {0}
 
 abbrev μ-loop : tie.MeasureT-loop
-μ-loop s d₀ i₀ d i = length s - i
+μ-loop s i₀ i = length s - i
 
 loop-holds : tie.Need-loop-holds Inv-loop μ-loop
 loop-holds c = search needs
-
-mul-d : tie.Need-mul-d Inv-loop μ-loop
-mul-d c = search needs
 
 mul-wider : tie.Need-mul-wider Inv-loop μ-loop
 mul-wider c = search needs
@@ -26,8 +23,8 @@ shared-slice-read-wider c = search needs
 wider-requires : tie.Need-wider-requires Inv-loop μ-loop
 wider-requires c κs = search needs
 
-add-d : tie.Need-add-d Inv-loop μ-loop
-add-d c = search needs
+number-requires : tie.Need-number-requires Inv-loop μ-loop
+number-requires c κs = search needs
 
 add-i : tie.Need-add-i Inv-loop μ-loop
 add-i c = search needs
@@ -41,18 +38,17 @@ loop-again c = search needs
 returns : tie.Need-returns Inv-loop μ-loop
 returns c = search needs
 
-pub digest-list-spec : {M : Type 1} → statement M
-digest-list-spec =
+pub cells-spec : {M : Type 1} → statement M
+cells-spec =
     tie.close
     (tie.spec
     Inv-loop
     μ-loop
     loop-holds
-    mul-d
     mul-wider
     shared-slice-read-wider
     wider-requires
-    add-d
+    number-requires
     add-i
     loop-less
     loop-again

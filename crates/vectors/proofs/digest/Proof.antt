@@ -1,6 +1,6 @@
--- `tone_vectors::digest` meets its contract. The number stays below 1,000,003; the octets left fall.
-use Rattle.tone_vectors.proofs.digest.Statement.{statement}
-use Rattle.tone_vectors.proofs.digest.Tie as tie
+-- `vectors::digest` meets its contract. The number stays below 1,000,003; the octets left fall.
+use Rattle.vectors.proofs.digest.Statement.{statement}
+use Rattle.vectors.proofs.digest.Tie as tie
 use borrow.Author.Needs.{needs}
 use Prim.Native.Nat.{_-_, _<_}
 use lib.ListN.{length}

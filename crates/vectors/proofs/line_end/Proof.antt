@@ -1,6 +1,6 @@
--- `tone_vectors::line_end` meets its contract. The place stays inside the text; the octets left fall.
-use Rattle.tone_vectors.proofs.line_end.Statement.{statement}
-use Rattle.tone_vectors.proofs.line_end.Tie as tie
+-- `vectors::line_end` meets its contract. The place stays inside the text; the octets left fall.
+use Rattle.vectors.proofs.line_end.Statement.{statement}
+use Rattle.vectors.proofs.line_end.Tie as tie
 use borrow.Author.Needs.{needs}
 use Prim.Native.Nat.{_-_, _≤_}
 use lib.ListN.{length}

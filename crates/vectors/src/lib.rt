@@ -1,0 +1,179 @@
+// What programs share that run cases given as lines of text: printing numbers, octets and cells, and taking a line apart.
+ghost use Prim.Native.Nat.{_≤_, _<_};
+ghost use lib.ListN.{length};
+
+// A number of the text, and where the next word starts.
+pub struct Parsed {
+    pub value: u64,
+    pub next: usize,
+}
+
+// ---- printing
+
+// Prints a number, and a space ahead of it.
+pub fn number(n: u64) {
+    io::write_all(1, b" ");
+    io::print_decimal(1, n);
+}
+
+// An octet as a wider number, with its bound.
+fn wide(x: u8) -> u64
+    ensures { λ r. ⌜ r < 256 ⌝ }
+{
+    x as u64
+}
+
+// A cell as a wider number, with its bound.
+fn wider(x: u32) -> u64
+    ensures { λ r. ⌜ r < 4294967296 ⌝ }
+{
+    x as u64
+}
+
+// Prints octets, each as two hexadecimal digits.
+fn octets(s: &[u8]) {
+    let mut i = 0;
+    while i < s.len() {
+        io::print_hex(1, wide(s[i]), 2);
+        i += 1;
+    }
+}
+
+// Prints cells.
+fn cells(s: &[u32]) {
+    let mut i = 0;
+    while i < s.len() {
+        number(wider(s[i]));
+        i += 1;
+    }
+}
+
+// Octets as one number, to which each octet and its place matter.
+fn digest(s: &[u8]) -> u64 {
+    let mut d: u64 = 1;
+    let mut i = 0;
+    while i < s.len() {
+        d = (d * 31 + wide(s[i])) % 1000003;
+        i += 1;
+    }
+    d
+}
+
+// The same of cells.
+pub fn digest_cells(s: &[u32]) -> u64 {
+    let mut d: u64 = 1;
+    let mut i = 0;
+    while i < s.len() {
+        d = (d * 31 + wider(s[i])) % 1000003;
+        i += 1;
+    }
+    d
+}
+
+// Prints a buffer of octets and a space ahead of it: all of them, or their digest where there are many.
+pub fn show_octets(s: &[u8]) {
+    io::write_all(1, b" ");
+    if s.len() <= 48 {
+        octets(s);
+        return;
+    }
+    io::print_decimal(1, digest(s));
+}
+
+// The same of cells.
+pub fn show_cells(s: &[u32]) {
+    if s.len() <= 48 {
+        cells(s);
+        return;
+    }
+    number(digest_cells(s));
+}
+
+// ---- the text
+
+// The value of a digit, hexadecimal or decimal.
+fn digit(x: u8) -> u8
+    ensures { λ r. ⌜ r < 16 ⌝ }
+{
+    if x < b'a' {
+        return x % 16;
+    }
+    (x - 87) % 16
+}
+
+// A number with one decimal digit more, as far as it is below 2 ^ 64.
+fn with_digit(value: u64, x: u8) -> u64 {
+    std::num::wrapping_add_u64(value % 1844674407370955162 * 10, wide(digit(x)))
+}
+
+// The number that starts at a place, and the place behind the space that ends it.
+pub fn word(line: &[u8], at: usize) -> Parsed
+    requires { ⌜ at ≤ length (now line) ⌝ }
+    ensures { λ r. ⌜ (at ≤ r .next) × (r .next ≤ length (now (line .entry))) ⌝ }
+{
+    let mut value: u64 = 0;
+    let mut i = at;
+    while i < line.len() {
+        let x = line[i];
+        i += 1;
+        if x == b' ' {
+            return Parsed { value, next: i };
+        }
+        value = with_digit(value, x);
+    }
+    Parsed { value, next: i }
+}
+
+// A number of the text as a cell.
+pub fn cell(value: u64) -> u32 {
+    (value % 4294967296) as u32
+}
+
+// Where the line that starts at a place ends.
+pub fn line_end(text: &[u8], at: usize) -> usize
+    requires { ⌜ at ≤ length (now text) ⌝ }
+    ensures { λ r. ⌜ (at ≤ r) × (r ≤ length (now (text .entry))) ⌝ }
+{
+    let mut i = at;
+    while i < text.len() {
+        if text[i] == b'\n' {
+            return i;
+        }
+        i += 1;
+    }
+    i
+}
+
+// The octet that two hexadecimal digits from a place on give; 0 where there is one digit only.
+fn octet_at(line: &[u8], at: usize) -> u8
+    requires { ⌜ at < length (now line) ⌝ }
+{
+    let low = at + 1;
+    if low == line.len() {
+        return 0;
+    }
+    digit(line[at]) * 16 + digit(line[low])
+}
+
+// Puts the octets of a line, from a place on, behind those in a buffer. It answers how many are then in it.
+pub fn add_octets(line: &[u8], from: usize, buf: &mut [u8], used: usize) -> usize {
+    let mut n = used;
+    let mut i = from;
+    while n < buf.len() {
+        if line.len() <= i {
+            return n;
+        }
+        buf[n] = octet_at(line, i);
+        n += 1;
+        i += 2;
+    }
+    n
+}
+
+// Prints the name of a case, which a line has from a place on.
+pub fn name(line: &[u8], at: usize)
+    requires { ⌜ at ≤ length (now line) ⌝ }
+{
+    io::write_all(1, &line[at..]);
+    io::write_all(1, b":");
+}
