@@ -67,7 +67,7 @@ refusal n p = (114 ∷ 101 ∷ 102 ∷ 117 ∷ 115 ∷ 101 ∷ 100 ∷ 32 ∷ []
 -- the whole text of an answer and the list that came with it
 abbrev pub textOf : Listed → List ℕ → List ℕ
 textOf (Made n k) list = opening n k ++ lines n list
-textOf (Refused n p) list = refusal n (p .0 % 4294967296)
+textOf (Refused n p) list = refusal n (p .0)
 
 -- the text that a message gives, with so many numbers' room for its list
 abbrev pub answerOf : List ℕ → List ℕ → List ℕ

@@ -216,7 +216,7 @@ fn answer(msg: &[u8], list: &mut [u32], text: &mut [u8]) -> usize
         }
         // A message has no more than 32,768 bits, so the remainder is the place itself.
         Listed::Refused { number, place } => {
-            put_refusal(text, number, (place.0 % 4294967296) as u32)
+            put_refusal(text, number, place.0 as u32)
         }
     }
 }

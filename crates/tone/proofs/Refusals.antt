@@ -28,6 +28,16 @@ pub record Faulty (m : List ℕ) (n p : ℕ) : Type 0 where
 refusal-says : (m : List ℕ) {n p : ℕ} → readTone m ≡ refused n p → ((n ≡ 1) × (p ≡ 0) × (mostOctets < length m)) ⊎ (Cut m n p ⊎ Followed m n p)
 refusal-says m {n} {p} q = subst (Says m) q (read-says m)
 
+-- no place is past the last bit that a message can have
+pub place-most : (m : List ℕ) (n p : ℕ) → readTone m ≡ refused n p → p ≤ 8 * mostOctets
+place-most m n p q = ⊎-elim (λ w. omega (arith, w .1)) (λ w. ⊎-elim cut followed w) (refusal-says m q)
+  where
+    cut : Cut m n p → p ≤ 8 * mostOctets
+    cut c = omega (arith, whole-exact .refusal (bitsOf m) 0 (omega arith) (c .refuses) .inside, length-bitsOf m, c .bound)
+
+    followed : Followed m n p → p ≤ 8 * mostOctets
+    followed f = omega (arith, whole-exact .sound (bitsOf m) 0 (omega arith) (f .reads) .inside, length-bitsOf m, f .bound)
+
 -- for 3 to 9: every message that shares the bits up to the end of the faulty element is refused alike
 pub refused-alike : (m : List ℕ) (n p : ℕ) → 3 ≤ n → n ≤ 9 → readTone m ≡ refused n p → Faulty m n p
 unfolding readTone

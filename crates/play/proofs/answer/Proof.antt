@@ -1,7 +1,7 @@
 -- `play::answer` meets its contract.
 use borrow.Author.Needs.{needs}
 use native.Mathlib.Omega.{arith}
-use Rattle.play.proofs.Answering.{made-fits, made-text, refused-text}
+use Rattle.play.proofs.Answering.{made-fits, made-text, refused-small, refused-text}
 use Rattle.play.proofs.answer.Statement.{statement}
 use Rattle.play.proofs.answer.Tie as tie
 
@@ -28,7 +28,9 @@ enum-known-number : tie.Need-enum-known-number
 enum-known-number c = search needs
 
 cast-put-refusal : tie.Need-cast-put-refusal
-cast-put-refusal c = search needs
+cast-put-refusal c =
+    let s = c .before .before .before .before .before .before .before .before .before .before .before .before in
+    refused-small (s .args .msg .now) (s .args .list .now) (c .before .before .before .before .before .before .before .list .ensures) (c .before .before .before .number .given .1)
 
 put-refusal-requires : tie.Need-put-refusal-requires
 put-refusal-requires c κs = search needs
