@@ -215,9 +215,7 @@ fn answer(msg: &[u8], list: &mut [u32], text: &mut [u8]) -> usize
             put_entries(text, at, list, entries as usize)
         }
         // A message has no more than 32,768 bits, so the remainder is the place itself.
-        Listed::Refused { number, place } => {
-            put_refusal(text, number, place.0 as u32)
-        }
+        Listed::Refused { number, place } => { put_refusal(text, number, place.0 as u32) }
     }
 }
 

@@ -111,6 +111,13 @@ module _ (w number : ℕ) (fine : ℕ → Bool) (m : List ℕ) (at : ℕ) {s : S
 abbrev either : ℕ → ℕ → ℕ → Bool
 either a b n = eqb n a || eqb n b
 
+-- 1 or 2
+one-or-two : (v : ℕ) → (v ≡ 0 → ⊥) → v ≤ 2 → either 1 2 v ≡ true
+one-or-two zero h k = absurd (h refl)
+one-or-two (suc zero) h k = refl
+one-or-two (suc (suc zero)) h k = refl
+one-or-two (suc (suc (suc v))) h k = absurd (omega arith)
+
 is-first : (a b n : ℕ) → n ≡ a → either a b n ≡ true
 is-first a b n h = rw (eq-eqb n a h)
 
@@ -250,18 +257,19 @@ module _ (m : List ℕ) (at : ℕ) {c : Command} (q : c ≡ commandOf (command (
       front-cut g′ = rw (command-there, cut-there 3 4 (either 1 2) m (f .0) q′ g′ .1)
 
       module _ {v : ℕ} {f′ : BitPlace} (g′ : s ≡ Good v f′) where
-        pub front-basic : {o : Opening} → v ≡ 1 → o ≡ openingOf (titled v u (bitsOf m) (f′ .0)) → o ≡ openingOf (front (bitsOf m) at)
+        other-song : either 1 2 v ≡ false → Closed 4 f ≡ openingOf (front (bitsOf m) at)
         unfolding front typed
-        front-basic h e = rw (command-there, good-there 3 4 (either 1 2) m (f .0) q′ g′ (is-first 1 2 v h)) e
+        other-song h = rw (command-there, bad-there 3 4 (either 1 2) m (f .0) q′ g′ h)
 
-        module _ (h : v ≡ 1 → ⊥) where
-          pub front-temporary : {o : Opening} → v ≡ 2 → o ≡ openingOf (titled v u (bitsOf m) (f′ .0)) → o ≡ openingOf (front (bitsOf m) at)
-          unfolding front typed
-          front-temporary k e = rw (command-there, good-there 3 4 (either 1 2) m (f .0) q′ g′ (is-second 1 2 v h k)) e
+        pub front-none : v ≡ 0 → Closed 4 f ≡ openingOf (front (bitsOf m) at)
+        front-none h = other-song (rw h refl)
 
-          pub front-other : (v ≡ 2 → ⊥) → Closed 4 f ≡ openingOf (front (bitsOf m) at)
-          unfolding front typed
-          front-other k = rw (command-there, bad-there 3 4 (either 1 2) m (f .0) q′ g′ (is-neither 1 2 v h k))
+        pub front-above : 2 < v → Closed 4 f ≡ openingOf (front (bitsOf m) at)
+        front-above h = other-song (is-neither 1 2 v (λ e. omega arith) (λ e. omega arith))
+
+        pub front-titled : {o : Opening} → (v ≡ 0 → ⊥) → v ≤ 2 → o ≡ openingOf (titled v u (bitsOf m) (f′ .0)) → o ≡ openingOf (front (bitsOf m) at)
+        unfolding front typed
+        front-titled h k e = rw (command-there, good-there 3 4 (either 1 2) m (f .0) q′ g′ (one-or-two v h k)) e
 
 -- ---- the end
 
@@ -294,6 +302,6 @@ pub ruleset commands = (element-within, filled-bad, filled-next, filled-within, 
 
 pub ruleset titles = (any-within, title-none, title-short, title-cut, title-text, titled-bad, titled-within, titled-cut, titled-zero, titled-good)
 
-pub ruleset fronts = (any-within, command-within, front-bad, front-cut, front-basic, front-temporary, front-other)
+pub ruleset fronts = (any-within, command-within, front-bad, front-cut, front-none, front-above, front-titled)
 
 pub ruleset endings = (element-within, ending-aligned, ending-bad, ending-next)

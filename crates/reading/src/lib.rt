@@ -462,16 +462,19 @@ pub fn open(msg: &[u8], at: BitPlace) -> Opening
                 value,
                 next: behind,
             } => {
-                if value == 1 {
-                    return titled(msg, behind, value, unicode);
+                if value == 0 {
+                    return Opening::Closed {
+                        number: 4,
+                        at: next,
+                    };
                 }
-                if value == 2 {
-                    return titled(msg, behind, value, unicode);
+                if 2 < value {
+                    return Opening::Closed {
+                        number: 4,
+                        at: next,
+                    };
                 }
-                Opening::Closed {
-                    number: 4,
-                    at: next,
-                }
+                titled(msg, behind, value, unicode)
             }
         },
     }

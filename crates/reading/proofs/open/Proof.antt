@@ -22,17 +22,14 @@ enum-known-number-2 c = search needs
 enum-known-value : tie.Need-enum-known-value
 enum-known-value c = search needs
 
-titled-requires : tie.Need-titled-requires
-titled-requires c κs = search (fronts, needs)
-
 returns : tie.Need-returns
 returns c = search (fronts, needs)
 
-titled-requires-2 : tie.Need-titled-requires-2
-titled-requires-2 c κs = search (fronts, needs)
-
 returns-2 : tie.Need-returns-2
 returns-2 c = search (fronts, needs)
+
+titled-requires : tie.Need-titled-requires
+titled-requires c κs = search (fronts, needs)
 
 returns-3 : tie.Need-returns-3
 returns-3 c = search (fronts, needs)
@@ -53,10 +50,9 @@ open-spec =
     any-requires
     enum-known-number-2
     enum-known-value
-    titled-requires
     returns
-    titled-requires-2
     returns-2
+    titled-requires
     returns-3
     returns-4
     returns-5)
