@@ -14,20 +14,20 @@ use ohakelm_answers::Entry;
 use tones::{Tone, BASIC};
 
 /// An insertion of one note may lengthen a message by two octets.
-const LARGEST: usize = 4096 - 2;
+const LARGEST_EDITED: usize = 4096 - 2;
 
 const NOTE: u32 = 65536 + 10 * 32 + 2 * 4;
 const SCALE: u32 = 2 * 65536;
 
 fn main() {
     let mut rows = Vec::new();
-    for octets in [24, 400, LARGEST] {
+    for octets in [24, 400, 4096] {
         let tone = tones::of_octets(octets);
         rows.push(read(&tone));
         rows.push(write(&tone));
         rows.push(list(&tone));
         rows.push(rows_of(&tone.message, "rows"));
-        rows.extend(edits(&tone));
+        rows.extend(edits(&tones::of_octets(octets.min(LARGEST_EDITED))));
     }
     rows.extend(recalls());
     for (width, height) in [(72, 14), (248, 255)] {
