@@ -193,8 +193,8 @@ fn units(duration: u32, specifier: u32) -> u32
     full as u32 >> duration
 }
 
-// How long a unit sounds at a tempo, in parts of a microsecond of which 2 ^ 20 make one, rounded up. With it a note takes a
-// product, where the rule has a division.
+// How long a unit sounds at a tempo, in parts of a microsecond of which 2 ^ 20 make one, rounded up: 625,000 times
+// 2 ^ 20, divided by the beats. With it a note takes a product, where the rule has a division.
 fn pace(tempo: u32) -> u64
     requires { ⌜ tempo ≤ 31 ⌝ }
     ensures { λ r. ⌜ (r ≡ paceOf (beatsOf tempo)) × (r ≤ 26214400001) ⌝ }
@@ -439,7 +439,7 @@ impl Walk {
         }
     }
 
-    // One instruction: a note or pause adds its entry, any other changes the settings.
+    // One instruction: a note or pause adds its entry, any other changes the settings. Notes have the lowest kind.
     fn step(self, cell: u32, next: BitPlace, list: &mut [u32]) -> Walk
         requires { ⌜ Ready self ⌝ }
         requires { ⌜ Instruction cell × (self .cells + 2 * noteIn cell ≤ length (now list)) ⌝ }

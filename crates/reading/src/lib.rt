@@ -344,7 +344,8 @@ fn spelled(msg: &[u8], at: BitPlace) -> Command
     }
 }
 
-// The command up to the sound part. Without UNICODE it is 23 bits that can be told at once.
+// The command up to the sound part. Without UNICODE it is 23 bits that can be told at once: 00000010 for the length,
+// 0100101 for the programming part, a filler bit, 0011101 for the sound part.
 pub fn announced(msg: &[u8], at: BitPlace) -> Command
     requires { ⌜ Within (now msg) (at .0) ⌝ }
     ensures { λ r. ⌜ r ≡ commandOf (command (bitsOf (now (msg .entry))) (at .0)) ⌝ }
