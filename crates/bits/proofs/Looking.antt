@@ -1,17 +1,17 @@
 -- The bits at a place of a message are bits of the four octets there.
 use Prim.Native.Nat.{ℕ, zero, suc, _+_, _-_, _*_, _/_, _%_, _^_, _≤_, _<_}
 use native.Mathlib.Omega.{arith}
-use native.Mathlib.Nat.{add-zero, mod-lt}
+use native.Mathlib.Nat.{add-zero, zero-add, add-assoc, mod-lt}
 use mathlib.Core.Path.{_≡_, refl, sym, ap, _∙_}
 use mathlib.Core.Bool.{Bool}
 use mathlib.Core.List.{List, [], _∷_, _++_}
 use lib.ListN.{replicate, length-take, length-drop, take-append-drop, length, getD, take, drop, length-append}
 use lib.Seq.{drop-drop, getD-drop}
-use lib.Pow.{field as pow-field, shr-shr, mod-mod-pow}
-use lib.Dec.{lit<}
+use lib.Pow.{field as pow-field, pow-pos, shl-exact, shl-shr, shr-shr, mod-mod-pow}
+use lib.Dec.{lit<, lit≤}
 use Rattle.bits.specs.Bits.{num, bitsN, bitsOf, field}
-use Rattle.bits.specs.Window.{four, Look}
-use Rattle.bits.proofs.Numbers.{length-bits, field-drop, field-front, field-num, num-append, num-bits}
+use Rattle.bits.specs.Window.{four, eight, Look, Sight}
+use Rattle.bits.proofs.Numbers.{length-bits, field-drop, field-front, field-num, num-append, num-bits, num-lt}
 use Rattle.bits.proofs.Octets.{length-bitsOf, bitsOf-append, drop-bitsOf}
 
 -- a field within the first n octets, whatever follows those
@@ -31,19 +31,39 @@ first-four (x ∷ y ∷ z ∷ u ∷ m) = let e : 4 - length (x ∷ y ∷ z ∷ u
 four-drop : (m : List ℕ) (i : ℕ) → four (drop i m) 0 ≡ four m i
 four-drop m i = simp (getD-drop, add-zero)
 
--- a field at a place is a field of the four octets there
-within-four : (m : List ℕ) (i o w : ℕ) → o + w ≤ 32 → 8 * i + o + w ≤ 8 * length m → field (bitsOf m) (8 * i + o) w ≡ field (bitsOf (four m i)) o w
-within-four m i o w h k =
+first-eight : (m : List ℕ) → eight m 0 ≡ take 8 m ++ replicate (8 - length m) 0
+first-eight [] = refl
+first-eight (a ∷ []) = refl
+first-eight (a ∷ b ∷ []) = refl
+first-eight (a ∷ b ∷ c ∷ []) = refl
+first-eight (a ∷ b ∷ c ∷ d ∷ []) = refl
+first-eight (a ∷ b ∷ c ∷ d ∷ e ∷ []) = refl
+first-eight (a ∷ b ∷ c ∷ d ∷ e ∷ f ∷ []) = refl
+first-eight (a ∷ b ∷ c ∷ d ∷ e ∷ f ∷ g ∷ []) = refl
+first-eight (a ∷ b ∷ c ∷ d ∷ e ∷ f ∷ g ∷ h ∷ m) = let z : 8 - length (a ∷ b ∷ c ∷ d ∷ e ∷ f ∷ g ∷ h ∷ m) ≡ 0 = omega arith in rw z refl
+
+eight-drop : (m : List ℕ) (i : ℕ) → eight (drop i m) 0 ≡ eight m i
+eight-drop m i = simp (getD-drop, add-zero, zero-add, add-assoc)
+
+-- a field at a place is a field of the first n octets there
+within : (n : ℕ) (m : List ℕ) (i o w : ℕ) {r : List ℕ} → take n (drop i m) ++ replicate (n - length (drop i m)) 0 ≡ r → o + w ≤ 8 * n → 8 * i + o + w ≤ 8 * length m
+    → field (bitsOf m) (8 * i + o) w ≡ field (bitsOf r) o w
+within n m i o w e h k =
     let l : o + w ≤ 8 * length (drop i m) = rw (length-drop i m) (omega arith) in
     sym (field-drop (bitsOf m) (8 * i) o w)
     ∙ ap (λ (b : List Bool). field b o w) (drop-bitsOf i m)
-    ∙ front 4 (drop i m) (replicate (4 - length (drop i m)) 0) o w h l
-    ∙ ap (λ (r : List ℕ). field (bitsOf r) o w) (sym (first-four (drop i m)) ∙ four-drop m i)
+    ∙ front n (drop i m) (replicate (n - length (drop i m)) 0) o w h l
+    ∙ ap (λ (x : List ℕ). field (bitsOf x) o w) e
 
 pub num-four : (x y z u : ℕ) → x < 256 → y < 256 → z < 256 → u < 256 → num (bitsOf (x ∷ y ∷ z ∷ u ∷ [])) ≡ x * 16777216 + y * 65536 + z * 256 + u
 num-four x y z u hx hy hz hu = simp (num-append, length-append, length-bits, num-bits, hx, hy, hz, hu) (omega arith)
 
--- what `window` computes
+-- what `word` computes
+pub word-is : {a b c d x y z u : ℕ} → (x ≡ a) × (x < 256) → (y ≡ b) × (y < 256) → (z ≡ c) × (z < 256) → (u ≡ d) × (u < 256)
+    → x * 16777216 + y * 65536 + z * 256 + u ≡ num (bitsOf (a ∷ b ∷ c ∷ d ∷ []))
+word-is {x = x} {y} {z} {u} hx hy hz hu = rw (← hx .0, ← hy .0, ← hz .0, ← hu .0) (sym (num-four x y z u (hx .1) (hy .1) (hz .1) (hu .1)))
+
+-- what `near_end` computes
 pub window-is : (m : List ℕ) (i : ℕ) {x y z u : ℕ} → (x ≡ getD m i 0) × (x < 256) → (y ≡ getD m (i + 1) 0) × (y < 256) → (z ≡ getD m (i + 2) 0) × (z < 256)
     → (u ≡ getD m (i + 3) 0) × (u < 256) → x * 16777216 + y * 65536 + z * 256 + u ≡ num (bitsOf (four m i))
 window-is m i {x} {y} {z} {u} hx hy hz hu = rw (← hx .0, ← hy .0, ← hz .0, ← hu .0) (sym (num-four x y z u (hx .1) (hy .1) (hz .1) (hu .1)))
@@ -66,7 +86,7 @@ look-is m at i {x} h ei e = record { at = go; small = mod-lt (x / 2 ^ (8 - at % 
         let g : 32 - (f + w) ≡ 8 - at % 8 + q = omega arith in
         field-drop (bitsOf m) at o w
         ∙ ap (λ (n : ℕ). field (bitsOf m) n w) (sym p)
-        ∙ within-four m i f w (omega arith) (omega arith)
+        ∙ within 4 m i f w (sym (first-four (drop i m)) ∙ four-drop m i) (omega arith) (omega arith)
         ∙ field-num (bitsOf (four m i)) f w (32 - (f + w)) s
         ∙ ap (λ (n : ℕ). n / 2 ^ (32 - (f + w)) % 2 ^ w) (sym e)
         ∙ ap (λ (n : ℕ). x / 2 ^ n % 2 ^ w) g
@@ -81,3 +101,53 @@ length-left m at = length-drop at (bitsOf m) ∙ ap (λ (n : ℕ). n - at) (leng
 pub seen : (m : List ℕ) (at o w : ℕ) {x : ℕ} → Look (drop at (bitsOf m)) x → o + w ≤ 24 → at + o + w ≤ 8 * length m
     → field (bitsOf m) (at + o) w ≡ x / 2 ^ (24 - (o + w)) % 2 ^ w
 seen m at o w l h k = sym (field-drop (bitsOf m) at o w) ∙ l .at o w h (rw (length-left m at) (omega arith))
+
+-- ---- eight octets at once
+
+-- eight octets are two words
+pub eight-is : (m : List ℕ) (i : ℕ) {x y : ℕ} → x ≡ num (bitsOf (four m i)) → y ≡ num (bitsOf (four m (i + 4))) → x * 2 ^ 32 % 2 ^ 64 + y ≡ num (bitsOf (eight m i))
+unfolding bitsN
+eight-is m i {x} {y} hx hy =
+    let e = ap num (bitsOf-append (four m i) (four m (i + 4))) ∙ num-append (bitsOf (four m i)) (bitsOf (four m (i + 4))) in
+    let l : x < 2 ^ 32 = rw (hx, ← length-bitsOf (four m i)) (num-lt (bitsOf (four m i))) in
+    ap (λ (z : ℕ). z + y) (shl-exact {a = x} 32 32 64 l (lit≤ tt)) ∙ sym (e ∙ (rw (length-bitsOf (four m (i + 4)), ← hx, ← hy) refl))
+
+-- the second word, as the code loads it
+pub eight-loaded : (m : List ℕ) (i : ℕ) {x y : ℕ} → x ≡ num (bitsOf (four m i)) → y ≡ num (bitsOf (getD m (i + 4) 0 ∷ getD m (i + 5) 0 ∷ getD m (i + 6) 0 ∷ getD m (i + 7) 0 ∷ []))
+    → x * 2 ^ 32 % 2 ^ 64 + y ≡ num (bitsOf (eight m i))
+eight-loaded m i hx hy = eight-is m i hx (rw (add-assoc i 4 1, add-assoc i 4 2, add-assoc i 4 3) hy)
+
+-- a field of a number of n bits that was moved up by r
+moved-field : (n x r o w : ℕ) → r + o + w ≤ n → x * 2 ^ r % 2 ^ n / 2 ^ (n - (o + w)) % 2 ^ w ≡ x / 2 ^ (n - (r + o + w)) % 2 ^ w
+moved-field n x r o w h =
+    let q = n - (r + o + w) in
+    let e : n - (o + w) ≡ r + q = omega arith in
+    let up : x * 2 ^ r / 2 ^ (r + q) ≡ x / 2 ^ q = sym (shr-shr (x * 2 ^ r) r q) ∙ ap (λ (y : ℕ). y / 2 ^ q) (shl-shr x r) in
+    low-field (x * 2 ^ r) o w (n - (o + w)) {t = n} (omega arith) ∙ ap (λ (y : ℕ). x * 2 ^ r / 2 ^ y % 2 ^ w) e ∙ ap (λ (y : ℕ). y % 2 ^ w) up
+
+-- what `sight` computes
+pub sight-is : (m : List ℕ) (at i : ℕ) {x : ℕ} → at ≤ 8 * length m → i ≡ at / 8 → x ≡ num (bitsOf (eight m i)) → Sight 57 (drop at (bitsOf m)) (x * 2 ^ (at % 8) % 2 ^ 64)
+sight-is m at i {x} h ei e = record { at = go; small = mod-lt (x * 2 ^ (at % 8)) (pow-pos 64) }
+  where
+    go : (o w : ℕ) → o + w ≤ 57 → o + w ≤ length (drop at (bitsOf m)) → field (drop at (bitsOf m)) o w ≡ x * 2 ^ (at % 8) % 2 ^ 64 / 2 ^ (64 - (o + w)) % 2 ^ w
+    go o w l k =
+        let f = at % 8 + o in
+        let len : length (drop at (bitsOf m)) ≡ 8 * length m - at = length-left m at in
+        let p : 8 * i + f ≡ at + o = omega arith in
+        let s : f + w + (64 - (f + w)) ≡ length (bitsOf (eight m i)) = rw (length-bitsOf (eight m i)) (omega arith) in
+        field-drop (bitsOf m) at o w
+        ∙ ap (λ (n : ℕ). field (bitsOf m) n w) (sym p)
+        ∙ within 8 m i f w (sym (first-eight (drop i m)) ∙ eight-drop m i) (omega arith) (omega arith)
+        ∙ field-num (bitsOf (eight m i)) f w (64 - (f + w)) s
+        ∙ ap (λ (n : ℕ). n / 2 ^ (64 - (f + w)) % 2 ^ w) (sym e)
+        ∙ sym (moved-field 64 x (at % 8) o w (omega arith))
+
+-- what is left of a sight behind k bits
+pub sight-on : {n k x : ℕ} {b : List Bool} → Sight n b x → n ≤ 64 → k ≤ n → k ≤ length b → Sight (n - k) (drop k b) (x * 2 ^ k % 2 ^ 64)
+sight-on {n} {k} {x} {b} s h l long = record { at = go; small = mod-lt (x * 2 ^ k) (pow-pos 64) }
+  where
+    go : (o w : ℕ) → o + w ≤ n - k → o + w ≤ length (drop k b) → field (drop k b) o w ≡ x * 2 ^ k % 2 ^ 64 / 2 ^ (64 - (o + w)) % 2 ^ w
+    go o w f g =
+        let len = length-drop k b in
+        let e : k + o + w ≡ k + (o + w) = omega arith in
+        field-drop b k o w ∙ s .at (k + o) w (omega arith) (omega arith) ∙ sym (moved-field 64 x k o w (omega arith))

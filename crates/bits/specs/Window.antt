@@ -2,7 +2,7 @@
 use Prim.Native.Nat.{ℕ, _+_, _-_, _/_, _%_, _^_, _≤_, _<_}
 use mathlib.Core.Path.{_≡_}
 use mathlib.Core.Bool.{Bool}
-use mathlib.Core.List.{List, [], _∷_}
+use mathlib.Core.List.{List, [], _∷_, _++_}
 use lib.ListN.{length, getD}
 use Rattle.bits.specs.Bits.{field}
 
@@ -10,7 +10,16 @@ use Rattle.bits.specs.Bits.{field}
 abbrev pub four : List ℕ → ℕ → List ℕ
 four m i = getD m i 0 ∷ getD m (i + 1) 0 ∷ getD m (i + 2) 0 ∷ getD m (i + 3) 0 ∷ []
 
+-- the eight octets at i
+abbrev pub eight : List ℕ → ℕ → List ℕ
+eight m i = four m i ++ four m (i + 4)
+
 -- x holds the first 24 of the bits b: each field of them is a quotient and a remainder
 pub record Look (b : List Bool) (x : ℕ) : Type 0 where
   pub at : (o w : ℕ) → o + w ≤ 24 → o + w ≤ length b → field b o w ≡ x / 2 ^ (24 - (o + w)) % 2 ^ w
   pub small : x < 16777216
+
+-- x holds the first n of the bits b on top of 64
+pub record Sight (n : ℕ) (b : List Bool) (x : ℕ) : Type 0 where
+  pub at : (o w : ℕ) → o + w ≤ n → o + w ≤ length b → field b o w ≡ x / 2 ^ (64 - (o + w)) % 2 ^ w
+  pub small : x < 2 ^ 64

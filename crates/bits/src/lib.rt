@@ -1,8 +1,9 @@
 ghost use mathlib.Core.Path.{_≡_};
+ghost use mathlib.Core.List.{[], _∷_};
 ghost use Prim.Native.Nat.{_+_, _-_, _*_, _/_, _%_, _^_, _≤_, _<_};
 ghost use lib.ListN.{length, getD, drop};
 ghost use Rattle.bits.specs.Bits.{bitsN, bitsOf, num, placeAfter, octetsBefore, octetsTo};
-ghost use Rattle.bits.specs.Window.{four, Look};
+ghost use Rattle.bits.specs.Window.{four, eight, Look, Sight};
 ghost use Rattle.bits.specs.Sink.{written, InHand, Stored, Put, Sealed};
 
 // A place in a message: how many bits stand ahead of it.
@@ -48,18 +49,43 @@ fn octet(s: &[u8], i: usize) -> u32
     if i < s.len() { s[i] as u32 } else { 0 }
 }
 
-// The four octets at `i` as one number, 0 past the end. Away from the end it is one load.
+// Four octets as one number.
+fn word(a: u8, b: u8, c: u8, d: u8) -> u32
+    ensures { λ r. ⌜ r ≡ num (bitsOf (a ∷ b ∷ c ∷ d ∷ [])) ⌝ }
+{
+    wide(a) * 16777216 + wide(b) * 65536 + wide(c) * 256 + wide(d)
+}
+
+// The four octets at `i` as one number, 0 past the end.
+fn near_end(s: &[u8], i: usize) -> u32
+    requires { ⌜ i < 2 ^ 63 + 4 ⌝ }
+    ensures { λ r. ⌜ r ≡ num (bitsOf (four (now (s .entry)) i)) ⌝ }
+{
+    octet(s, i) * 16777216 + octet(s, i + 1) * 65536 + octet(s, i + 2) * 256 + octet(s, i + 3)
+}
+
+// The same. Away from the end it is one load.
 fn window(s: &[u8], i: usize) -> u32
     requires { ⌜ i ≤ length (now s) ⌝ }
     ensures { λ r. ⌜ r ≡ num (bitsOf (four (now (s .entry)) i)) ⌝ }
 {
-    if i + 3 < s.len() {
-        return wide(s[i]) * 16777216
-            + wide(s[i + 1]) * 65536
-            + wide(s[i + 2]) * 256
-            + wide(s[i + 3]);
+    if 4 <= s.len() - i {
+        return word(s[i], s[i + 1], s[i + 2], s[i + 3]);
     }
-    octet(s, i) * 16777216 + octet(s, i + 1) * 65536 + octet(s, i + 2) * 256 + octet(s, i + 3)
+    near_end(s, i)
+}
+
+// The eight octets at `i` as one number, 0 past the end. Away from the end it is one load.
+fn wide_window(s: &[u8], i: usize) -> u64
+    requires { ⌜ i ≤ length (now s) ⌝ }
+    ensures { λ r. ⌜ r ≡ num (bitsOf (eight (now (s .entry)) i)) ⌝ }
+{
+    if 8 <= s.len() - i {
+        let high = word(s[i], s[i + 1], s[i + 2], s[i + 3]);
+        let low = word(s[i + 4], s[i + 5], s[i + 6], s[i + 7]);
+        return ((high as u64) << 32) + low as u64;
+    }
+    ((near_end(s, i) as u64) << 32) + near_end(s, i + 4) as u64
 }
 
 // The 24 bits at a place, whatever stands past the end.
@@ -69,6 +95,15 @@ pub fn look(s: &[u8], at: BitPlace) -> u32
 {
     let i = octets_before(at).0;
     (window(s, i) >> (8 - at.0 % 8)) % 16777216
+}
+
+// The 57 bits at a place, on top of a number, whatever stands past the end.
+pub fn sight(s: &[u8], at: BitPlace) -> u64
+    requires { ⌜ at .0 ≤ placeAfter (length (now s)) ⌝ }
+    ensures { λ r. ⌜ Sight 57 (drop (at .0) (bitsOf (now (s .entry)))) r ⌝ }
+{
+    let i = octets_before(at).0;
+    wide_window(s, i) << (at.0 % 8)
 }
 
 // The `w` bits that stand `o` bits into 24.
