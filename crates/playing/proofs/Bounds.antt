@@ -15,59 +15,17 @@ use Rattle.playing.specs.declared.Settings.{Settings}
 use Rattle.playing.specs.declared.Entry.{Entry}
 use Rattle.playing.specs.Sounding.{atStart, applied, sounded}
 use Rattle.playing.specs.Ranges.{InRange, Bounded, AllBounded}
-use Rattle.playing.specs.Playing.{Played, step, pass, passes, passesOf, Remembered, unknown, known, recalled, noBodies, isRecall, Listing, bodyOf, remember, patternPlayed, play, playingList}
+use Rattle.playing.specs.Playing.{Played, step, pass, passes, Listing, patternPlayed, play, playingList}
+use Rattle.judging.specs.Bodies.{passesOf, Remembered, unknown, known, recalled, noBodies, isRecall, bodyOf, remember}
 use Rattle.reading.specs.Answers.{notes}
-use Rattle.playing.specs.Counting.{entryCount}
+use Rattle.judging.specs.Counting.{entryCount}
+use Rattle.judging.proofs.Bodies.{Body, Bodies, bodies-start, bodies-kept, body-kept, sound-body, notes-most, passes-most}
 use Rattle.playing.specs.Listing.{anyTooLong}
 use Rattle.playing.proofs.Below.{both, at-each}
 use Rattle.playing.proofs.Durations.{duration-most}
 use Rattle.playing.proofs.Counts.{list-count}
 
--- ---- the bodies that are remembered
-
--- a body that a header can announce, of instructions
-abbrev pub Body : List ℕ → Type 0
-Body b = Instructions b × (length b ≤ 255)
-
-abbrev pub Bodies : List Remembered → Type 0
-Bodies [] = Unit {0}
-Bodies (r ∷ rs) = Body (recalled r) × Bodies rs
-
-body-at : (bodies : List Remembered) → Bodies bodies → (i : ℕ) → Body (recalled (getD bodies i unknown))
-body-at [] h i = (tt, omega arith)
-body-at (r ∷ bodies) h zero = h .0
-body-at (r ∷ bodies) h (suc i) = body-at bodies (h .1) i
-
-body-set : (bodies : List Remembered) → Bodies bodies → (i : ℕ) (b : List ℕ) → Body b → Bodies (set bodies i (known b))
-body-set [] h i b k = tt
-body-set (r ∷ bodies) h zero b k = (k, h .1)
-body-set (r ∷ bodies) h (suc i) b k = (h .0, body-set bodies (h .1) i b k)
-
-pub bodies-start : Bodies noBodies
-bodies-start = ((tt, omega arith), ((tt, omega arith), ((tt, omega arith), ((tt, omega arith), tt))))
-
-pub bodies-kept : (bodies : List Remembered) → Bodies bodies → (p : Pattern) → Body (p .body) → Bodies (remember bodies p)
-unfolding remember
-bodies-kept bodies h p k = pick-elim Bodies (isRecall p) (λ _. h) (λ _. body-set bodies h (p .id) (p .body) k)
-
-pub body-kept : (bodies : List Remembered) → Bodies bodies → (p : Pattern) → Body (p .body) → Body (bodyOf bodies p)
-unfolding bodyOf
-body-kept bodies h p k = pick-elim Body (isRecall p) (λ _. body-at bodies h (p .id)) (λ _. k)
-
-pub sound-body : (p : Pattern) → Sound p → Body (p .body)
-sound-body p s = (s .each, s .long)
-
 -- ---- the number of entries
-
--- a body has no more notes than instructions
-pub notes-most : (b : List ℕ) → notes b ≤ length b
-notes-most [] = omega arith
-notes-most (e ∷ b) = let h = notes-most b in pick-elim (λ (n : ℕ). n + notes b ≤ suc (length b)) (eqb (kind e) 1) (λ _. omega arith) (λ _. omega arith)
-
--- fifteen passes at most
-pub passes-most : (loop : ℕ) → loop < 16 → passesOf loop ≤ 15
-unfolding passesOf
-passes-most loop h = leb-true (passesOf loop) 15 (at-each (λ k. leb (passesOf k) 15) 16 refl loop h)
 
 count-most : (bodies : List Remembered) → Bodies bodies → (seen : List Bool) (ps : List Pattern) → Sequence seen ps → entryCount bodies ps ≤ 3825 * length ps
 count-most bodies h seen [] k = omega arith

@@ -15,9 +15,10 @@ use Rattle.tone.specs.Tone.{Pattern}
 use Rattle.playing.specs.declared.Settings.{Settings}
 use Rattle.playing.specs.declared.Entry.{Entry}
 use Rattle.playing.specs.Sounding.{applied, sounded}
-use Rattle.playing.specs.Playing.{step, pass, passes, passesOf, Remembered, Listing, bodyOf, remember, patternPlayed, play, markAt, noMark}
+use Rattle.playing.specs.Playing.{step, pass, passes, Listing, patternPlayed, play, markAt}
+use Rattle.judging.specs.Bodies.{passesOf, Remembered, bodyOf, remember, noMark}
 use Rattle.reading.specs.Answers.{notes}
-use Rattle.playing.specs.Counting.{entryCount}
+use Rattle.judging.specs.Counting.{entryCount}
 
 -- a pass adds an entry for each note
 pub pass-count : (s : Settings) (b : List ℕ) → length (pass s b .entries) ≡ notes b

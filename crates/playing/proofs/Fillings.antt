@@ -27,11 +27,12 @@ use Rattle.playing.specs.declared.Part.{Part}
 use Rattle.playing.specs.declared.Part.the-variants.{Unknown, Known}
 use Rattle.playing.specs.declared.Walk.{Walk}
 use Rattle.playing.specs.Sounding.{atStart, numbers}
-use Rattle.playing.specs.Playing.{Played, ahead, Remembered, unknown, known, recalled, noBodies, Listing, passes, passesOf, bodyOf, remember, patternPlayed, play}
-use Rattle.playing.specs.Counting.{entryCount}
+use Rattle.playing.specs.Playing.{Played, ahead, Listing, passes, patternPlayed, play}
+use Rattle.judging.specs.Bodies.{Remembered, unknown, known, recalled, noBodies, passesOf, bodyOf, remember}
+use Rattle.judging.specs.Counting.{entryCount}
 use Rattle.playing.specs.Filling.{BodyAt, behindOr, bodyIn, behindIn, PatternsAt, partAfter, behindPattern, Ready, Advanced}
 use Rattle.playing.proofs.Counts.{list-count}
-use Rattle.playing.proofs.Recalls.{isKnown, knownOf, remember-length, body-sounding, learn-read}
+use Rattle.judging.proofs.Bodies.{isKnown, knownOf, remember-length, body-sounding, learn-read}
 use Rattle.playing.proofs.Joining.{play-one, play-last}
 use Rattle.playing.proofs.Packing.{length-numbers}
 use Rattle.playing.proofs.Walking.{and-then, advanced-long}

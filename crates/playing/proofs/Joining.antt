@@ -11,7 +11,8 @@ use Rattle.bits.specs.Choice.{pick}
 use Rattle.tone.specs.Tone.{Pattern}
 use Rattle.playing.specs.declared.Settings.{Settings}
 use Rattle.playing.specs.declared.Entry.{Entry}
-use Rattle.playing.specs.Playing.{Played, Remembered, Listing, pass, passes, passesOf, bodyOf, remember, patternPlayed, play, markAt, noMark}
+use Rattle.playing.specs.Playing.{Played, Listing, pass, passes, patternPlayed, play, markAt}
+use Rattle.judging.specs.Bodies.{Remembered, passesOf, bodyOf, remember, noMark}
 
 -- the settings that patterns leave
 abbrev pub settingsAfter : Settings → List Remembered → List Pattern → Settings

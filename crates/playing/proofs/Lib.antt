@@ -4,12 +4,11 @@ pub mod Joining
 pub mod Loops
 pub mod Recalls
 pub mod Counts
+pub mod Marks
 pub mod Bounds
 pub mod Grounds
 pub mod Packing
 pub mod Settling
-pub mod Tallies
-pub mod Verdicts
 pub mod Walking
 pub mod Fillings
 pub mod Outcomes

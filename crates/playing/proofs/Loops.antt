@@ -11,7 +11,8 @@ use borrow.Author.Tests.{ne-eqb}
 use Rattle.bits.specs.Choice.{pick}
 use Rattle.tone.specs.Tone.{Pattern}
 use Rattle.playing.specs.declared.Settings.{Settings}
-use Rattle.playing.specs.Playing.{Played, Remembered, unknown, known, recalled, Listing, isRecall, pass, passes, passesOf, bodyOf, remember, patternPlayed, play}
+use Rattle.playing.specs.Playing.{Played, Listing, pass, passes, patternPlayed, play}
+use Rattle.judging.specs.Bodies.{Remembered, unknown, known, recalled, isRecall, passesOf, bodyOf, remember}
 use Rattle.playing.proofs.Joining.{listed-ahead, two-ahead, bodiesAfter, same-behind, one-pass}
 
 -- the pattern at loop 0

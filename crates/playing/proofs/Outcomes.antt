@@ -13,6 +13,7 @@ use Rattle.bits.specs.Bits.{bitsOf}
 use Rattle.bits.specs.Lent.{over}
 use Rattle.bits.specs.Outcome.{Outcome, accepted, refused}
 use Rattle.bits.specs.declared.BitPlace.{BitPlace}
+use Rattle.bits.specs.declared.OctetCount.{OctetCount}
 use Rattle.bits.proofs.Octets.{length-bitsOf}
 use Rattle.tone.specs.Tone.{Pattern, Tone, Formed, frontOf, cells, noneKnown}
 use Rattle.tone.specs.Writing.{tableBits, frontBits, songBits, endBits, toneBits}
@@ -20,19 +21,20 @@ use Rattle.tone.specs.Reading.{got, patternsDue, readTone}
 use Rattle.tone.proofs.Rows.{patterns-exact}
 use Rattle.tone.proofs.Demand2.{Says, read-says, core-reads}
 use Rattle.reading.specs.Answers.{Within, place}
-use Rattle.playing.specs.declared.Verdict.{Verdict}
-use Rattle.playing.specs.declared.Verdict.the-variants.{Listable, Faulty}
+use Rattle.judging.specs.declared.Judged.{Judged}
+use Rattle.judging.specs.declared.Judged.the-variants.{Sound, Faulty}
 use Rattle.playing.specs.declared.Listed.{Listed}
 use Rattle.playing.specs.declared.Listed.the-variants.{Made, Refused}
 use Rattle.playing.specs.Sounding.{atStart, numbers}
-use Rattle.playing.specs.Playing.{noBodies, Listing, play, playingList}
-use Rattle.playing.specs.Counting.{entryCount, markFrom}
-use Rattle.playing.specs.Answers.{verdictOf}
+use Rattle.playing.specs.Playing.{Listing, play, playingList}
+use Rattle.judging.specs.Bodies.{noBodies}
+use Rattle.judging.specs.Counting.{entryCount, markFrom}
+use Rattle.judging.specs.Answers.{judgedOf}
 use Rattle.playing.specs.Filling.{patternsIn, endIn, PatternsAt}
 use Rattle.playing.specs.Listing.{anyTooLong, listed, fitsNumbers, fitsBoth, listTone}
 use Rattle.playing.specs.Promise.{numbersOf, listNumbers, listAnswer, cellsAfter, ListPromise}
 use Rattle.playing.proofs.Counts.{list-count}
-use Rattle.playing.proofs.Tallies.{list-mark}
+use Rattle.playing.proofs.Marks.{list-mark}
 use Rattle.playing.proofs.Bounds.{list-most, none-too-long}
 
 -- ---- a message that is accepted
@@ -73,9 +75,9 @@ module _ (m : List ℕ) (t : Tone) (q : readTone m ≡ accepted t) where
   unfolding ahead
   patterns-within = record { inside = inside; counted = omega (arith, says .0) }
 
--- ---- what a verdict says of the reading behind it
+-- ---- what an answer says of the reading behind it
 
-refused-there : (x : Outcome Tone) {n : ℕ} {f : BitPlace} → Faulty n f ≡ verdictOf x → x ≡ refused n (f .0)
+refused-there : (x : Outcome Tone) {n : ℕ} {f : BitPlace} → Faulty n f ≡ judgedOf x → x ≡ refused n (f .0)
 refused-there (accepted t) e = let z : _≡_ {A = ℕ} 0 1 = cc in absurd (omega arith)
 refused-there (refused k p) {n} {f} e =
     let e₁ : n ≡ k = cc in
@@ -91,7 +93,7 @@ record ListThere (x : Outcome Tone) (e k n at : ℕ) : Type 0 where
   patterns : n ≡ length (tone .patterns)
   front : at ≡ length (frontBits (frontOf tone))
 
-listable-there : (x : Outcome Tone) {e k n : ℕ} {f : BitPlace} → Listable e k n f ≡ verdictOf x → ListThere x e k n (f .0)
+listable-there : (x : Outcome Tone) {s : ℕ} {f : BitPlace} {o : OctetCount} {n v e k : ℕ} {u : Bool} → Sound s f o n v e k u ≡ judgedOf x → ListThere x e k n (f .0)
 listable-there (accepted t) {f = f} e =
     let z : f ≡ place (length (frontBits (frontOf t))) = cc in
     record { tone = t; there = refl; entries = cc; mark = cc; patterns = cc; front = ap (λ (p : BitPlace). p .0) z }
@@ -108,7 +110,7 @@ list-numbers (refused n p) = refl
 promised : (m : List ℕ) (fits : Listing → Bool) (old : List ℕ) {x : Outcome Listing} → listTone m fits ≡ x → ListPromise m fits old (cellsAfter x old) (listAnswer x)
 promised m fits old e = rw (← e) (record { answer = refl; said = list-numbers (listTone m fits); leaves = refl })
 
-module _ (m : List ℕ) (old : List ℕ) (rows : ℕ) {v : Verdict} (q : v ≡ verdictOf (readTone m)) where
+module _ (m : List ℕ) (old : List ℕ) (rows : ℕ) {v : Judged} (q : v ≡ judgedOf (readTone m)) where
   abbrev fits : Listing → Bool
   fits = fitsBoth (length old) rows
 
@@ -116,7 +118,7 @@ module _ (m : List ℕ) (old : List ℕ) (rows : ℕ) {v : Verdict} (q : v ≡ v
   unfolding listTone
   list-faulty g = promised m fits old (ap (listed fits) (refused-there (readTone m) (sym g ∙ q)))
 
-  module _ {e k n : ℕ} {f : BitPlace} (g : v ≡ Listable e k n f) where
+  module _ {s : ℕ} {f : BitPlace} {o : OctetCount} {n b e k : ℕ} {u : Bool} (g : v ≡ Sound s f o n b e k u) where
     there : ListThere (readTone m) e k n (f .0)
     there = listable-there (readTone m) (sym g ∙ q)
 

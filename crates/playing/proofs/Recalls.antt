@@ -13,7 +13,9 @@ use Rattle.bits.proofs.Choice.{pick-elim}
 use Rattle.tone.specs.Tone.{Pattern, specifier, partOf, pattern, header, noneKnown, learn, Sound, Sequence}
 use Rattle.tone.proofs.Rows.{header-small, pattern-header}
 use Rattle.playing.specs.Sounding.{atStart}
-use Rattle.playing.specs.Playing.{Remembered, unknown, known, recalled, noBodies, isRecall, bodyOf, remember, patternPlayed, play}
+use Rattle.playing.specs.Playing.{patternPlayed, play}
+use Rattle.judging.specs.Bodies.{Remembered, unknown, known, recalled, noBodies, isRecall, bodyOf, remember}
+use Rattle.judging.proofs.Bodies.{isKnown, knownOf, learn-read, remember-length}
 use Rattle.playing.proofs.Joining.{bodiesAfter, same-behind}
 
 -- a pattern defines an id
@@ -45,14 +47,6 @@ orElse-assoc (known x) b c = refl
 orElse-unknown : (a : Remembered) → orElse a unknown ≡ a
 orElse-unknown unknown = refl
 orElse-unknown (known x) = refl
-
-pub remember-length : (bodies : List Remembered) (p : Pattern) → length (remember bodies p) ≡ length bodies
-unfolding remember
-remember-length bodies p = go (isRecall p)
-  where
-    go : (t : Bool) → length (pick t bodies (set bodies (p .id) (known (p .body)))) ≡ length bodies
-    go true = refl
-    go false = length-set bodies (p .id) (known (p .body))
 
 -- one pattern more
 remember-one : (bodies : List Remembered) (p : Pattern) (id : ℕ) → id < length bodies → getD (remember bodies p) id unknown ≡ orElse (bodyFor id p) (getD bodies id unknown)
@@ -112,38 +106,7 @@ recall-is-definition before q behind h recall =
     (same-behind atStart noBodies 0 before (q ∷ behind) (spelledOut (getD (bodiesAfter noBodies before) (q .id) unknown) q ∷ behind)
     (λ s n. rw (same-body (bodiesAfter noBodies before) q recall, same-places (bodiesAfter noBodies before) q recall)))
 
--- once a pattern is remembered, its id has the body that sounds
-pub body-sounding : (bodies : List Remembered) (h : ℕ) (b : List ℕ) → length bodies ≡ 4 → recalled (getD (remember bodies (pattern h b)) (partOf h) unknown) ≡ bodyOf bodies (pattern h b)
-unfolding remember bodyOf
-body-sounding bodies h b four = go (eqb (length b) 0)
-  where
-    go : (t : Bool) → recalled (getD (pick t bodies (set bodies (partOf h) (known b))) (partOf h) unknown) ≡ pick t (recalled (getD bodies (partOf h) unknown)) b
-    go true = refl
-    go false = ap recalled (getD-set-same bodies (partOf h) (known b) unknown (omega arith))
-
 -- ---- a recall of a tone that document 01 allows has a body
-
-abbrev pub isKnown : Remembered → Bool
-isKnown unknown = false
-isKnown (known b) = true
-
--- which of the four are known
-abbrev pub knownOf : List Remembered → List Bool
-knownOf = map isKnown
-
-map-set : (bodies : List Remembered) (i : ℕ) (r : Remembered) → set (knownOf bodies) i (isKnown r) ≡ knownOf (set bodies i r)
-map-set [] i r = refl
-map-set (x ∷ bodies) zero r = refl
-map-set (x ∷ bodies) (suc i) r = ap (λ (l : List Bool). isKnown x ∷ l) (map-set bodies i r)
-
--- what reading knows is what playing remembers
-pub learn-read : (bodies : List Remembered) (h : ℕ) (b : List ℕ) → length b ≡ specifier h → learn (knownOf bodies) h ≡ knownOf (remember bodies (pattern h b))
-unfolding remember
-learn-read bodies h b e = rw (← e) (go (eqb (length b) 0))
-  where
-    go : (t : Bool) → pick t (knownOf bodies) (set (knownOf bodies) (partOf h) true) ≡ knownOf (pick t bodies (set bodies (partOf h) (known b)))
-    go true = refl
-    go false = map-set bodies (partOf h) (known b)
 
 learn-remembers : (bodies : List Remembered) (p : Pattern) → Sound p → learn (knownOf bodies) (header p) ≡ knownOf (remember bodies p)
 learn-remembers bodies p s =

@@ -2,8 +2,6 @@ pub mod Duration
 pub mod Sounding
 pub mod Ranges
 pub mod Playing
-pub mod Counting
-pub mod Answers
 pub mod Filling
 pub mod Listing
 pub mod Promise

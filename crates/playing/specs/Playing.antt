@@ -1,12 +1,12 @@
 -- The playing list of a tone: passes, recalls, loop 15 and the return mark.
 use Prim.Native.Nat.{ℕ, zero, suc, _+_}
-use mathlib.Core.Bool.{Bool}
 use mathlib.Core.List.{List, [], _∷_, _++_}
-use lib.ListN.{length, getD, set}
+use lib.ListN.{length}
 use lib.Dec.{eqb}
 use Rattle.bits.specs.Choice.{pick}
 use Rattle.tone.specs.Table.{kind, payload}
 use Rattle.tone.specs.Tone.{Pattern, Tone}
+use Rattle.judging.specs.Bodies.{Remembered, noBodies, passesOf, noMark, bodyOf, remember}
 use Rattle.playing.specs.declared.Settings.{Settings}
 use Rattle.playing.specs.declared.Entry.{Entry}
 use Rattle.playing.specs.Sounding.{atStart, applied, sounded}
@@ -34,43 +34,7 @@ abbrev pub passes : ℕ → Settings → List ℕ → Played
 passes zero s b = record { entries = []; after = s }
 passes (suc n) s b = ahead (pass s b .entries) (passes n (pass s b .after) b)
 
--- how many passes a loop value lists: loop n sounds n + 1 times, loop 15 is listed once
-unfoldable pub passesOf : ℕ → ℕ
-passesOf loop = pick (eqb loop 15) 1 (loop + 1)
-
--- ---- the four bodies
-
--- a part's body, known or not yet defined
-pub data Remembered : Type 0 where
-  unknown : Remembered
-  known : List ℕ → Remembered
-
--- at the start none is defined
-abbrev pub noBodies : List Remembered
-noBodies = unknown ∷ unknown ∷ unknown ∷ unknown ∷ []
-
--- the instructions of a remembered body
-abbrev pub recalled : Remembered → List ℕ
-recalled unknown = []
-recalled (known b) = b
-
--- a pattern with no instructions of its own is a recall
-abbrev pub isRecall : Pattern → Bool
-isRecall p = eqb (length (p .body)) 0
-
--- the body that sounds: a recall's is that of the nearest earlier definition of its id
-unfoldable pub bodyOf : List Remembered → Pattern → List ℕ
-bodyOf bodies p = pick (isRecall p) (recalled (getD bodies (p .id) unknown)) (p .body)
-
--- a definition replaces the body of its id
-unfoldable pub remember : List Remembered → Pattern → List Remembered
-remember bodies p = pick (isRecall p) bodies (set bodies (p .id) (known (p .body)))
-
 -- ---- the list
-
--- the return mark where there is none
-abbrev pub noMark : ℕ
-noMark = 4294967295
 
 -- the entries, and the position of the entry to return to
 pub record Listing : Type 0 where

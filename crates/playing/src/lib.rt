@@ -2,27 +2,20 @@ ghost use mathlib.Core.Path.{_≡_};
 ghost use mathlib.Core.List.{_++_};
 ghost use Prim.Native.Nat.{_+_, _*_, _/_, _^_, _≤_, _<_};
 ghost use lib.ListN.{length, drop};
-ghost use Rattle.bits.specs.Bits.{bitsOf};
 ghost use Rattle.bits.specs.Lent.{over};
-ghost use lib.Dec.{eqb};
-ghost use Rattle.bits.specs.Choice.{pick};
 ghost use Rattle.tone.specs.Table.{Instruction};
-ghost use Rattle.tone.specs.Tone.{specifier, noneKnown};
-ghost use Rattle.tone.specs.Reading.{patternsDue, rest as restDue, readTone};
-ghost use Rattle.reading.specs.Answers.{Within, noteIn, notes as notesOf};
+ghost use Rattle.reading.specs.Answers.{noteIn, notes as notesOf};
 ghost use Rattle.playing.specs.Duration.{beats as beatsOf, units as unitsOf};
 ghost use Rattle.playing.specs.Sounding.{atStart, applied as appliedTo, unpacked, numbers, entryAt, entriesOf};
 ghost use Rattle.playing.specs.Ranges.{InRange};
-ghost use Rattle.playing.specs.Playing.{step, pass, passes, passesOf, noBodies, play};
-ghost use Rattle.playing.specs.Counting.{entryCount, markOf};
+ghost use Rattle.playing.specs.Playing.{step, pass, passes, play};
+ghost use Rattle.judging.specs.Bodies.{noBodies};
+ghost use Rattle.judging.specs.Counting.{entryCount};
 ghost use Rattle.playing.specs.Filling.{bodyIn, behindIn, BodyAt, patternsIn, endIn, PatternsAt, partAfter, behindPattern, paceOf, baseOf, Ready, Advanced};
-ghost use Rattle.playing.specs.Answers.{totalFrom, noCount, counted as countedOf, tallyAs, verdictOf};
 ghost use Rattle.playing.specs.Listing.{fitsNumbers, fitsBoth};
 ghost use Rattle.playing.specs.Promise.{entriesIn, ListPromise, RowsPromise};
 use bits::BitPlace;
-use bits::OctetCount;
-use reading::Opening;
-use reading::Step;
+use judging::Judged;
 
 // The four settings, as codes.
 pub struct Settings {
@@ -40,41 +33,6 @@ pub struct Entry {
     pub style: u32,
     pub volume: u32,
     pub microseconds: u32,
-}
-
-// What is counted so far: the entries, the return mark, and whether a loop 15 has ended the list.
-pub struct Count {
-    pub entries: u32,
-    pub mark: u32,
-    pub ended: bool,
-}
-
-// What patterns come to: the entries of their list, its return mark and the place behind them; or the refusal.
-pub enum Tally {
-    Counted {
-        entries: u32,
-        mark: u32,
-        next: BitPlace,
-    },
-    Stopped {
-        number: u32,
-        at: BitPlace,
-    },
-}
-
-// A message that was judged: the entries of its list, the return mark, the patterns and the place of the first of them; or
-// the refusal.
-pub enum Verdict {
-    Listable {
-        entries: u32,
-        mark: u32,
-        patterns: u32,
-        at: BitPlace,
-    },
-    Faulty {
-        number: u32,
-        at: BitPlace,
-    },
 }
 
 // What making a list answers: its entries and its return mark, or the refusal.
@@ -252,176 +210,6 @@ fn fill_rows(list: &[u32], n: usize, rows: &mut [Entry])
     }
 }
 
-// ---- judging
-
-// The return mark where there is none.
-const NO_MARK: u32 = 4294967295;
-
-// How many passes a loop value lists.
-fn passes_of(value: u32) -> u32
-    requires { ⌜ value ≤ 15 ⌝ }
-    ensures { λ r. ⌜ (r ≡ passesOf value) × (1 ≤ r) × (r ≤ 15) ⌝ }
-{
-    if value == 15 { 1 } else { value + 1 }
-}
-
-// The mark of a loop-15 pass of so many notes that starts at `n`.
-fn mark_of(n: u32, notes: u32) -> u32
-    ensures { λ r. ⌜ r ≡ markOf n notes ⌝ }
-{
-    if notes == 0 { NO_MARK } else { n }
-}
-
-impl Count {
-    // Nothing is counted.
-    fn none() -> Count
-        ensures { λ r. ⌜ r ≡ noCount ⌝ }
-    {
-        Count {
-            entries: 0,
-            mark: NO_MARK,
-            ended: false,
-        }
-    }
-
-    // One pattern more, of so many notes and this loop value.
-    fn with(self, notes: u32, value: u32) -> Count
-        requires { ⌜ (self .entries ≤ 971550) × (notes ≤ 255) × (value ≤ 15) ⌝ }
-        ensures { λ r. ⌜ r ≡ countedOf self notes value ⌝ }
-    {
-        if self.ended {
-            return self;
-        }
-        let entries = self.entries + notes * passes_of(value);
-        if value == 15 {
-            return Count {
-                entries,
-                mark: mark_of(self.entries, notes),
-                ended: true,
-            };
-        }
-        Count {
-            entries,
-            mark: self.mark,
-            ended: false,
-        }
-    }
-}
-
-// The notes of the body that a header sounds: its own, or those of the part recalled.
-fn sounding(recalled: u32, header: u32, own: u32) -> u32
-    ensures { λ r. ⌜ r ≡ pick (eqb (specifier header) 0) recalled own ⌝ }
-{
-    if header % 256 == 0 { recalled } else { own }
-}
-
-// Judges `n` patterns and counts the entries of their list.
-fn patterns(msg: &[u8], at: BitPlace, n: u32) -> Tally
-    requires { ⌜ Within (now msg) (at .0) ⌝ }
-    requires { ⌜ n ≤ 255 ⌝ }
-    ensures { λ r. ⌜ r ≡ tallyAs (totalFrom noBodies 0) (patternsDue n noneKnown (bitsOf (now (msg .entry))) (at .0)) ⌝ }
-{
-    let mut known = [false; 4];
-    let mut notes = [0u32; 4];
-    let mut place = at;
-    let mut left = n;
-    let mut count = Count::none();
-    while 0 < left {
-        match reading::header(msg, place, known) {
-            Step::Bad { number, at: fault } => {
-                return Tally::Stopped { number, at: fault };
-            }
-            Step::Good { value, next } => match reading::body(msg, next, value % 256) {
-                Step::Bad { number, at: fault } => {
-                    return Tally::Stopped { number, at: fault };
-                }
-                Step::Good {
-                    value: own,
-                    next: behind,
-                } => {
-                    let id = (value / 4096 % 4) as usize;
-                    known[id] = true;
-                    let heard = sounding(notes[id], value, own);
-                    notes[id] = heard;
-                    count = count.with(heard, value / 256 % 16);
-                    place = behind;
-                    left -= 1;
-                }
-            },
-        }
-    }
-    Tally::Counted {
-        entries: count.entries,
-        mark: count.mark,
-        next: place,
-    }
-}
-
-// Judges patterns, filler and the end octet, and counts the entries of the list.
-fn rest(msg: &[u8], at: BitPlace, n: u32) -> Tally
-    requires { ⌜ Within (now msg) (at .0) ⌝ }
-    requires { ⌜ n ≤ 255 ⌝ }
-    ensures { λ r. ⌜ r ≡ tallyAs (totalFrom noBodies 0) (restDue n (bitsOf (now (msg .entry))) (at .0)) ⌝ }
-{
-    match patterns(msg, at, n) {
-        Tally::Stopped { number, at: fault } => Tally::Stopped { number, at: fault },
-        Tally::Counted {
-            entries,
-            mark,
-            next: behind,
-        } => match reading::ending(msg, behind) {
-            Step::Bad { number, at: fault } => Tally::Stopped { number, at: fault },
-            Step::Good { value: _, next } => Tally::Counted {
-                entries,
-                mark,
-                next,
-            },
-        },
-    }
-}
-
-// Judges a message for its list, and changes nothing.
-pub fn judge(msg: &[u8]) -> Verdict
-    ensures { λ r. ⌜ r ≡ verdictOf (readTone (now (msg .entry))) ⌝ }
-{
-    if 4096 < msg.len() {
-        return Verdict::Faulty {
-            number: 1,
-            at: BitPlace(0),
-        };
-    }
-    match reading::open(msg, BitPlace(0)) {
-        Opening::Closed { number, at: fault } => Verdict::Faulty { number, at: fault },
-        Opening::Opened {
-            song: _,
-            unicode: _,
-            octets: _,
-            count,
-            next: at,
-        } => match rest(msg, at, count) {
-            Tally::Stopped { number, at: fault } => Verdict::Faulty { number, at: fault },
-            Tally::Counted {
-                entries,
-                mark,
-                next: end,
-            } => {
-                if end.0 != bits::place_after(OctetCount(msg.len())).0 {
-                    return Verdict::Faulty {
-                        number: 10,
-                        at: end,
-                    };
-                }
-                Verdict::Listable {
-                    entries,
-                    mark,
-                    patterns: count,
-                    at,
-                }
-            }
-        },
-    }
-}
-
 // ---- filling, once a message is judged
 
 impl Walk {
@@ -563,7 +351,7 @@ fn fill_list(msg: &[u8], at: BitPlace, n: u32, list: &mut [u32])
                 return;
             }
             Part::Known { at: from, count } => {
-                walk = fill_passes(msg, from, count, passes_of(value), list, walk);
+                walk = fill_passes(msg, from, count, judging::passes_of(value), list, walk);
             }
         }
         if value == 15 {
@@ -580,16 +368,20 @@ fn fill_list(msg: &[u8], at: BitPlace, n: u32, list: &mut [u32])
 fn list_within(msg: &[u8], list: &mut [u32], most: usize) -> Listed
     ensures { λ r. ⌜ ListPromise (now (msg .entry)) (fitsBoth (length (now (list .entry))) most) (now (list .entry)) (now (list .exit)) r ⌝ }
 {
-    match judge(msg) {
-        Verdict::Faulty { number, at: fault } => Listed::Refused {
+    match judging::judge(msg) {
+        Judged::Faulty { number, at: fault } => Listed::Refused {
             number,
             place: fault,
         },
-        Verdict::Listable {
-            entries,
-            mark,
-            patterns,
+        Judged::Sound {
+            song: _,
             at,
+            octets: _,
+            patterns,
+            table: _,
+            list: entries,
+            mark,
+            unicode: _,
         } => {
             if list.len() / 2 < entries as usize {
                 return Listed::Refused {

@@ -1,4 +1,3 @@
-pub mod Judgements
 pub mod Filling
 pub mod Told
 pub mod Unique

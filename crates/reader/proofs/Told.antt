@@ -24,12 +24,13 @@ use Rattle.tone.specs.Writing.{commandBits, titleBits, tableBits, frontBits, so
 use Rattle.tone.specs.Reading.{wholeTone, got, readTone}
 use Rattle.tone.proofs.Rows.{header-small}
 use Rattle.tone.proofs.Demand2.{Says, read-says, core-reads}
-use Rattle.reader.specs.declared.Judged.{Judged}
-use Rattle.reader.specs.declared.Judged.the-variants.{Sound, Faulty}
+use Rattle.judging.specs.declared.Judged.{Judged}
+use Rattle.judging.specs.declared.Judged.the-variants.{Sound, Faulty}
 use Rattle.reader.specs.declared.Reading.{Reading}
 use Rattle.reader.specs.declared.Reading.the-variants.{Read, Refused}
 use Rattle.reading.specs.Answers.{Within, place, entries, octetCount}
-use Rattle.reader.specs.Judging.{judgedOf, Entries, TableAt, OctetsAt, tableOf, titleOf}
+use Rattle.judging.specs.Answers.{judgedOf}
+use Rattle.reader.specs.Judging.{Entries, TableAt, OctetsAt, tableOf, titleOf}
 use Rattle.reader.specs.Promise.{roomed, readInto, numbers, readNumbers, readAnswer, tableAfter, titleAfter, ReadPromise}
 
 -- ---- what stands where in a message that was accepted
@@ -136,15 +137,15 @@ pub record SoundThere (m : List ℕ) (s : ℕ) (u : Bool) (o : OctetCount) (p e 
   pub entries : e ≡ entries (tone .patterns)
   pub place : f .0 ≡ length (frontBits (frontOf tone))
 
-pub sound-there : (m : List ℕ) {s : ℕ} {u : Bool} {o : OctetCount} {p e : ℕ} {f : BitPlace} → Sound s u o p e f ≡ judgedOf (readTone m) → SoundThere m s u o p e f
-sound-there m {s} {u} {o} {p} {e} {f} h = go (readTone m) refl h
+pub sound-there : (m : List ℕ) {s : ℕ} {u : Bool} {o : OctetCount} {p e n k : ℕ} {f : BitPlace} → Sound s f o p e n k u ≡ judgedOf (readTone m) → SoundThere m s u o p e f
+sound-there m {s} {u} {o} {p} {e} {n} {k} {f} h = go (readTone m) refl h
   where
-    go : (x : Outcome Tone) → readTone m ≡ x → Sound s u o p e f ≡ judgedOf x → SoundThere m s u o p e f
+    go : (x : Outcome Tone) → readTone m ≡ x → Sound s f o p e n k u ≡ judgedOf x → SoundThere m s u o p e f
     go (accepted t) q g =
         let z : f ≡ place (length (frontBits (frontOf t))) = cc in
         let y : o ≡ octetCount (length (t .title)) = cc in
         record { tone = t; told = told m t q; song = cc; unicode = cc; octets = ap (λ (x : OctetCount). x .0) y; patterns = cc; entries = cc; place = ap (λ (x : BitPlace). x .0) z }
-    go (refused n p′) q g = let z : _≡_ {A = ℕ} 0 1 = cc in absurd (omega arith)
+    go (refused n′ p′) q g = let z : _≡_ {A = ℕ} 0 1 = cc in absurd (omega arith)
 
 -- the answer to an outcome has the outcome's numbers
 read-numbers : (x : Outcome Tone) → numbers (readAnswer x) ≡ readNumbers x
@@ -166,7 +167,7 @@ module _ (m table title : List ℕ) {j : Judged} (q : j ≡ judgedOf (readTone m
           let e : Refused n f ≡ Refused n′ (place p) = cc in
           promised m table title table title (Refused n f) (refused n′ p) (rw y refl) e refl refl
 
-  module _ {s : ℕ} {u : Bool} {o : OctetCount} {p e : ℕ} {f : BitPlace} (g : j ≡ Sound s u o p e f) where
+  module _ {s : ℕ} {u : Bool} {o : OctetCount} {p e n k : ℕ} {f : BitPlace} (g : j ≡ Sound s f o p e n k u) where
     there : SoundThere m s u o p e f
     there = sound-there m (sym g ∙ q)
 

@@ -1,24 +1,15 @@
--- A whole message that is judged, and what stands where in it.
+-- What stands where in a message that was judged.
 use Prim.Native.Nat.{ℕ}
 use mathlib.Core.Path.{_≡_}
 use mathlib.Core.Bool.{Bool}
 use mathlib.Core.List.{List, [], _∷_, _++_}
-use lib.ListN.{length, drop}
+use lib.ListN.{drop}
 use Rattle.bits.specs.Bits.{bitsOf, Octets}
 use Rattle.bits.specs.Outcome.{Outcome, accepted, refused}
 use Rattle.tone.specs.Table.{InTable}
-use Rattle.tone.specs.Tone.{Tone, frontOf, cells}
-use Rattle.tone.specs.Writing.{tableBits, frontBits}
+use Rattle.tone.specs.Tone.{Tone, cells}
+use Rattle.tone.specs.Writing.{tableBits}
 use Rattle.tone.specs.Reading.{readTone}
-use Rattle.reading.specs.Answers.{place, octetCount, entries}
-use Rattle.reader.specs.declared.Judged.{Judged}
-use Rattle.reader.specs.declared.Judged.the-variants.{Sound, Faulty}
-
--- a tone that was judged, or the refusal: song type, UNICODE or not, the title's octets, the patterns, the entries, and the place of the first pattern
-abbrev pub judgedOf : Outcome Tone → Judged
-judgedOf (accepted t) =
-    Sound (t .song) (t .unicode) (octetCount (length (t .title))) (length (t .patterns)) (entries (t .patterns)) (place (length (frontBits (frontOf t))))
-judgedOf (refused n p) = Faulty n (place p)
 
 -- the table and the title of a message that is accepted
 abbrev pub tableIn : Outcome Tone → List ℕ

@@ -6,31 +6,12 @@ ghost use lib.ListN.{length};
 ghost use Rattle.bits.specs.Bits.{bitsOf, placeAfter};
 ghost use Rattle.bits.specs.Lent.{over};
 ghost use Rattle.tone.specs.Tone.{perCharacter};
-ghost use Rattle.tone.specs.Reading.{readTone, front as frontDue, rest as restDue};
-ghost use Rattle.reading.specs.Answers.{Within, openingOf, stepAs, entries as entriesOf};
-ghost use Rattle.reader.specs.Judging.{judgedOf, TableAt, OctetsAt, tableOf, titleOf};
+ghost use Rattle.reading.specs.Answers.{Within};
+ghost use Rattle.reader.specs.Judging.{TableAt, OctetsAt, tableOf, titleOf};
 ghost use Rattle.reader.specs.Promise.{ReadPromise};
 use bits::BitPlace;
 use bits::OctetCount;
-use reading::Opening;
-use reading::Step;
-
-// A message that was judged: song type, UNICODE or not, the title's octets, patterns, table entries, and the place of the
-// first pattern; or the refusal.
-pub enum Judged {
-    Sound {
-        song: u32,
-        unicode: bool,
-        octets: OctetCount,
-        patterns: u32,
-        entries: u32,
-        at: BitPlace,
-    },
-    Faulty {
-        number: u32,
-        at: BitPlace,
-    },
-}
+use judging::Judged;
 
 // What reading a message answers.
 pub enum Reading {
@@ -45,104 +26,6 @@ pub enum Reading {
         number: u32,
         place: BitPlace,
     },
-}
-
-// A message and the place reached in it.
-pub struct Reader<'a> {
-    pub msg: &'a [u8],
-    pub at: BitPlace,
-}
-
-// A reader at the start of a message.
-pub fn start<'a>(msg: &'a [u8]) -> Reader<'a>
-    ensures { λ r. ⌜ (r .msg ≡ msg .entry) × (r .at .0 ≡ 0) ⌝ }
-{
-    Reader {
-        msg,
-        at: BitPlace(0),
-    }
-}
-
-// The front that stands at a reader's place.
-pub fn front<'a>(r: Reader<'a>) -> Opening
-    requires { ⌜ Within (now (r .msg)) (r .at .0) ⌝ }
-    ensures { λ o. ⌜ o ≡ openingOf (frontDue (bitsOf (now (r .entry .msg))) (r .entry .at .0)) ⌝ }
-{
-    reading::open(r.msg, r.at)
-}
-
-// The front of a message.
-pub fn front_of(msg: &[u8]) -> Opening
-    requires { ⌜ Within (now msg) 0 ⌝ }
-    ensures { λ o. ⌜ o ≡ openingOf (frontDue (bitsOf (now (msg .entry))) 0) ⌝ }
-{
-    front(start(msg))
-}
-
-// The same message at another place.
-pub fn moved<'a>(r: Reader<'a>, at: BitPlace) -> Reader<'a>
-    ensures { λ q. ⌜ (q .msg ≡ r .entry .msg) × (q .at ≡ at) ⌝ }
-{
-    Reader { msg: r.msg, at }
-}
-
-// The patterns, filler and end octet that stand at a reader's place.
-pub fn rest<'a>(r: Reader<'a>, count: u32) -> Step
-    requires { ⌜ Within (now (r .msg)) (r .at .0) × (count ≤ 255) ⌝ }
-    ensures { λ s. ⌜ s ≡ stepAs entriesOf (restDue count (bitsOf (now (r .entry .msg))) (r .entry .at .0)) ⌝ }
-{
-    reading::rest(r.msg, r.at, count)
-}
-
-// The patterns of a message, from a place on.
-pub fn rest_of(msg: &[u8], at: BitPlace, count: u32) -> Step
-    requires { ⌜ Within (now msg) (at .0) × (count ≤ 255) ⌝ }
-    ensures { λ s. ⌜ s ≡ stepAs entriesOf (restDue count (bitsOf (now (msg .entry))) (at .0)) ⌝ }
-{
-    rest(moved(start(msg), at), count)
-}
-
-// Judges a whole message, and changes nothing.
-pub fn judge(msg: &[u8]) -> Judged
-    ensures { λ r. ⌜ r ≡ judgedOf (readTone (now (msg .entry))) ⌝ }
-{
-    if 4096 < msg.len() {
-        return Judged::Faulty {
-            number: 1,
-            at: BitPlace(0),
-        };
-    }
-    match front_of(msg) {
-        Opening::Closed { number, at: fault } => Judged::Faulty { number, at: fault },
-        Opening::Opened {
-            song,
-            unicode,
-            octets,
-            count,
-            next: at,
-        } => match rest_of(msg, at, count) {
-            Step::Bad { number, at: fault } => Judged::Faulty { number, at: fault },
-            Step::Good {
-                value: entries,
-                next: end,
-            } => {
-                if end.0 != bits::place_after(OctetCount(msg.len())).0 {
-                    return Judged::Faulty {
-                        number: 10,
-                        at: end,
-                    };
-                }
-                Judged::Sound {
-                    song,
-                    unicode,
-                    octets,
-                    patterns: count,
-                    entries,
-                    at,
-                }
-            }
-        },
-    }
 }
 
 // Writes the `n` entries that stand at a place to the table.
@@ -197,18 +80,20 @@ fn characters_in(octets: OctetCount, unicode: bool) -> u32
 pub fn read(msg: &[u8], table: &mut [u32], title: &mut [u8]) -> Reading
     ensures { λ r. ⌜ ReadPromise (now (msg .entry)) (now (table .entry)) (now (title .entry)) (now (table .exit)) (now (title .exit)) r ⌝ }
 {
-    match judge(msg) {
+    match judging::judge(msg) {
         Judged::Faulty { number, at: fault } => Reading::Refused {
             number,
             place: fault,
         },
         Judged::Sound {
             song,
-            unicode,
+            at,
             octets,
             patterns,
-            entries,
-            at,
+            table: entries,
+            list: _,
+            mark: _,
+            unicode,
         } => {
             if title.len() < octets.0 {
                 return Reading::Refused {

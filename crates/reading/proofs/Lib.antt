@@ -2,5 +2,4 @@ pub mod Elements
 pub mod Steps
 pub mod Walks
 pub mod Openings
-pub mod Rests
 pub mod Standing

@@ -228,9 +228,9 @@ module _ (m : List ℕ) (at song : ℕ) (unicode : Bool) {s : Step} (q : s ≡ s
         unfolding titled counted
         titled-zero h = rw (title-there .1, bad-there 8 5 (leb 1) m (f .0) q′ g′ (rw h refl))
 
-        pub titled-good : (v ≡ 0 → ⊥) → Opened song unicode (octetCount o) v f′ ≡ openingOf (titled song unicode (bitsOf m) at)
+        pub titled-good : (v ≡ 0 → ⊥) → Opened song f′ (octetCount o) v unicode ≡ openingOf (titled song unicode (bitsOf m) at)
         unfolding titled counted
-        titled-good h = rw (title-there .1, good-there 8 5 (leb 1) m (f .0) q′ g′ (le-leb 1 v (omega arith))) (ap (λ (x : ℕ). Opened song unicode (octetCount x) v f′) (title-there .2))
+        titled-good h = rw (title-there .1, good-there 8 5 (leb 1) m (f .0) q′ g′ (le-leb 1 v (omega arith))) (ap (λ (x : ℕ). Opened song f′ (octetCount x) v unicode) (title-there .2))
 
 -- ---- the whole front
 

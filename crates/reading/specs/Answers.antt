@@ -64,7 +64,7 @@ commandOf (bad n p e) = Withheld n (place p)
 
 -- the front as the code answers it, or the refusal
 abbrev pub openingOf : Got Front → Opening
-openingOf (got f p) = Opened (f .song) (f .unicode) (octetCount (length (f .title))) (f .count) (place p)
+openingOf (got f p) = Opened (f .song) (place p) (octetCount (length (f .title))) (f .count) (f .unicode)
 openingOf (bad n p e) = Closed n (place p)
 
 -- ---- what stands at a place of a message that was judged

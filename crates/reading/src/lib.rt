@@ -27,14 +27,15 @@ pub enum Command {
     Withheld { number: u32, at: BitPlace },
 }
 
-// The front of a message: song type, UNICODE or not, the title's octets, the pattern count and the place behind it; or the refusal.
+// The front of a message: song type, the place behind it, the title's octets, the pattern count, UNICODE or not; or the
+// refusal. The first fields of the cases are alike, so that an answer is copied whole.
 pub enum Opening {
     Opened {
         song: u32,
-        unicode: bool,
+        next: BitPlace,
         octets: OctetCount,
         count: u32,
-        next: BitPlace,
+        unicode: bool,
     },
     Closed {
         number: u32,
@@ -242,43 +243,6 @@ pub fn body(msg: &[u8], at: BitPlace, n: u32) -> Step
     }
 }
 
-// `n` patterns. The number is how many entries they have in the tone table.
-pub fn patterns(msg: &[u8], at: BitPlace, n: u32) -> Step
-    requires { ⌜ Within (now msg) (at .0) ⌝ }
-    requires { ⌜ n ≤ 255 ⌝ }
-    ensures { λ r. ⌜ r ≡ stepAs entriesOf (patternsDue n noneKnown (bitsOf (now (msg .entry))) (at .0)) ⌝ }
-{
-    let mut known = [false; 4];
-    let mut place = at;
-    let mut left = n;
-    let mut entries: u32 = 0;
-    while 0 < left {
-        match header(msg, place, known) {
-            Step::Bad { number, at: fault } => {
-                return Step::Bad { number, at: fault };
-            }
-            Step::Good { value, next } => match body(msg, next, value % 256) {
-                Step::Bad { number, at: fault } => {
-                    return Step::Bad { number, at: fault };
-                }
-                Step::Good {
-                    value: _,
-                    next: behind,
-                } => {
-                    known[(value / 4096 % 4) as usize] = true;
-                    place = behind;
-                    entries += 1 + value % 256;
-                    left -= 1;
-                }
-            },
-        }
-    }
-    Step::Good {
-        value: entries,
-        next: place,
-    }
-}
-
 // ---- the front
 
 // A command part of seven bits, and the filler bit behind it.
@@ -440,10 +404,10 @@ fn titled(msg: &[u8], at: BitPlace, song: u32, unicode: bool) -> Opening
                 }
                 Opening::Opened {
                     song,
-                    unicode,
+                    next,
                     octets: OctetCount(octets as usize),
                     count: value,
-                    next,
+                    unicode,
                 }
             }
         },
@@ -496,26 +460,6 @@ pub fn ending(msg: &[u8], at: BitPlace) -> Step
     match due(msg, at, filler, 0, 8) {
         Step::Bad { number, at: fault } => Step::Bad { number, at: fault },
         Step::Good { value: _, next } => due(msg, next, 8, 0, 9),
-    }
-}
-
-// ---- a whole message
-
-// Patterns, filler and the end octet. The number is how many entries there are in the tone table.
-pub fn rest(msg: &[u8], at: BitPlace, n: u32) -> Step
-    requires { ⌜ Within (now msg) (at .0) ⌝ }
-    requires { ⌜ n ≤ 255 ⌝ }
-    ensures { λ r. ⌜ r ≡ stepAs entriesOf (restDue n (bitsOf (now (msg .entry))) (at .0)) ⌝ }
-{
-    match patterns(msg, at, n) {
-        Step::Bad { number, at: fault } => Step::Bad { number, at: fault },
-        Step::Good {
-            value,
-            next: behind,
-        } => match ending(msg, behind) {
-            Step::Bad { number, at: fault } => Step::Bad { number, at: fault },
-            Step::Good { value: _, next } => Step::Good { value, next },
-        },
     }
 }
 

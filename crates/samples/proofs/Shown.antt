@@ -6,7 +6,8 @@ use Rattle.tone.specs.Writing as writing
 use Rattle.tone.specs.Reading as reading
 use Rattle.playing.specs.Duration.{beats, units, microseconds}
 use Rattle.playing.specs.Sounding.{applied, sounded}
-use Rattle.playing.specs.Playing.{step, passesOf, bodyOf, remember, patternPlayed, playingList}
+use Rattle.playing.specs.Playing.{step, patternPlayed, playingList}
+use Rattle.judging.specs.Bodies.{passesOf, bodyOf, remember}
 use Rattle.editing.specs.Editing.{editMessage}
 use Rattle.bitmap.proofs.Samples as bitmaps
 use Rattle.samples.specs.Samples.{Samples}

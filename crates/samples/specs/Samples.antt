@@ -10,7 +10,8 @@ use Rattle.tone.specs.Writing.{toneOctets}
 use Rattle.tone.specs.Reading.{readTone}
 use Rattle.playing.specs.declared.Entry.{Entry}
 use Rattle.playing.specs.Duration.{beats, units, microseconds}
-use Rattle.playing.specs.Playing.{Listing, playingList, noMark}
+use Rattle.playing.specs.Playing.{Listing, playingList}
+use Rattle.judging.specs.Bodies.{noMark}
 use Rattle.editing.specs.declared.Edit.the-variants.{Insert, Delete}
 use Rattle.editing.specs.Editing.{Edited, editMessage, bufferAfter}
 use Rattle.editing.specs.Promise.{Numbers, editNumbers}

@@ -10,8 +10,8 @@ judge-requires c κs = search needs
 enum-known-number : tie.Need-enum-known-number
 enum-known-number c = search needs
 
-enum-known-entries : tie.Need-enum-known-entries
-enum-known-entries c = search needs
+enum-known-at : tie.Need-enum-known-at
+enum-known-at c = search needs
 
 cast-if1 : tie.Need-cast-if1
 cast-if1 c = search needs
@@ -43,7 +43,7 @@ list-within-spec =
     (tie.spec
     judge-requires
     enum-known-number
-    enum-known-entries
+    enum-known-at
     cast-if1
     returns
     cast-if2

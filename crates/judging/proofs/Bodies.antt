@@ -1,0 +1,105 @@
+-- The four bodies: what reading knows of them, and their bounds.
+use native.Mathlib.Omega.{arith}
+use Prim.Native.Nat.{ℕ, zero, suc, _+_, _≤_, _<_}
+use mathlib.Core.Path.{_≡_, refl, ap}
+use mathlib.Core.Bool.{Bool, true, false}
+use mathlib.Core.List.{List, [], _∷_, map}
+use lib.ListN.{length, getD, set, length-set}
+use lib.Seq.{getD-set-same}
+use lib.Dec.{eqb}
+use borrow.Author.Tests.{eqb-false}
+use Rattle.bits.specs.Choice.{pick}
+use Rattle.bits.proofs.Choice.{pick-elim}
+use Rattle.tone.specs.Table.{kind}
+use Rattle.tone.specs.Tone.{Pattern, specifier, partOf, pattern, learn, Instructions, Sound}
+use Rattle.reading.specs.Answers.{notes}
+use Rattle.judging.specs.Bodies.{Remembered, unknown, known, recalled, noBodies, isRecall, passesOf, bodyOf, remember}
+
+-- ---- what is remembered
+
+-- a pattern changes none of the places' number
+pub remember-length : (bodies : List Remembered) (p : Pattern) → length (remember bodies p) ≡ length bodies
+unfolding remember
+remember-length bodies p = go (isRecall p)
+  where
+    go : (t : Bool) → length (pick t bodies (set bodies (p .id) (known (p .body)))) ≡ length bodies
+    go true = refl
+    go false = length-set bodies (p .id) (known (p .body))
+
+-- once a pattern is remembered, its id has the body that sounds
+pub body-sounding : (bodies : List Remembered) (h : ℕ) (b : List ℕ) → length bodies ≡ 4 → recalled (getD (remember bodies (pattern h b)) (partOf h) unknown) ≡ bodyOf bodies (pattern h b)
+unfolding remember bodyOf
+body-sounding bodies h b four = go (eqb (length b) 0)
+  where
+    go : (t : Bool) → recalled (getD (pick t bodies (set bodies (partOf h) (known b))) (partOf h) unknown) ≡ pick t (recalled (getD bodies (partOf h) unknown)) b
+    go true = refl
+    go false = ap recalled (getD-set-same bodies (partOf h) (known b) unknown (omega arith))
+
+-- ---- what reading knows
+
+abbrev pub isKnown : Remembered → Bool
+isKnown unknown = false
+isKnown (known b) = true
+
+-- which of the four are known
+abbrev pub knownOf : List Remembered → List Bool
+knownOf = map isKnown
+
+map-set : (bodies : List Remembered) (i : ℕ) (r : Remembered) → set (knownOf bodies) i (isKnown r) ≡ knownOf (set bodies i r)
+map-set [] i r = refl
+map-set (x ∷ bodies) zero r = refl
+map-set (x ∷ bodies) (suc i) r = ap (λ (l : List Bool). isKnown x ∷ l) (map-set bodies i r)
+
+-- what reading knows is what playing remembers
+pub learn-read : (bodies : List Remembered) (h : ℕ) (b : List ℕ) → length b ≡ specifier h → learn (knownOf bodies) h ≡ knownOf (remember bodies (pattern h b))
+unfolding remember
+learn-read bodies h b e = rw (← e) (go (eqb (length b) 0))
+  where
+    go : (t : Bool) → pick t (knownOf bodies) (set (knownOf bodies) (partOf h) true) ≡ knownOf (pick t bodies (set bodies (partOf h) (known b)))
+    go true = refl
+    go false = map-set bodies (partOf h) (known b)
+
+-- ---- bounds
+
+-- a body that a header can announce, of instructions
+abbrev pub Body : List ℕ → Type 0
+Body b = Instructions b × (length b ≤ 255)
+
+abbrev pub Bodies : List Remembered → Type 0
+Bodies [] = Unit {0}
+Bodies (r ∷ rs) = Body (recalled r) × Bodies rs
+
+body-at : (bodies : List Remembered) → Bodies bodies → (i : ℕ) → Body (recalled (getD bodies i unknown))
+body-at [] h i = (tt, omega arith)
+body-at (r ∷ bodies) h zero = h .0
+body-at (r ∷ bodies) h (suc i) = body-at bodies (h .1) i
+
+body-set : (bodies : List Remembered) → Bodies bodies → (i : ℕ) (b : List ℕ) → Body b → Bodies (set bodies i (known b))
+body-set [] h i b k = tt
+body-set (r ∷ bodies) h zero b k = (k, h .1)
+body-set (r ∷ bodies) h (suc i) b k = (h .0, body-set bodies (h .1) i b k)
+
+pub bodies-start : Bodies noBodies
+bodies-start = ((tt, omega arith), ((tt, omega arith), ((tt, omega arith), ((tt, omega arith), tt))))
+
+pub bodies-kept : (bodies : List Remembered) → Bodies bodies → (p : Pattern) → Body (p .body) → Bodies (remember bodies p)
+unfolding remember
+bodies-kept bodies h p k = pick-elim Bodies (isRecall p) (λ _. h) (λ _. body-set bodies h (p .id) (p .body) k)
+
+pub body-kept : (bodies : List Remembered) → Bodies bodies → (p : Pattern) → Body (p .body) → Body (bodyOf bodies p)
+unfolding bodyOf
+body-kept bodies h p k = pick-elim Body (isRecall p) (λ _. body-at bodies h (p .id)) (λ _. k)
+
+pub sound-body : (p : Pattern) → Sound p → Body (p .body)
+sound-body p s = (s .each, s .long)
+
+-- a body has no more notes than instructions
+pub notes-most : (b : List ℕ) → notes b ≤ length b
+notes-most [] = omega arith
+notes-most (e ∷ b) = let h = notes-most b in pick-elim (λ (n : ℕ). n + notes b ≤ suc (length b)) (eqb (kind e) 1) (λ _. omega arith) (λ _. omega arith)
+
+-- fifteen passes at most
+pub passes-most : (loop : ℕ) → loop < 16 → passesOf loop ≤ 15
+unfolding passesOf
+passes-most loop h = pick-elim (λ (n : ℕ). n ≤ 15) (eqb loop 15) (λ _. omega arith) (λ e. let z = eqb-false loop 15 e in omega arith)
+

@@ -1,0 +1,166 @@
+-- What each return of `rest` and `judge` shows.
+use Prim.Native.Nat.{ℕ, zero, suc, _+_, _-_, _*_, _/_, _%_, _^_, _≤_, _<_}
+use native.Mathlib.Omega.{arith}
+use native.Mathlib.Nat.{zero-add}
+use mathlib.Core.Path.{_≡_, refl, sym, ap, _∙_}
+use mathlib.Core.Bool.{Bool, true, false}
+use mathlib.Core.List.{List, [], _∷_}
+use lib.ListN.{length}
+use lib.Dec.{ltb, eqb}
+use borrow.Author.Tests.{lt-ltb, le-ltb, eq-eqb, ne-eqb}
+use Rattle.bits.specs.Bits.{bitsOf, placeAfter}
+use Rattle.bits.specs.Outcome.{accepted, refused}
+use Rattle.bits.specs.declared.BitPlace.{BitPlace}
+use Rattle.bits.specs.declared.OctetCount.{OctetCount}
+use Rattle.bits.proofs.Octets.{length-bitsOf}
+use Rattle.tone.specs.Tone.{Pattern, Tone, Front, frontOf, noneKnown}
+use Rattle.tone.specs.Writing.{frontBits, mostOctets}
+use Rattle.tone.specs.Reading.{Got, got, bad, front, patternsDue, ending, rest, wholeTone, readTone}
+use Rattle.tone.proofs.Fronts.{front-exact}
+use Rattle.tone.proofs.Rows.{patterns-exact, rest-exact}
+use Rattle.reading.specs.declared.Step.{Step}
+use Rattle.reading.specs.declared.Step.the-variants.{Good, Bad}
+use Rattle.reading.specs.declared.Opening.{Opening}
+use Rattle.reading.specs.declared.Opening.the-variants.{Opened, Closed}
+use Rattle.judging.specs.declared.Judged.{Judged}
+use Rattle.judging.specs.declared.Judged.the-variants.{Sound, Faulty}
+use Rattle.reading.specs.Answers.{Within, place, stepOf, entries, openingOf, octetCount}
+use Rattle.judging.specs.declared.Tally.{Tally}
+use Rattle.judging.specs.declared.Tally.the-variants.{Counted, Stopped}
+use Rattle.judging.specs.Bodies.{noBodies}
+use Rattle.judging.specs.Counting.{entryCount, markFrom, Total, totalFrom}
+use Rattle.judging.specs.Answers.{tallyAs, judgedOf}
+use Rattle.reading.proofs.Steps.{step-there, step-bad}
+use Rattle.reading.proofs.Walks.{stays}
+
+-- ---- what an answer says of the reading behind it
+
+stopped-there : (f : List Pattern → Total) (x : Got (List Pattern)) {n : ℕ} {q : BitPlace} → Stopped n q ≡ tallyAs f x → (e : ℕ) × (x ≡ bad n (q .0) e)
+stopped-there f (got ps p) e = let z : _≡_ {A = ℕ} 0 1 = cc in absurd (omega arith)
+stopped-there f (bad n′ p e′) {n} {q} e =
+    let e₁ : n ≡ n′ = cc in
+    let e₂ : q ≡ place p = cc in
+    (e′, rw (e₁, e₂) refl)
+
+-- patterns that were counted
+record PatternsThere (f : List Pattern → Total) (x : Got (List Pattern)) (t e k at : ℕ) : Type 0 where
+  patterns : List Pattern
+  there : x ≡ got patterns at
+  table : t ≡ f patterns .table
+  list : e ≡ f patterns .list
+  mark : k ≡ f patterns .mark
+
+counted-there : (f : List Pattern → Total) (x : Got (List Pattern)) {t e k : ℕ} {q : BitPlace} → Counted t q e k ≡ tallyAs f x → PatternsThere f x t e k (q .0)
+counted-there f (got ps p) {q = q} e = let z : q ≡ place p = cc in record { patterns = ps; there = rw z refl; table = cc; list = cc; mark = cc }
+counted-there f (bad n p e′) e = let z : _≡_ {A = ℕ} 0 1 = cc in absurd (omega arith)
+
+-- ---- the patterns and the end
+
+abbrev total : List Pattern → Total
+total = totalFrom noBodies 0 0
+
+module _ (m : List ℕ) (at n : ℕ) {s : Tally} (q : s ≡ tallyAs total (patternsDue n noneKnown (bitsOf m) at)) where
+  pub rest-bad : {k : ℕ} {f : BitPlace} → s ≡ Stopped k f → Stopped k f ≡ tallyAs total (rest n (bitsOf m) at)
+  unfolding rest
+  rest-bad g = let b = stopped-there total (patternsDue n noneKnown (bitsOf m) at) (sym g ∙ q) in rw (b .1)
+
+  module _ {v e k : ℕ} {f : BitPlace} (g : s ≡ Counted v f e k) where
+    there : PatternsThere total (patternsDue n noneKnown (bitsOf m) at) v e k (f .0)
+    there = counted-there total (patternsDue n noneKnown (bitsOf m) at) (sym g ∙ q)
+
+    pub rest-within : Within m at → Within m (f .0)
+    rest-within i = record { inside = stays (patterns-exact n noneKnown) m at (i .inside) (there .there); counted = i .counted }
+
+    module _ {t : Step} (q′ : t ≡ stepOf (ending (bitsOf m) (f .0))) where
+      pub rest-ending-bad : {x : ℕ} {f′ : BitPlace} → t ≡ Bad x f′ → Stopped x f′ ≡ tallyAs total (rest n (bitsOf m) at)
+      unfolding rest
+      rest-ending-bad g′ = let b = step-bad (λ v. v) (ending (bitsOf m) (f .0)) (sym g′ ∙ q′) in rw (there .there, b .1)
+
+      pub rest-good : {x : ℕ} {f′ : BitPlace} → t ≡ Good x f′ → Counted v f′ e k ≡ tallyAs total (rest n (bitsOf m) at)
+      unfolding rest
+      rest-good {x} {f′} g′ =
+          let b = step-there (ending (bitsOf m) (f .0)) (sym g′ ∙ q′) in
+          let e₁ = there .table in
+          let e₂ = there .list in
+          let e₃ = there .mark in
+          rw (there .there, b) (cc)
+
+pub ruleset rests = (rest-bad, rest-within, rest-ending-bad, rest-good)
+
+-- ---- the front
+
+-- a front that was opened
+record FrontThere (x : Got Front) (s : ℕ) (u : Bool) (o c at : ℕ) : Type 0 where
+  front : Front
+  there : x ≡ got front at
+  song : s ≡ front .song
+  unicode : u ≡ front .unicode
+  octets : o ≡ length (front .title)
+  count : c ≡ front .count
+
+open-good : (x : Got Front) {s : ℕ} {u : Bool} {o : OctetCount} {c : ℕ} {q : BitPlace} → Opened s q o c u ≡ openingOf x → FrontThere x s u (o .0) c (q .0)
+open-good (got f p) {s} {u} {o} {c} {q} e =
+    let z : q ≡ place p = cc in
+    let y : o ≡ octetCount (length (f .title)) = cc in
+    record { front = f; there = rw z refl; song = cc; unicode = cc; octets = ap (λ (x : OctetCount). x .0) y; count = cc }
+open-good (bad n p e′) e = let z : _≡_ {A = ℕ} 0 1 = cc in absurd (omega arith)
+
+open-bad : (x : Got Front) {n : ℕ} {q : BitPlace} → Closed n q ≡ openingOf x → (e : ℕ) × (x ≡ bad n (q .0) e)
+open-bad (got f p) e = let z : _≡_ {A = ℕ} 0 1 = cc in absurd (omega arith)
+open-bad (bad n′ p e′) {n} {q} e = let e₁ : n ≡ n′ = cc in let e₂ : q ≡ place p = cc in (e′, rw (e₁, e₂) refl)
+
+-- ---- the whole message
+
+pub judge-long : (m : List ℕ) → mostOctets < length m → Faulty 1 (place 0) ≡ judgedOf (readTone m)
+unfolding readTone
+judge-long m h = rw (lt-ltb mostOctets (length m) h)
+
+module _ (m : List ℕ) (short : length m ≤ mostOctets) {o : Opening} (q : o ≡ openingOf (front (bitsOf m) 0)) where
+  pub judge-closed : {n : ℕ} {f : BitPlace} → o ≡ Closed n f → Faulty n f ≡ judgedOf (readTone m)
+  unfolding readTone wholeTone
+  judge-closed g = let b = open-bad (front (bitsOf m) 0) (sym g ∙ q) in rw (le-ltb mostOctets (length m) short, b .1)
+
+  module _ {song : ℕ} {unicode : Bool} {octets : OctetCount} {count : ℕ} {f : BitPlace} (g : o ≡ Opened song f octets count unicode) where
+    opened : FrontThere (front (bitsOf m) 0) song unicode (octets .0) count (f .0)
+    opened = open-good (front (bitsOf m) 0) (sym g ∙ q)
+
+    pub judge-within : Within m (f .0)
+    judge-within = record { inside = stays front-exact m 0 (omega arith) (opened .there); counted = omega arith }
+
+    pub judge-count : count ≤ 255
+    judge-count = rw (opened .count) (front-exact .sound (bitsOf m) 0 (omega arith) (opened .there) .good .most)
+
+    module _ {s : Tally} (q′ : s ≡ tallyAs total (rest count (bitsOf m) (f .0))) where
+      pub judge-bad : {n : ℕ} {f′ : BitPlace} → s ≡ Stopped n f′ → Faulty n f′ ≡ judgedOf (readTone m)
+      unfolding readTone wholeTone
+      judge-bad g′ =
+          let b = stopped-there total (rest count (bitsOf m) (f .0)) (sym g′ ∙ q′) in
+          rw (le-ltb mostOctets (length m) short, opened .there, ← opened .count, b .1)
+
+      module _ {v e k : ℕ} {f′ : BitPlace} {end : ℕ} (g′ : s ≡ Counted v f′ e k) (z : end ≡ placeAfter (length m)) where
+        closed : PatternsThere total (rest count (bitsOf m) (f .0)) v e k (f′ .0)
+        closed = counted-there total (rest count (bitsOf m) (f .0)) (sym g′ ∙ q′)
+
+        pub judge-more : (f′ .0 ≡ end → ⊥) → Faulty 10 f′ ≡ judgedOf (readTone m)
+        unfolding readTone wholeTone
+        judge-more h = rw (le-ltb mostOctets (length m) short, opened .there, ← opened .count, closed .there, ← z, ne-eqb (f′ .0) end h)
+
+        pub judge-sound : f′ .0 ≡ end → Sound song f octets count v e k unicode ≡ judgedOf (readTone m)
+        unfolding readTone wholeTone
+        judge-sound h =
+            let fr = opened .front in
+            let ps = closed .patterns in
+            let size : length ps ≡ count = rest-exact count .sound (bitsOf m) (f .0) (rw (length-bitsOf m) (judge-within .inside)) (closed .there) .good .size in
+            let same : frontOf (record { song = fr .song; unicode = fr .unicode; title = fr .title; patterns = ps }) ≡ fr =
+            (λ i. record { song = fr .song; unicode = fr .unicode; title = fr .title; count = (size ∙ opened .count) i }) in
+            let e₀ : place (length (frontBits (frontOf (record { song = fr .song; unicode = fr .unicode; title = fr .title; patterns = ps })))) ≡ f =
+            ap (λ (x : Front). place (length (frontBits x))) same ∙ ap place (sym (front-exact .sound (bitsOf m) 0 (omega arith) (opened .there) .end ∙ zero-add (length (frontBits fr)))) in
+            let e₁ = opened .song in
+            let e₂ = opened .unicode in
+            let e₃ : octets ≡ octetCount (length (fr .title)) = ap octetCount (opened .octets) in
+            let e₄ : v ≡ entries ps = closed .table ∙ zero-add (entries ps) in
+            let e₅ : e ≡ entryCount noBodies ps = closed .list ∙ zero-add (entryCount noBodies ps) in
+            let e₆ : k ≡ markFrom noBodies 0 ps = closed .mark in
+            rw (le-ltb mostOctets (length m) short, opened .there, ← opened .count, closed .there, ← z, eq-eqb (f′ .0) end h) (cc)
+
+pub ruleset judgements = (judge-long, judge-closed, judge-within, judge-count, judge-bad, judge-more, judge-sound)

@@ -1,0 +1,3 @@
+pub mod Bodies
+pub mod Tallies
+pub mod Judgements

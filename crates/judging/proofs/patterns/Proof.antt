@@ -1,0 +1,114 @@
+-- `judging::patterns` meets its contract.
+use Rattle.judging.proofs.patterns.Statement.{statement}
+use Rattle.judging.proofs.patterns.Tie as tie
+use borrow.Author.Needs.{needs}
+use Rattle.judging.proofs.Tallies.{TallyWalk, tally-inside, tallies}
+
+abbrev Inv-loop : tie.InvT-loop
+Inv-loop msg n known₀ notes₀ place₀ left₀ table₀ count₀ known notes place left table count = TallyWalk msg n (place₀ .0) known notes (place .0) left table count
+
+abbrev μ-loop : tie.MeasureT-loop
+μ-loop msg n known₀ notes₀ place₀ left₀ table₀ count₀ known notes place left table count = left
+
+none-requires : tie.Need-none-requires Inv-loop μ-loop
+none-requires c κs = search (tallies, needs)
+
+loop-holds : tie.Need-loop-holds Inv-loop μ-loop
+loop-holds c = search (tallies, needs)
+
+header-requires : tie.Need-header-requires Inv-loop μ-loop
+header-requires c κs = search (tallies, needs)
+
+enum-known-number : tie.Need-enum-known-number Inv-loop μ-loop
+enum-known-number c = search (tallies, needs)
+
+returns : tie.Need-returns Inv-loop μ-loop
+returns c = search (tallies, needs)
+
+enum-known-value : tie.Need-enum-known-value Inv-loop μ-loop
+enum-known-value c = search (tallies, needs)
+
+body-requires : tie.Need-body-requires Inv-loop μ-loop
+body-requires c κs = search (tally-inside, needs)
+
+enum-known-number-2 : tie.Need-enum-known-number-2 Inv-loop μ-loop
+enum-known-number-2 c = search (tallies, needs)
+
+returns-2 : tie.Need-returns-2 Inv-loop μ-loop
+returns-2 c = search (tallies, needs)
+
+enum-known-own : tie.Need-enum-known-own Inv-loop μ-loop
+enum-known-own c = search (tallies, needs)
+
+cast-id : tie.Need-cast-id Inv-loop μ-loop
+cast-id c = search (tallies, needs)
+
+array-write-known : tie.Need-array-write-known Inv-loop μ-loop
+array-write-known c = search (tallies, needs)
+
+mul-sounding : tie.Need-mul-sounding Inv-loop μ-loop
+mul-sounding c = search (tallies, needs)
+
+array-read-sounding : tie.Need-array-read-sounding Inv-loop μ-loop
+array-read-sounding c = search (tallies, needs)
+
+sounding-requires : tie.Need-sounding-requires Inv-loop μ-loop
+sounding-requires c κs = search (tallies, needs)
+
+mul-notes : tie.Need-mul-notes Inv-loop μ-loop
+mul-notes c = search (tallies, needs)
+
+array-write-notes : tie.Need-array-write-notes Inv-loop μ-loop
+array-write-notes c = search (tallies, needs)
+
+add-table : tie.Need-add-table Inv-loop μ-loop
+add-table c = search (tallies, needs)
+
+add-table-2 : tie.Need-add-table-2 Inv-loop μ-loop
+add-table-2 c = search (tallies, needs)
+
+with-requires : tie.Need-with-requires Inv-loop μ-loop
+with-requires c κs = search (tallies, needs)
+
+sub-left : tie.Need-sub-left Inv-loop μ-loop
+sub-left c = search (tallies, needs)
+
+loop-less : tie.Need-loop-less Inv-loop μ-loop
+loop-less c = search (tallies, needs)
+
+loop-again : tie.Need-loop-again Inv-loop μ-loop
+loop-again c = search (tallies, needs)
+
+returns-3 : tie.Need-returns-3 Inv-loop μ-loop
+returns-3 c = search (tallies, needs)
+
+pub patterns-spec : {M : Type 1} → statement M
+patterns-spec =
+    tie.close
+    (tie.spec
+    Inv-loop
+    μ-loop
+    none-requires
+    loop-holds
+    header-requires
+    enum-known-number
+    returns
+    enum-known-value
+    body-requires
+    enum-known-number-2
+    returns-2
+    enum-known-own
+    cast-id
+    array-write-known
+    mul-sounding
+    array-read-sounding
+    sounding-requires
+    mul-notes
+    array-write-notes
+    add-table
+    add-table-2
+    with-requires
+    sub-left
+    loop-less
+    loop-again
+    returns-3)
