@@ -21,14 +21,18 @@ use Rattle.tone.specs.Writing.{tableBits, frontBits, songBits, endBits, toneBit
 use Rattle.tone.specs.Reading.{readTone}
 use Rattle.tone.proofs.Demand2.{octets-are, written-is-accepted, length-toneOctets}
 use Rattle.reading.specs.Answers.{Within, place, octetCount}
-use Rattle.reader.specs.declared.Judged.{Judged}
-use Rattle.reader.specs.declared.Judged.the-variants.{Sound, Faulty}
-use Rattle.reader.specs.Judging.{judgedOf}
+use Rattle.judging.specs.declared.Judged.{Judged}
+use Rattle.judging.specs.declared.Judged.the-variants.{Sound, Faulty}
+use Rattle.judging.specs.Answers.{judgedOf}
 use Rattle.reader.proofs.Told.{Told, SoundThere, sound-there}
 use Rattle.playing.specs.declared.Listed.{Listed}
 use Rattle.playing.specs.declared.Listed.the-variants.{Made as ListMade, Refused as ListRefused}
-use Rattle.playing.specs.Sounding.{numbers}
-use Rattle.playing.specs.Playing.{Listing, playingList}
+use Rattle.playing.specs.Sounding.{atStart, numbers}
+use Rattle.playing.specs.Playing.{Listing, play, playingList}
+use Rattle.playing.specs.Filling.{patternsIn, endIn, PatternsAt}
+use Rattle.playing.proofs.Outcomes.{list-faulty, list-cells-short, list-patterns, list-room, list-made, cells-alone}
+use Rattle.judging.specs.Bodies.{noBodies}
+use Rattle.judging.specs.Counting.{entryCount}
 use Rattle.playing.specs.Listing.{fitted, fitsNumbers, listed, listTone}
 use Rattle.playing.specs.Promise.{listAnswer, cellsAfter, ListPromise}
 use Rattle.editing.specs.declared.Edit.{Edit}
@@ -95,16 +99,28 @@ module _ (new buf list : List ℕ) (used : ℕ) {list′ : List ℕ} {s : Listed
           leaves (accepted (record { tone = t; listing = g })) used buf list buf₂ list′ (Made (octetCount (length new)) n k ch) (cc) buffer c
       go (refused n′ p′) h c = let z : _≡_ {A = ℕ} 0 1 = cc in absurd (omega arith)
 
-pub finish-refused : (new buf list : List ℕ) (used : ℕ) {list′ : List ℕ} {s : Listed} {n : ℕ} {p : BitPlace} → ListPromise new (fitsNumbers (length list)) list list′ s → s ≡ ListRefused n p
-    → (t : Tone) → WellFormed t → toneOctets t ≡ new → Leaves (withList (length list) (accepted t)) used buf list buf list′ (Refused n p)
-finish-refused new buf list used q g t w e = finish-no new buf list used q t w e g
+-- in the code's terms: the message is judged, and then its list is filled where there is room
+module _ (new buf list : List ℕ) (used : ℕ) {j : Judged} (q : j ≡ judgedOf (readTone new)) where
+  pub finish-faulty : {n : ℕ} {p : BitPlace} → j ≡ Faulty n p → (t : Tone) → WellFormed t → toneOctets t ≡ new → Leaves (withList (length list) (accepted t)) used buf list buf list (Refused n p)
+  finish-faulty g t w e = finish-no new buf list used (cells-alone new list (list-faulty new list (length list) q g)) t w e refl
 
-pub finish-made : (new buf list : List ℕ) (used : ℕ) {list′ : List ℕ} {s : Listed} {n k : ℕ} {buf₁ buf₂ : List ℕ} {ch : ℤ} → ListPromise new (fitsNumbers (length list)) list list′ s → s ≡ ListMade n k
-    → length new ≤ length buf → buf₁ ≡ over (take (length new) new) buf → buf₂ ≡ cleared (length new) used buf₁ → ch ≡ pos (length new) -ℤ pos used
-    → (t : Tone) → WellFormed t → toneOctets t ≡ new → Leaves (withList (length list) (accepted t)) used buf list buf₂ list′ (Made (octetCount (length new)) n k ch)
-finish-made new buf list used q g l b₁ b₂ hc t w e = finish-yes new buf list used q t w e g l b₁ b₂ hc
+  module _ {s : ℕ} {f : BitPlace} {o : OctetCount} {ps b n k : ℕ} {u : Bool} (g : j ≡ Sound s f o ps b n k u) where
+    pub finish-short : length list / 2 < n → (t : Tone) → WellFormed t → toneOctets t ≡ new → Leaves (withList (length list) (accepted t)) used buf list buf list (Refused 11 (place 0))
+    finish-short h t w e = finish-no new buf list used (cells-alone new list (list-cells-short new list (length list) q g h)) t w e refl
 
-pub ruleset finishes = (finish-refused, finish-made)
+    module _ (h : n ≤ length list / 2) where
+      pub finish-patterns : PatternsAt new (f .0) ps (patternsIn new (f .0) ps) (endIn new (f .0) ps)
+      finish-patterns = list-patterns new list (length list) q g h
+
+      pub finish-room : 2 * entryCount noBodies (patternsIn new (f .0) ps) ≤ length list
+      finish-room = list-room new list (length list) q g h
+
+      pub finish-made : {list′ buf₁ buf₂ : List ℕ} {ch : ℤ} → list′ ≡ over (numbers (play atStart noBodies 0 (patternsIn new (f .0) ps) .entries)) list → length new ≤ length buf
+          → buf₁ ≡ over (take (length new) new) buf → buf₂ ≡ cleared (length new) used buf₁ → ch ≡ pos (length new) -ℤ pos used
+          → (t : Tone) → WellFormed t → toneOctets t ≡ new → Leaves (withList (length list) (accepted t)) used buf list buf₂ list′ (Made (octetCount (length new)) n k ch)
+      finish-made z l b₁ b₂ hc t w e = finish-yes new buf list used (cells-alone new list (list-made new list (length list) q g h (omega arith) z)) t w e refl l b₁ b₂ hc
+
+pub ruleset finishes = (finish-faulty, finish-short, finish-patterns, finish-room, finish-made)
 
 -- ---- carrying out a plan
 
@@ -178,7 +194,7 @@ module _ (buf list : List ℕ) (used : ℕ) (ed : Edit) (k i : ℕ) where
             let e₂ : p ≡ place p′ = cc in
             leaves (refused n′ p′) used buf list buf list (Refused n p) (cc) refl refl
 
-    module _ {j : Judged} {s : ℕ} {u : Bool} {o : OctetCount} {ps es : ℕ} {f : BitPlace} (q : j ≡ judgedOf (readTone (take used buf))) (g : j ≡ Sound s u o ps es f) where
+    module _ {j : Judged} {s : ℕ} {u : Bool} {o : OctetCount} {ps es n mk : ℕ} {f : BitPlace} (q : j ≡ judgedOf (readTone (take used buf))) (g : j ≡ Sound s f o ps es n mk u) where
       there : SoundThere (take used buf) s u o ps es f
       there = sound-there (take used buf) (sym g ∙ q)
 

@@ -23,8 +23,7 @@ ghost use Rattle.editing.specs.Plan.{overdoneOf, groundOf, Known, CanBui
 use bits::BitPlace;
 use bits::OctetCount;
 use bits::Sink;
-use playing::Listed;
-use reader::Judged;
+use judging::Judged;
 
 // What an edit does at an instruction: replace it, insert before it, or delete it. The new instruction is one table entry.
 pub enum Edit {
@@ -439,9 +438,28 @@ fn finish(buf: &mut [u8], used: OctetCount, new: &[u8], list: &mut [u32]) -> Ans
     requires { ⌜ (used .0 ≤ length (now buf)) × (used .0 ≤ 4096) × (length (now new) ≤ length (now buf)) × (length (now new) ≤ 4096) ⌝ }
     ensures { λ r. ⌜ ((t : Tone) → WellFormed t → toneOctets t ≡ now (new .entry) → Leaves (withList (length (now (list .entry))) (accepted t)) (used .0) (now (buf .entry)) (now (list .entry)) (now (buf .exit)) (now (list .exit)) r) ⌝ }
 {
-    match playing::list(new, list) {
-        Listed::Refused { number, place } => Answer::Refused { number, place },
-        Listed::Made { entries, mark } => {
+    match judging::judge(new) {
+        Judged::Faulty { number, at: fault } => Answer::Refused {
+            number,
+            place: fault,
+        },
+        Judged::Sound {
+            song: _,
+            at,
+            octets: _,
+            patterns,
+            table: _,
+            list: entries,
+            mark,
+            unicode: _,
+        } => {
+            if list.len() / 2 < entries as usize {
+                return Answer::Refused {
+                    number: 11,
+                    place: BitPlace(0),
+                };
+            }
+            playing::fill_list(new, at, patterns, list);
             let length = OctetCount(new.len());
             copy_octets(new, length, buf);
             clear(buf, length, used);
@@ -507,18 +525,20 @@ pub fn edit_message(
             place: BitPlace(0),
         };
     }
-    match reader::judge(&buf[..old]) {
+    match judging::judge(&buf[..old]) {
         Judged::Faulty { number, at: fault } => Answer::Refused {
             number,
             place: fault,
         },
         Judged::Sound {
             song: _,
-            unicode: _,
+            at,
             octets: _,
             patterns,
-            entries,
-            at,
+            table: entries,
+            list: _,
+            mark: _,
+            unicode: _,
         } => {
             match plan_edit(
                 &buf[..old],

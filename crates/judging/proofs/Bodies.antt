@@ -102,4 +102,3 @@ notes-most (e ∷ b) = let h = notes-most b in pick-elim (λ (n : ℕ). n + note
 pub passes-most : (loop : ℕ) → loop < 16 → passesOf loop ≤ 15
 unfolding passesOf
 passes-most loop h = pick-elim (λ (n : ℕ). n ≤ 15) (eqb loop 15) (λ _. omega arith) (λ e. let z = eqb-false loop 15 e in omega arith)
-

@@ -330,7 +330,7 @@ fn behind_pattern(header: u32, next: BitPlace, reached: BitPlace) -> BitPlace
 }
 
 // Fills in the list of the `n` patterns that stand at a place.
-fn fill_list(msg: &[u8], at: BitPlace, n: u32, list: &mut [u32])
+pub fn fill_list(msg: &[u8], at: BitPlace, n: u32, list: &mut [u32])
     requires { ⌜ PatternsAt (now msg) (at .0) n (patternsIn (now msg) (at .0) n) (endIn (now msg) (at .0) n) ⌝ }
     requires { ⌜ 2 * entryCount noBodies (patternsIn (now msg) (at .0) n) ≤ length (now list) ⌝ }
     ensures { λ _. ⌜ now (list .exit) ≡ over (numbers (play atStart noBodies 0 (patternsIn (now (msg .entry)) (at .0) n) .entries)) (now (list .entry)) ⌝ }

@@ -25,8 +25,8 @@ judge-requires c κs = search needs
 enum-known-number : tie.Need-enum-known-number
 enum-known-number c = search needs
 
-enum-known-patterns : tie.Need-enum-known-patterns
-enum-known-patterns c = search needs
+enum-known-at : tie.Need-enum-known-at
+enum-known-at c = search needs
 
 slice-reshare-prefix-plan-edit : tie.Need-slice-reshare-prefix-plan-edit
 slice-reshare-prefix-plan-edit c = search needs
@@ -45,7 +45,7 @@ cast-plan-edit-2 c = search needs
 plan-edit-requires : tie.Need-plan-edit-requires
 plan-edit-requires c κs =
     let a = c .before .before .before .before .before .before .before .before .before .args in
-    (edit-within (a .buf .now) (a .list .now) (a .used .0) (a .edit) (a .pattern) (a .instruction) (c .before .before .before .before .before .before .if1 .left) (c .before .before .before .before .judge .ensures) (c .before .before .patterns .given .1), edit-known (a .buf .now) (a .list .now) (a .used .0) (a .edit) (a .pattern) (a .instruction) (c .before .before .before .before .before .before .if1 .left) (c .before .before .before .before .judge .ensures) (c .before .before .patterns .given .1))
+    (edit-within (a .buf .now) (a .list .now) (a .used .0) (a .edit) (a .pattern) (a .instruction) (c .before .before .before .before .before .before .if1 .left) (c .before .before .before .before .judge .ensures) (c .before .before .at .given .1), edit-known (a .buf .now) (a .list .now) (a .used .0) (a .edit) (a .pattern) (a .instruction) (c .before .before .before .before .before .before .if1 .left) (c .before .before .before .before .judge .ensures) (c .before .before .at .given .1))
 
 enum-known-number-2 : tie.Need-enum-known-number-2
 enum-known-number-2 c = search needs
@@ -56,7 +56,7 @@ enum-known-header c = search needs
 carry-out-requires : tie.Need-carry-out-requires
 carry-out-requires c κs =
     let a = c .before .before .before .before .before .before .before .before .before .before .before .before .before .before .before .args in
-    (c .before .before .before .before .before .before .before .before .before .before .before .before .if1 .left, edit-short (a .buf .now) (a .list .now) (a .used .0) (a .edit) (a .pattern) (a .instruction) (c .before .before .before .before .before .before .before .before .before .before .before .before .if1 .left) (c .before .before .before .before .before .before .before .before .before .before .judge .ensures) (c .before .before .before .before .before .before .before .before .patterns .given .1), edit-can (a .buf .now) (a .list .now) (a .used .0) (a .edit) (a .pattern) (a .instruction) (c .before .before .before .before .before .before .before .before .before .before .before .before .if1 .left) (c .before .before .before .before .before .before .before .before .before .before .judge .ensures) (c .before .before .before .before .before .before .before .before .patterns .given .1) (c .before .before .before .before .before .plan-edit .ensures) (c .before .before .before .header .given .1))
+    (c .before .before .before .before .before .before .before .before .before .before .before .before .if1 .left, edit-short (a .buf .now) (a .list .now) (a .used .0) (a .edit) (a .pattern) (a .instruction) (c .before .before .before .before .before .before .before .before .before .before .before .before .if1 .left) (c .before .before .before .before .before .before .before .before .before .before .judge .ensures) (c .before .before .before .before .before .before .before .before .at .given .1), edit-can (a .buf .now) (a .list .now) (a .used .0) (a .edit) (a .pattern) (a .instruction) (c .before .before .before .before .before .before .before .before .before .before .before .before .if1 .left) (c .before .before .before .before .before .before .before .before .before .before .judge .ensures) (c .before .before .before .before .before .before .before .before .at .given .1) (c .before .before .before .before .before .plan-edit .ensures) (c .before .before .before .header .given .1))
 
 same-length : tie.Need-same-length
 same-length c = search needs
@@ -72,7 +72,7 @@ same-length-2 c = search needs
 returns-3 : tie.Need-returns-3
 returns-3 c =
     let a = c .before .before .before .before .before .before .before .before .before .before .before .before .before .args in
-    edit-halt (a .buf .now) (a .list .now) (a .used .0) (a .edit) (a .pattern) (a .instruction) (c .before .before .before .before .before .before .before .before .before .before .if1 .left) (c .before .before .before .before .before .before .before .before .judge .ensures) (c .before .before .before .before .before .before .patterns .given .1) (c .before .before .before .plan-edit .ensures) (c .before .number2 .given .1)
+    edit-halt (a .buf .now) (a .list .now) (a .used .0) (a .edit) (a .pattern) (a .instruction) (c .before .before .before .before .before .before .before .before .before .before .if1 .left) (c .before .before .before .before .before .before .before .before .judge .ensures) (c .before .before .before .before .before .before .at .given .1) (c .before .before .before .plan-edit .ensures) (c .before .number2 .given .1)
 
 same-length-3 : tie.Need-same-length-3
 same-length-3 c = search needs
@@ -83,7 +83,7 @@ same-length-4 c = search needs
 returns-4 : tie.Need-returns-4
 returns-4 c =
     let a = c .before .before .before .before .before .before .before .before .before .before .before .before .before .before .before .before .before .before .before .before .args in
-    edit-done (a .buf .now) (a .list .now) (a .used .0) (a .edit) (a .pattern) (a .instruction) (c .before .before .before .before .before .before .before .before .before .before .before .before .before .before .before .before .before .if1 .left) (c .before .before .before .before .before .before .before .before .before .before .before .before .before .before .before .judge .ensures) (c .before .before .before .before .before .before .before .before .before .before .before .before .before .patterns .given .1) (c .before .before .before .before .before .before .before .before .before .before .plan-edit .ensures) (c .before .before .before .before .before .before .before .before .header .given .1) (c .before .before .before .before .carry-out .ensures)
+    edit-done (a .buf .now) (a .list .now) (a .used .0) (a .edit) (a .pattern) (a .instruction) (c .before .before .before .before .before .before .before .before .before .before .before .before .before .before .before .before .before .if1 .left) (c .before .before .before .before .before .before .before .before .before .before .before .before .before .before .before .judge .ensures) (c .before .before .before .before .before .before .before .before .before .before .before .before .before .at .given .1) (c .before .before .before .before .before .before .before .before .before .before .plan-edit .ensures) (c .before .before .before .before .before .before .before .before .header .given .1) (c .before .before .before .before .carry-out .ensures)
 
 pub edit-message-spec : {M : Type 1} → statement M
 edit-message-spec =
@@ -94,7 +94,7 @@ edit-message-spec =
     slice-aggregate-judge
     judge-requires
     enum-known-number
-    enum-known-patterns
+    enum-known-at
     slice-reshare-prefix-plan-edit
     slice-aggregate-plan-edit
     cast-plan-edit
