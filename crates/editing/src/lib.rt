@@ -8,7 +8,7 @@ ghost use Rattle.bits.specs.Lent.{over};
 ghost use Rattle.bits.specs.Sink.{written, InHand, Put};
 ghost use Rattle.tone.specs.Table.{width as widthOf, allowed as allowedOf};
 ghost use Rattle.tone.specs.Writing.{tableBits};
-ghost use Rattle.reading.specs.Answers.{Within};
+ghost use Rattle.reading.specs.Answers.{Within, place};
 ghost use Rattle.reader.specs.Judging.{TableAt};
 ghost use Rattle.editing.specs.Change.{isNew as isNewOf, carriesNew, carried, removed as removedOf, inBody};
 ghost use Rattle.tone.specs.Tone.{Tone};
@@ -19,6 +19,7 @@ ghost use Rattle.tone.specs.Tone.{Formed};
 ghost use Rattle.tone.specs.Writing.{songBits, toneOctets, WellFormed};
 ghost use Rattle.editing.specs.Editing.{cleared, inBuffer, withList};
 ghost use Rattle.editing.specs.Promise.{Leaves, EditPromise};
+ghost use Rattle.editing.specs.declared.Answer.the-variants.{Refused};
 ghost use Rattle.editing.specs.Plan.{overdoneOf, groundOf, Known, CanBuild, Plans};
 use bits::BitPlace;
 use bits::OctetCount;
@@ -507,6 +508,16 @@ fn carry_out(
     finish(buf, used, &scratch[..new], list)
 }
 
+// An edit's own grounds are placed at 0.
+fn halted(number: u32) -> Answer
+    ensures { λ r. ⌜ r ≡ Refused number (place 0) ⌝ }
+{
+    Answer::Refused {
+        number,
+        place: BitPlace(0),
+    }
+}
+
 // Edits the message that lies in the first `used` octets of a lent buffer, and fills a lent list.
 pub fn edit_message(
     buf: &mut [u8],
@@ -549,10 +560,7 @@ pub fn edit_message(
                 pattern,
                 instruction,
             ) {
-                Plan::Halt(number) => Answer::Refused {
-                    number,
-                    place: BitPlace(0),
-                },
+                Plan::Halt(number) => halted(number),
                 Plan::Go {
                     header,
                     cell,
