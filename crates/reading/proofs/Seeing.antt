@@ -3,10 +3,10 @@ use Prim.Native.Nat.{ℕ, zero, suc, _+_, _-_, _*_, _/_, _%_, _^_, _≤_, _<_}
 use native.Mathlib.Omega.{arith}
 use native.Mathlib.Nat.{add-zero, lt-of-lt-of-le, mod-lt}
 use mathlib.Core.Path.{_≡_, refl, sym, ap, _∙_}
-use mathlib.Core.Bool.{Bool, true, false, _&&_}
+use mathlib.Core.Bool.{Bool, true, false}
 use mathlib.Core.List.{List}
 use lib.ListN.{length, drop}
-use lib.Dec.{leb, eqb}
+use lib.Dec.{eqb}
 use lib.Pow.{pow-mono, pow-pos}
 use borrow.Author.Tests.{ne-eqb, eqb-true, le-leb, lt-leb}
 use Rattle.bits.specs.Choice.{pick}
@@ -16,10 +16,9 @@ use Rattle.bits.proofs.Choice.{pick-elim}
 use Rattle.bits.proofs.Numbers.{field-drop}
 use Rattle.bits.proofs.Octets.{length-bitsOf}
 use Rattle.bits.proofs.Looking.{length-left}
-use Rattle.reading.specs.declared.Step.{Step}
 use Rattle.reading.specs.declared.Step.the-variants.{Good, Bad}
 use Rattle.tone.specs.Table.{entry, kind, noteOf, durationOf, width, allowed, isInstruction}
-use Rattle.tone.specs.Reading.{got, bad, element, instructionDue}
+use Rattle.tone.specs.Reading.{got, element, instructionDue}
 use Rattle.reading.specs.Answers.{place, stepAs, noteIn, Seen}
 use Rattle.tone.proofs.Exact.{element-good, element-bad}
 use Rattle.reading.proofs.Elements.{note-width}
@@ -35,11 +34,11 @@ instruction-width (suc (suc (suc (suc zero)))) h = omega arith
 instruction-width (suc (suc (suc (suc (suc zero))))) h = omega arith
 instruction-width (suc (suc (suc (suc (suc (suc k)))))) h = omega arith
 
--- what is told of a code is told of the entry
+-- the kind tells whether an entry is a note
 note-of : (k p : ℕ) → p < 65536 → noteIn (entry k p) ≡ pick (eqb k 1) 1 0
 note-of k p h = let e : kind (entry k p) ≡ k = omega arith in rw e refl
 
--- a note's code in a sight, and its two parts
+-- a note's code in a sight; its value and its duration stand in the sight too
 abbrev code : ℕ → ℕ
 code x = x / 2 ^ 52 % 2 ^ 9
 
@@ -49,6 +48,7 @@ value-in x = omega arith
 duration-in : (x : ℕ) → durationOf (code x) ≡ x / 2 ^ 54 % 8
 duration-in x = omega arith
 
+-- a note that the table has, one with a wrong value, one with a wrong duration
 note-good : (x : ℕ) → x / 2 ^ 57 % 16 ≤ 12 → x / 2 ^ 54 % 8 ≤ 5 → allowed 1 (code x) ≡ true
 unfolding allowed
 note-good x h l = rw (value-in x, duration-in x, le-leb (x / 2 ^ 57 % 16) 12 h, le-leb (x / 2 ^ 54 % 8) 5 l) refl
@@ -61,15 +61,17 @@ note-duration : (x : ℕ) → x / 2 ^ 57 % 16 ≤ 12 → 5 < x / 2 ^ 54 % 8 → 
 unfolding allowed
 note-duration x h l = rw (value-in x, duration-in x, le-leb (x / 2 ^ 57 % 16) 12 h, lt-leb (x / 2 ^ 54 % 8) 5 l) refl
 
--- style 3 is the only code that the table has not, where it is no note
+-- style 3 is not in the table
 style-bad : (x : ℕ) → x / 2 ^ 59 ≡ 15 → allowed 3 (x / 2 ^ 59 % 2 ^ 2) ≡ false
 unfolding allowed
 style-bad x h = rw h refl
 
+-- a style's width
 style-width : 2 ≡ width 3
 unfolding width
 style-width = refl
 
+-- and that is all that is missing, where it is no note
 other-good : (x w : ℕ) → (x / 2 ^ 61 ≡ 1 → ⊥) → (x / 2 ^ 59 ≡ 15 → ⊥) → w ≡ width (x / 2 ^ 61) → allowed (x / 2 ^ 61) (x / 2 ^ (64 - (3 + w)) % 2 ^ w) ≡ true
 unfolding allowed
 other-good x w h s e =
@@ -84,12 +86,14 @@ other-good x w h s e =
 module _ (at x : ℕ) where
   -- in a message with the bits on top of x
   module _ (m : List ℕ) (n : ℕ) (long : 12 ≤ n) (s : Sight n (drop at (bitsOf m)) x) (whole : at + 12 ≤ 8 * length m) where
+    -- a field of the instruction is a field of x
     part-is : (o w : ℕ) → o + w ≤ 12 → field (bitsOf m) (at + o) w ≡ x / 2 ^ (64 - (o + w)) % 2 ^ w
     part-is o w h = sym (field-drop (bitsOf m) at o w) ∙ s .at o w (omega arith) (rw (length-left m at) (omega arith))
 
     id-is : field (bitsOf m) at 3 ≡ x / 2 ^ 61
     id-is = let l = s .small in ap (λ (i : ℕ). field (bitsOf m) i 3) (sym (add-zero at)) ∙ part-is 0 3 (omega arith) ∙ omega arith
 
+    -- the instruction is not cut short
     bits-there : (w : ℕ) → w ≤ 12 → at + w ≤ length (bitsOf m)
     bits-there w h = rw (length-bitsOf m) (omega arith)
 
@@ -100,6 +104,7 @@ module _ (at x : ℕ) where
     unfolding instructionDue
     wrong-id f = rw (element-bad 3 isInstruction 6 (bitsOf m) at (bits-there 3 (omega arith)) (rw id-is f))
 
+    -- an instruction of kind k, w payload bits wide
     module _ (k w : ℕ) (ek : x / 2 ^ 61 ≡ k) (some : 1 ≤ k) (most : k ≤ 5) (ew : w ≡ width k) where
       narrow : w ≤ 9
       narrow = rw ew (instruction-width k some)
@@ -119,6 +124,8 @@ module _ (at x : ℕ) where
       right-code : allowed k (x / 2 ^ (64 - (3 + w)) % 2 ^ w) ≡ true → Good (noteIn (entry k (x / 2 ^ (64 - (3 + w)) % 2 ^ w))) (place (at + 3 + w)) ≡ stepAs noteIn (instructionDue (bitsOf m) at)
       unfolding instructionDue
       right-code f = rw (id-good, ← ew, element-good w (allowed k) 6 (bitsOf m) (at + 3) (rest-there w narrow) (rw code-is f), code-is)
+
+  -- ---- the returns
 
   pub seen-zero : x / 2 ^ 61 ≡ 0 → Seen at x (Bad 6 (place at))
   seen-zero h = record { due = λ m n l s w. wrong-id m n l s w (rw h refl) }

@@ -76,6 +76,7 @@ module _ {m : List ℕ} {due : Step} {p left c : ℕ} (w : BodyWalk m due p left
   pub body-rest : {s : Step} → s ≡ countedOn m left p c → s ≡ due
   body-rest q = q ∙ sym (w .goes)
 
+  -- one instruction more, as the tone has it
   module _ (h : 0 < left) where
     refuses : {k : ℕ} {f : BitPlace} {e : ℕ} → instructionDue (bitsOf m) p ≡ bad k (f .0) e → Bad k f ≡ due
     unfolding bodyDue
@@ -90,6 +91,7 @@ module _ {m : List ℕ} {due : Step} {p left c : ℕ} (w : BodyWalk m due p left
               ∙ body-step (left - 1) c (bitsOf m) p there ∙ step-cong (bodyDue (left - 1) (bitsOf m) q) (λ l. rw v refl);
         }
 
+    -- and as the code answers it
     module _ {s : Step} (q : s ≡ stepOf (instructionDue (bitsOf m) p)) where
       pub body-bad : {k : ℕ} {f : BitPlace} → s ≡ Bad k f → Bad k f ≡ due
       body-bad g = refuses (step-bad (λ v. v) (instructionDue (bitsOf m) p) (sym g ∙ q) .1)
@@ -109,6 +111,7 @@ instruction-most l p {e} h g =
     let k = instruction-width (kind e) (a .good .some) in
     (omega (arith, n), omega (arith, n, k))
 
+-- an instruction counts for one note at most
 note-one : (e : ℕ) → noteIn e ≤ 1
 note-one e = pick-elim (λ (x : ℕ). x ≤ 1) (eqb (kind e) 1) (λ _. omega arith) (λ _. omega arith)
 
@@ -130,6 +133,7 @@ module _ {m : List ℕ} {due : Step} {n at p left c : ℕ} (w : FewWalk m due n 
   few-near = omega (arith, w .near)
 
   module _ {x : ℕ} {s : Step} (room : at + 48 ≤ 8 * length m) (sees : Sight 57 (drop at (bitsOf m)) x) (q : Seen p (x * 2 ^ (p - at) % 2 ^ 64) s) where
+    -- the sight at the place that was reached
     sees-on : Sight (57 - (p - at)) (drop p (bitsOf m)) (x * 2 ^ (p - at) % 2 ^ 64)
     sees-on =
         let e : at + (p - at) ≡ p = omega (arith, w .ahead) in
@@ -137,6 +141,7 @@ module _ {m : List ℕ} {due : Step} {n at p left c : ℕ} (w : FewWalk m due n 
         let n = few-near in
         rw (← d) (sight-on {k = p - at} sees (omega arith) (omega arith) (rw (length-left m at) (omega arith)))
 
+    -- what was answered of it is what is due
     judged : s ≡ stepAs noteIn (instructionDue (bitsOf m) p)
     judged = q .due m (57 - (p - at)) (omega (arith, few-near)) sees-on (omega (arith, w .near))
 
@@ -191,10 +196,12 @@ body-more (suc j) k l p = let e : suc j + k ≡ suc (j + k) = omega arith in rw 
     first h (got e q) = rw (h q) (second e (bodyDue j l q))
     first h (bad n q f) = refl
 
+-- the notes of two bodies in a row
 notes-more : (a b : List ℕ) → notes (a ++ b) ≡ notes a + notes b
 notes-more [] b = sym (zero-add (notes b))
 notes-more (e ∷ a) b = rw (notes-more a b) (sym (add-assoc (noteIn e) (notes a) (notes b)))
 
+-- no more notes than instructions
 notes-few : (b : List ℕ) → notes b ≤ length b
 notes-few [] = omega arith
 notes-few (e ∷ b) = omega (arith, note-one e, notes-few b)
@@ -205,9 +212,11 @@ body-steps j k c l p {b} {q} h =
     rw (body-more j k l p, h) (step-map (λ r. c + notes r) (λ r. b ++ r) (bodyDue k l q)
     ∙ step-cong (bodyDue k l q) (λ r. ap (λ (x : ℕ). c + x) (notes-more b r) ∙ sym (add-assoc c (notes b) (notes r))))
 
+-- the instructions of a turn, and those after it
 split-off : (left k : ℕ) → k ≤ left → left ≡ k + (left - k)
 split-off left k h = omega arith
 
+-- a turn of k instructions
 module _ {m : List ℕ} {due : Step} {p left c k : ℕ} {s : Step} (w : BodyWalk m due p left c) (l : (1 ≤ k) × (k ≤ left) × (k ≤ 4)) (q : s ≡ counted m k p) where
   pub turn-bad : {i : ℕ} {f : BitPlace} → s ≡ Bad i f → Bad i f ≡ due
   turn-bad g =

@@ -54,7 +54,7 @@ abbrev pub notes : List ℕ → ℕ
 notes [] = 0
 notes (e ∷ b) = noteIn e + notes b
 
--- s is what is due at a place in every message whose bits there are on top of x, 12 or more: no instruction has more
+-- s is what is due of an instruction at a place, in every message that has 12 bits there, on top of x: none has more
 pub record Seen (at x : ℕ) (s : Step) : Type 0 where
   pub due : (m : List ℕ) (n : ℕ) → 12 ≤ n → Sight n (drop at (bitsOf m)) x → at + 12 ≤ placeAfter (length m) → s ≡ stepAs noteIn (instructionDue (bitsOf m) at)
 

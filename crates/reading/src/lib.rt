@@ -125,10 +125,11 @@ fn payload(msg: &[u8], at: BitPlace, x: u32, kind: u32, w: u32) -> Step
     requires { ⌜ (w ≡ widthOf kind) × (w ≤ 14) ⌝ }
     ensures { λ r. ⌜ r ≡ stepOf (instructionDue (bitsOf (now (msg .entry))) (at .0)) ⌝ }
 {
+    let rest = BitPlace(at.0 + 3);
     if left(msg, at) < 3 + w as usize {
         return Step::Bad {
             number: 2,
-            at: BitPlace(at.0 + 3),
+            at: rest,
         };
     }
     let code = bits::part(x, 3, w);
@@ -140,7 +141,7 @@ fn payload(msg: &[u8], at: BitPlace, x: u32, kind: u32, w: u32) -> Step
     }
     Step::Bad {
         number: 6,
-        at: BitPlace(at.0 + 3),
+        at: rest,
     }
 }
 
@@ -245,6 +246,7 @@ fn seen(at: BitPlace, x: u64) -> Step
     if 5 < kind {
         return Step::Bad { number: 6, at };
     }
+    // Style 3 is not in the table.
     if x >> 59 == 15 {
         return Step::Bad {
             number: 6,
@@ -257,8 +259,8 @@ fn seen(at: BitPlace, x: u64) -> Step
     }
 }
 
-// Up to four instructions from one sight, where none of them can be cut short: none has more than 12 bits. The number is
-// how many of them are notes or pauses.
+// Up to four instructions from one sight, where none of them is cut short: none has more than 12 bits. The number is how
+// many of them are notes or pauses.
 fn few(msg: &[u8], at: BitPlace, n: u32) -> Step
     requires { ⌜ Within (now msg) (at .0) ⌝ }
     requires { ⌜ (n ≤ 4) × (at .0 + 48 ≤ placeAfter (length (now msg))) ⌝ }
@@ -286,8 +288,8 @@ fn few(msg: &[u8], at: BitPlace, n: u32) -> Step
     }
 }
 
-// `n` instructions near the message's end, one by one, with `c` notes so far. The number is how many notes and pauses
-// there are with them.
+// `n` instructions one by one, as the message's end is near, with `c` notes so far. The number is how many notes and pauses
+// there are then.
 fn singly(msg: &[u8], at: BitPlace, n: u32, c: u32) -> Step
     requires { ⌜ Within (now msg) (at .0) ⌝ }
     requires { ⌜ c + n ≤ 255 ⌝ }
@@ -314,7 +316,7 @@ fn singly(msg: &[u8], at: BitPlace, n: u32, c: u32) -> Step
     }
 }
 
-// How many of the instructions to come one sight takes.
+// How many of the instructions to come one sight holds.
 fn turn(more: u32) -> u32
     requires { ⌜ 0 < more ⌝ }
     ensures { λ r. ⌜ (1 ≤ r) × (r ≤ more) × (r ≤ 4) ⌝ }
@@ -322,7 +324,8 @@ fn turn(more: u32) -> u32
     if more < 4 { more } else { 4 }
 }
 
-// `n` instructions. The number is how many of them are notes or pauses.
+// `n` instructions. The number is how many of them are notes or pauses. Four are judged at a turn: one load costs less than
+// four.
 pub fn body(msg: &[u8], at: BitPlace, n: u32) -> Step
     requires { ⌜ Within (now msg) (at .0) ⌝ }
     requires { ⌜ n ≤ 255 ⌝ }
