@@ -1,4 +1,5 @@
 pub mod Elements
+pub mod Seeing
 pub mod Steps
 pub mod Walks
 pub mod Openings

@@ -9,6 +9,7 @@ use Rattle.bits.specs.Choice.{pick}
 use Rattle.bits.specs.Bits.{bitsOf, Octets, placeAfter}
 use Rattle.bits.specs.declared.BitPlace.{BitPlace}
 use Rattle.bits.specs.declared.OctetCount.{OctetCount}
+use Rattle.bits.specs.Window.{Sight}
 use Rattle.bits.specs.Outcome.{Outcome, accepted, refused}
 use Rattle.reading.specs.declared.Step.{Step}
 use Rattle.reading.specs.declared.Step.the-variants.{Good, Bad}
@@ -20,7 +21,7 @@ use Rattle.tone.specs.Table.{kind}
 use Rattle.tone.specs.Table.{InTable}
 use Rattle.tone.specs.Tone.{Pattern, Tone, Front, frontOf, cells}
 use Rattle.tone.specs.Writing.{entryBits, tableBits, frontBits}
-use Rattle.tone.specs.Reading.{Got, got, bad}
+use Rattle.tone.specs.Reading.{Got, got, bad, instructionDue}
 
 -- a place within a message, whose bits a place can count
 pub record Within (m : List ℕ) (at : ℕ) : Type 0 where
@@ -52,6 +53,10 @@ noteIn e = pick (eqb (kind e) 1) 1 0
 abbrev pub notes : List ℕ → ℕ
 notes [] = 0
 notes (e ∷ b) = noteIn e + notes b
+
+-- s is what is due of an instruction at a place, in every message that has 12 bits there, on top of x: none has more
+pub record Seen (at x : ℕ) (s : Step) : Type 0 where
+  pub due : (m : List ℕ) (n : ℕ) → 12 ≤ n → Sight n (drop at (bitsOf m)) x → at + 12 ≤ placeAfter (length m) → s ≡ stepAs noteIn (instructionDue (bitsOf m) at)
 
 -- how many entries patterns have in the tone table
 abbrev pub entries : List Pattern → ℕ

@@ -9,7 +9,7 @@ ghost use Rattle.tone.specs.Table.{width as widthOf, allowed as allowedOf};
 ghost use Rattle.tone.specs.Tone.{perCharacter, noneKnown};
 ghost use Rattle.tone.specs.Reading.{element, anyOf, filled, soundPart, parts as partsDue, command, text as textDue, title as titleDue, titled as titledDue, front};
 ghost use Rattle.tone.specs.Reading.{headerDue, instructionDue, bodyDue, patternsDue, ending as endingDue, rest as restDue};
-ghost use Rattle.reading.specs.Answers.{Within, stepAs, stepOf, commandOf, noteIn, notes as notesOf, entries as entriesOf, openingOf, SomeEntry, EntryAt, Passed};
+ghost use Rattle.reading.specs.Answers.{Within, stepAs, stepOf, commandOf, noteIn, notes as notesOf, entries as entriesOf, openingOf, Seen, SomeEntry, EntryAt, Passed};
 ghost use mathlib.Core.Bool.{Bool};
 ghost use mathlib.Core.List.{List};
 use bits::BitPlace;
@@ -126,10 +126,11 @@ fn payload(msg: &[u8], at: BitPlace, x: u32, kind: u32, w: u32) -> Step
     requires { ⌜ (w ≡ widthOf kind) × (w ≤ 14) ⌝ }
     ensures { λ r. ⌜ r ≡ stepOf (instructionDue (bitsOf (now (msg .entry))) (at .0)) ⌝ }
 {
+    let rest = BitPlace(at.0 + 3);
     if left(msg, at) < 3 + w as usize {
         return Step::Bad {
             number: 2,
-            at: BitPlace(at.0 + 3),
+            at: rest,
         };
     }
     let code = bits::part(x, 3, w);
@@ -141,7 +142,7 @@ fn payload(msg: &[u8], at: BitPlace, x: u32, kind: u32, w: u32) -> Step
     }
     Step::Bad {
         number: 6,
-        at: BitPlace(at.0 + 3),
+        at: rest,
     }
 }
 
@@ -216,15 +217,88 @@ fn note_in(cell: u32) -> u32
     if cell / 65536 == 1 { 1 } else { 0 }
 }
 
-// `n` instructions. The number is how many of them are notes or pauses.
-pub fn body(msg: &[u8], at: BitPlace, n: u32) -> Step
+// The instruction on top of a sight, where it is whole. The number is 1 for a note or pause, 0 for any other.
+fn seen(at: BitPlace, x: u64) -> Step
+    requires { ⌜ at .0 < 2 ^ 63 ⌝ }
+    ensures { λ r. ⌜ Seen (at .0) x r ⌝ }
+{
+    let kind = (x >> 61) as u32;
+    if kind == 1 {
+        if 12 < (x >> 57) % 16 {
+            return Step::Bad {
+                number: 6,
+                at: BitPlace(at.0 + 3),
+            };
+        }
+        if 5 < (x >> 54) % 8 {
+            return Step::Bad {
+                number: 6,
+                at: BitPlace(at.0 + 3),
+            };
+        }
+        return Step::Good {
+            value: 1,
+            next: BitPlace(at.0 + 12),
+        };
+    }
+    if kind == 0 {
+        return Step::Bad { number: 6, at };
+    }
+    if 5 < kind {
+        return Step::Bad { number: 6, at };
+    }
+    // Style 3 is not in the table.
+    if x >> 59 == 15 {
+        return Step::Bad {
+            number: 6,
+            at: BitPlace(at.0 + 3),
+        };
+    }
+    Step::Good {
+        value: 0,
+        next: BitPlace(at.0 + 3 + width(kind) as usize),
+    }
+}
+
+// Up to four instructions from one sight, where none of them is cut short: none has more than 12 bits. The number is how
+// many of them are notes or pauses.
+fn few(msg: &[u8], at: BitPlace, n: u32) -> Step
     requires { ⌜ Within (now msg) (at .0) ⌝ }
-    requires { ⌜ n ≤ 255 ⌝ }
+    requires { ⌜ (n ≤ 4) × (at .0 + 48 ≤ placeAfter (length (now msg))) ⌝ }
     ensures { λ r. ⌜ r ≡ stepAs notesOf (bodyDue n (bitsOf (now (msg .entry))) (at .0)) ⌝ }
 {
+    let s = bits::sight(msg, at);
     let mut place = at;
     let mut left = n;
     let mut notes: u32 = 0;
+    while 0 < left {
+        match seen(place, s << (place.0 - at.0) as u32) {
+            Step::Bad { number, at: fault } => {
+                return Step::Bad { number, at: fault };
+            }
+            Step::Good { value, next } => {
+                notes += value;
+                place = next;
+                left -= 1;
+            }
+        }
+    }
+    Step::Good {
+        value: notes,
+        next: place,
+    }
+}
+
+// `n` instructions one by one, as the message's end is near, with `c` notes so far. The number is how many notes and pauses
+// there are then.
+fn singly(msg: &[u8], at: BitPlace, n: u32, c: u32) -> Step
+    requires { ⌜ Within (now msg) (at .0) ⌝ }
+    requires { ⌜ c + n ≤ 255 ⌝ }
+    ensures { λ r. ⌜ r ≡ stepAs (λ b. c + notesOf b) (bodyDue n (bitsOf (now (msg .entry))) (at .0)) ⌝ }
+{
+    let mut place = at;
+    let mut left = n;
+    let mut notes = c;
     while 0 < left {
         match instruction(msg, place) {
             Step::Bad { number, at: fault } => {
@@ -234,6 +308,46 @@ pub fn body(msg: &[u8], at: BitPlace, n: u32) -> Step
                 notes += note_in(value);
                 place = next;
                 left -= 1;
+            }
+        }
+    }
+    Step::Good {
+        value: notes,
+        next: place,
+    }
+}
+
+// How many of the instructions to come one sight holds.
+fn turn(more: u32) -> u32
+    requires { ⌜ 0 < more ⌝ }
+    ensures { λ r. ⌜ (1 ≤ r) × (r ≤ more) × (r ≤ 4) ⌝ }
+{
+    if more < 4 { more } else { 4 }
+}
+
+// `n` instructions. The number is how many of them are notes or pauses. Four are judged at a turn: one load costs less than
+// four.
+pub fn body(msg: &[u8], at: BitPlace, n: u32) -> Step
+    requires { ⌜ Within (now msg) (at .0) ⌝ }
+    requires { ⌜ n ≤ 255 ⌝ }
+    ensures { λ r. ⌜ r ≡ stepAs notesOf (bodyDue n (bitsOf (now (msg .entry))) (at .0)) ⌝ }
+{
+    let mut place = at;
+    let mut more = n;
+    let mut notes: u32 = 0;
+    while 0 < more {
+        if left(msg, place) < 48 {
+            return singly(msg, place, more, notes);
+        }
+        let k = turn(more);
+        match few(msg, place, k) {
+            Step::Bad { number, at: fault } => {
+                return Step::Bad { number, at: fault };
+            }
+            Step::Good { value, next } => {
+                notes += value;
+                place = next;
+                more -= k;
             }
         }
     }
