@@ -10,6 +10,8 @@ pub mod Packing
 pub mod Settling
 pub mod Tallies
 pub mod Verdicts
+pub mod Seeing
+pub mod Stepping
 pub mod Walking
 pub mod Fillings
 pub mod Outcomes
