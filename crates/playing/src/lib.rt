@@ -210,7 +210,7 @@ fn microseconds(units: u32, pace: u64) -> u32
     ((units as u64 * pace) >> 20) as u32
 }
 
-// How long a full note sounds at a tempo, in microseconds, for each specifier.
+// Sets the table of a tempo: how long a full note sounds, in microseconds, for each specifier.
 fn set_lasts(tempo: u32, lasts: &mut [u32])
     requires { ⌜ (tempo ≤ 31) × (length (now lasts) ≡ 4) ⌝ }
     ensures { λ _. ⌜ now (lasts .exit) ≡ lastsOf (beatsOf tempo) ⌝ }
@@ -456,7 +456,8 @@ impl Walk {
     }
 
     // One instruction, that on top of a sight: a note or pause adds its entry, any other changes the settings. Most are
-    // notes: told first, the next place does not wait for a width.
+    // notes: told first, the next place does not wait for a width. The walk is copied and its fields are changed, since a
+    // new one laid out for each return is slower.
     fn step(self, x: u64, list: &mut [u32], lasts: &mut [u32]) -> Walk
         requires { ⌜ Ready self (now lasts) × (self .at .0 < 2 ^ 63) ⌝ }
         requires { ⌜ Instruction (entrySeen x) × (self .cells + 2 * noteIn (entrySeen x) ≤ length (now list)) ⌝ }
@@ -489,7 +490,8 @@ impl Walk {
     }
 }
 
-// Fills in up to four instructions that stand at the walk's place: one sight holds them.
+// Fills in up to four instructions that stand at the walk's place. Each has at most 12 bits, so one sight of 57 holds
+// them all.
 fn fill_few(msg: &[u8], n: u32, list: &mut [u32], lasts: &mut [u32], w: Walk) -> Walk
     requires { ⌜ Ready w (now lasts) × (n ≤ 4) ⌝ }
     requires { ⌜ BodyAt (now msg) (w .at .0) n (bodyIn (now msg) (w .at .0) n) (behindIn (now msg) (w .at .0) n) ⌝ }
