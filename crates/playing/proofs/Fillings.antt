@@ -35,6 +35,7 @@ use Rattle.playing.proofs.Counts.{list-count}
 use Rattle.judging.proofs.Bodies.{isKnown, knownOf, remember-length, body-sounding, learn-read}
 use Rattle.playing.proofs.Joining.{play-one, play-last}
 use Rattle.playing.proofs.Packing.{length-numbers}
+use Rattle.playing.proofs.Stepping.{ready-four}
 use Rattle.playing.proofs.Walking.{and-then, advanced-long}
 
 -- ---- the four parts are the places of the bodies that are remembered
@@ -150,7 +151,7 @@ known-sounding bodies h b four size = rw (← size) (go (eqb (length b) 0))
 -- ---- the loop
 
 -- with `left` patterns to come at p, from the bodies that are remembered and the settings of the walk
-pub record ListWalk (m : List ℕ) (ps : List Pattern) (old new : List ℕ) (parts : List Part) (p : ℕ) (w : Walk) (left : ℕ) : Type 0 where
+pub record ListWalk (m : List ℕ) (ps : List Pattern) (old new lasts : List ℕ) (parts : List Part) (p : ℕ) (w : Walk) (left : ℕ) : Type 0 where
   pub within : Within m p
   pub bodies : List Remembered
   pub four : length bodies ≡ 4
@@ -159,12 +160,12 @@ pub record ListWalk (m : List ℕ) (ps : List Pattern) (old new : List ℕ) (par
   pub end : ℕ
   pub reads : patternsDue left (knownOf bodies) (bitsOf m) p ≡ got others end
   pub done : List Entry
-  pub advanced : Advanced 0 (record { entries = done; after = w .settings }) (w .at .0) old new w
+  pub advanced : Advanced 0 (record { entries = done; after = w .settings }) (w .at .0) old new lasts w
   pub goes : play atStart noBodies 0 ps .entries ≡ done ++ play (w .settings) bodies (length done) others .entries
   pub room : 2 * entryCount noBodies ps ≤ length old
 
-pub list-begins : {m : List ℕ} {at n : ℕ} {ps : List Pattern} {q : ℕ} {old : List ℕ} {w : Walk} {p : BitPlace} → PatternsAt m at n ps q → 2 * entryCount noBodies ps ≤ length old
-    → Ready w × (w .settings ≡ atStart) × (w .at ≡ p) × (w .cells ≡ 0) → ListWalk m ps old old (replicate 4 Unknown) at w n
+pub list-begins : {m : List ℕ} {at n : ℕ} {ps : List Pattern} {q : ℕ} {old lasts : List ℕ} {w : Walk} {p : BitPlace} → PatternsAt m at n ps q → 2 * entryCount noBodies ps ≤ length old
+    → Ready w lasts × (w .settings ≡ atStart) × (w .at ≡ p) × (w .cells ≡ 0) → ListWalk m ps old old lasts (replicate 4 Unknown) at w n
 list-begins {ps = ps} {q} {w = w} h k s = record {
   within = h .within;
   bodies = noBodies;
@@ -183,9 +184,12 @@ list-begins {ps = ps} {q} {w = w} h k s = record {
 over-sets : (old : List ℕ) (rs : List Entry) → 2 * length rs ≤ length old → sets old 0 (numbers rs) ≡ over (numbers rs) old
 over-sets old rs h = sets-eq (numbers rs) old 0 (omega (arith, length-numbers rs)) ∙ ap (λ (n : ℕ). numbers rs ++ drop n old) (zero-add (length (numbers rs)))
 
-module _ {m : List ℕ} {ps : List Pattern} {old new : List ℕ} {parts : List Part} {p : ℕ} {w : Walk} {left : ℕ} (v : ListWalk m ps old new parts p w left) where
+module _ {m : List ℕ} {ps : List Pattern} {old new lasts : List ℕ} {parts : List Part} {p : ℕ} {w : Walk} {left : ℕ} (v : ListWalk m ps old new lasts parts p w left) where
   pub list-same : length new ≡ length old
   list-same = advanced-long (v .advanced)
+
+  pub list-four : length lasts ≡ 4
+  list-four = ready-four (v .advanced .ready)
 
   -- all entries
   count : 2 * length (play atStart noBodies 0 ps .entries) ≤ length old
@@ -290,13 +294,13 @@ module _ {m : List ℕ} {ps : List Pattern} {old new : List ℕ} {parts : List P
                 let f : notes (bodyIn m (from .0) n) * times ≡ notes (bodyOf (v .bodies) one) * passesOf (loopOf cell) = ap₂ (λ (b : List ℕ) (y : ℕ). notes b * y) body-is (x .0) in
                 omega (arith, ap (entryCount (v .bodies)) others, v .room, v .advanced .cells, list-same)
 
-            module _ {new′ : List ℕ} {w′ : Walk} (a : Advanced (w .cells) (passes times (w .settings) (bodyIn m (from .0) n)) (behindIn m (from .0) n) new new′ w′) where
+            module _ {new′ lasts′ : List ℕ} {w′ : Walk} (a : Advanced (w .cells) (passes times (w .settings) (bodyIn m (from .0) n)) (behindIn m (from .0) n) new new′ lasts′ w′) where
               d : Played
               d = patternPlayed (w .settings) (v .bodies) one
 
-              both : Advanced 0 (ahead (v .done) d) (behindIn m (from .0) n) old new′ w′
+              both : Advanced 0 (ahead (v .done) d) (behindIn m (from .0) n) old new′ lasts′ w′
               unfolding d
-              both = and-then (v .advanced) (subst (λ (y : Played). Advanced (w .cells) y (behindIn m (from .0) n) new new′ w′) played a)
+              both = and-then (v .advanced) (subst (λ (y : Played). Advanced (w .cells) y (behindIn m (from .0) n) new new′ lasts′ w′) played a)
 
               -- listing stops with a loop 15
               pub list-ends : loopOf cell ≡ 15 → new′ ≡ over (numbers (play atStart noBodies 0 ps .entries)) old
@@ -321,7 +325,7 @@ module _ {m : List ℕ} {ps : List Pattern} {old new : List ℕ} {parts : List P
                       let e₂ : specifier cell ≡ n = cc in
                       a .place ∙ ap₂ (λ (u : BitPlace) (c : ℕ). behindIn m (u .0) c) (sym e₁) (sym e₂) ∙ ap behindOr reads
 
-              pub list-on : {place′ : BitPlace} → (loopOf cell ≡ 15 → ⊥) → place′ ≡ behindPattern cell next (w′ .at) → ListWalk m ps old new′ (set parts (partOf cell) part) (place′ .0) w′ (left - 1)
+              pub list-on : {place′ : BitPlace} → (loopOf cell ≡ 15 → ⊥) → place′ ≡ behindPattern cell next (w′ .at) → ListWalk m ps old new′ lasts′ (set parts (partOf cell) part) (place′ .0) w′ (left - 1)
               unfolding d one
               list-on {place′} other z =
                   let q = behind-is z in
@@ -344,7 +348,7 @@ module _ {m : List ℕ} {ps : List Pattern} {old new : List ℕ} {parts : List P
                   }
 
 -- the list keeps its length in a turn
-pub list-long : {m : List ℕ} {ps : List Pattern} {old new new′ : List ℕ} {parts : List Part} {p : ℕ} {w w′ : Walk} {left i q : ℕ} {d : Played} → ListWalk m ps old new parts p w left → Advanced i d q new new′ w′ → length new′ ≡ length old
+pub list-long : {m : List ℕ} {ps : List Pattern} {old new new′ lasts lasts′ : List ℕ} {parts : List Part} {p : ℕ} {w w′ : Walk} {left i q : ℕ} {d : Played} → ListWalk m ps old new lasts parts p w left → Advanced i d q new new′ lasts′ w′ → length new′ ≡ length old
 list-long v a = advanced-long a ∙ list-same v
 
-pub ruleset listings = (list-begins, list-same, list-long, list-done, list-entry, list-unknown, list-body, list-fits, list-ends, list-on)
+pub ruleset listings = (list-begins, list-same, list-four, list-long, list-done, list-entry, list-unknown, list-body, list-fits, list-ends, list-on)

@@ -9,6 +9,8 @@ pub mod Bounds
 pub mod Grounds
 pub mod Packing
 pub mod Settling
+pub mod Seeing
+pub mod Stepping
 pub mod Walking
 pub mod Fillings
 pub mod Outcomes

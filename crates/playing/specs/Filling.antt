@@ -1,13 +1,14 @@
 -- What filling a list is handed, and what it leaves.
-use Prim.Native.Nat.{ℕ, _+_, _*_, _/_, _≤_}
+use Prim.Native.Nat.{ℕ, _+_, _-_, _*_, _/_, _%_, _^_, _≤_}
 use mathlib.Core.Path.{_≡_}
-use mathlib.Core.List.{List, []}
+use mathlib.Core.List.{List, [], _∷_}
 use lib.ListN.{length}
 use lib.Seq.{sets}
 use lib.Dec.{eqb}
 use Rattle.bits.specs.Choice.{pick}
 use Rattle.bits.specs.Bits.{bitsOf}
 use Rattle.bits.specs.declared.BitPlace.{BitPlace}
+use Rattle.tone.specs.Table.{entry, width}
 use Rattle.tone.specs.Tone.{Pattern, specifier, noneKnown}
 use Rattle.tone.specs.Reading.{Got, got, bad, bodyDue, patternsDue}
 use Rattle.reading.specs.Answers.{Within}
@@ -15,7 +16,7 @@ use Rattle.playing.specs.declared.Part.{Part}
 use Rattle.playing.specs.declared.Part.the-variants.{Known}
 use Rattle.playing.specs.declared.Settings.{Settings}
 use Rattle.playing.specs.declared.Walk.{Walk}
-use Rattle.playing.specs.Duration.{beats}
+use Rattle.playing.specs.Duration.{beats, units, microseconds}
 use Rattle.playing.specs.Sounding.{numbers}
 use Rattle.playing.specs.Ranges.{InRange}
 use Rattle.playing.specs.Playing.{Played}
@@ -73,20 +74,28 @@ behindPattern h next reached = pick (eqb (specifier h) 0) next reached
 abbrev pub paceOf : ℕ → ℕ
 paceOf b = 655360000000 / b + 1
 
+-- how long a full note sounds at so many beats, for each specifier
+abbrev pub lastsOf : ℕ → List ℕ
+lastsOf b = microseconds (units 0 0) b ∷ microseconds (units 0 1) b ∷ microseconds (units 0 2) b ∷ microseconds (units 0 3) b ∷ []
+
 -- what the settings put in an entry's first number
 abbrev pub baseOf : Settings → ℕ
 baseOf s = s .scale * 256 + s .style * 16 + s .volume
 
--- the settings are in range, and base and pace are theirs
-pub record Ready (w : Walk) : Type 0 where
+-- the entry on top of a sight: three bits of 64 are its kind, and as many as that kind has are its payload
+unfoldable pub entrySeen : ℕ → ℕ
+entrySeen x = let w = width (x / 2 ^ 61) in entry (x / 2 ^ 61) (x / 2 ^ (61 - w) % 2 ^ w)
+
+-- the settings are in range, the base is theirs, and the table is that of their tempo
+pub record Ready (w : Walk) (lasts : List ℕ) : Type 0 where
   pub range : InRange (w .settings)
   pub based : w .base ≡ baseOf (w .settings)
-  pub tuned : w .pace ≡ paceOf (beats (w .settings .tempo))
+  pub tuned : lasts ≡ lastsOf (beats (w .settings .tempo))
 
--- behind the first i cells d was played: its entries are written, and the next place is q
-pub record Advanced (i : ℕ) (d : Played) (q : ℕ) (old new : List ℕ) (r : Walk) : Type 0 where
+-- behind the first i cells d was played: its entries are written, the next place is q, and the table is that of its tempo
+pub record Advanced (i : ℕ) (d : Played) (q : ℕ) (old new lasts : List ℕ) (r : Walk) : Type 0 where
   pub settings : r .settings ≡ d .after
-  pub ready : Ready r
+  pub ready : Ready r lasts
   pub place : r .at .0 ≡ q
   pub cells : r .cells ≡ i + 2 * length (d .entries)
   pub list : new ≡ sets old i (numbers (d .entries))

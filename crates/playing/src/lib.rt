@@ -4,6 +4,7 @@ ghost use Prim.Native.Nat.{_+_, _*_, _/_, _^_, _≤_, _<_};
 ghost use lib.ListN.{length, drop};
 ghost use Rattle.bits.specs.Lent.{over};
 ghost use Rattle.tone.specs.Table.{Instruction};
+ghost use Rattle.tone.specs.Writing.{entryBits};
 ghost use Rattle.reading.specs.Answers.{noteIn, notes as notesOf};
 ghost use Rattle.playing.specs.Duration.{beats as beatsOf, units as unitsOf};
 ghost use Rattle.playing.specs.Sounding.{atStart, applied as appliedTo, unpacked, numbers, entryAt, entriesOf};
@@ -11,7 +12,7 @@ ghost use Rattle.playing.specs.Ranges.{InRange};
 ghost use Rattle.playing.specs.Playing.{step, pass, passes, play};
 ghost use Rattle.judging.specs.Bodies.{noBodies};
 ghost use Rattle.judging.specs.Counting.{entryCount};
-ghost use Rattle.playing.specs.Filling.{bodyIn, behindIn, BodyAt, patternsIn, endIn, PatternsAt, partAfter, behindPattern, paceOf, baseOf, Ready, Advanced};
+ghost use Rattle.playing.specs.Filling.{bodyIn, behindIn, BodyAt, patternsIn, endIn, PatternsAt, partAfter, behindPattern, paceOf, lastsOf, baseOf, entrySeen, Ready, Advanced};
 ghost use Rattle.playing.specs.Listing.{fitsNumbers, fitsBoth};
 ghost use Rattle.playing.specs.Promise.{entriesIn, ListPromise, RowsPromise};
 use bits::BitPlace;
@@ -47,12 +48,11 @@ pub enum Part {
     Known { at: BitPlace, count: u32 },
 }
 
-// How far filling has come: the settings, what they put in an entry's first number, the pace of their tempo, the place in
-// the message, and the cells filled.
+// How far filling has come: the settings, what they put in an entry's first number, the place in the message, and the
+// cells filled.
 pub struct Walk {
     pub settings: Settings,
     pub base: u32,
-    pub pace: u64,
     pub at: BitPlace,
     pub cells: usize,
 }
@@ -168,6 +168,18 @@ fn microseconds(units: u32, pace: u64) -> u32
     ((units as u64 * pace) >> 20) as u32
 }
 
+// Sets the table of a tempo: how long a full note sounds, in microseconds, for each specifier.
+fn set_lasts(tempo: u32, lasts: &mut [u32])
+    requires { ⌜ (tempo ≤ 31) × (length (now lasts) ≡ 4) ⌝ }
+    ensures { λ _. ⌜ now (lasts .exit) ≡ lastsOf (beatsOf tempo) ⌝ }
+{
+    let pace = pace(tempo);
+    lasts[0] = microseconds(units(0, 0), pace);
+    lasts[1] = microseconds(units(0, 1), pace);
+    lasts[2] = microseconds(units(0, 2), pace);
+    lasts[3] = microseconds(units(0, 3), pace);
+}
+
 // What the settings put in an entry's first number.
 fn base(s: Settings) -> u32
     requires { ⌜ InRange s ⌝ }
@@ -211,99 +223,133 @@ fn fill_rows(list: &[u32], n: usize, rows: &mut [Entry])
 }
 
 // ---- filling, once a message is judged
+//
+// Beside a walk goes a table: how long a full note sounds at the tempo set, for each specifier. Each duration code halves
+// it.
 
 impl Walk {
     // Nothing is filled, and the settings are those of the start.
-    fn start(at: BitPlace) -> Walk
-        ensures { λ r. ⌜ Ready r × (r .settings ≡ atStart) × (r .at ≡ at) × (r .cells ≡ 0) ⌝ }
+    fn start(at: BitPlace, lasts: &mut [u32]) -> Walk
+        requires { ⌜ length (now lasts) ≡ 4 ⌝ }
+        ensures { λ r. ⌜ Ready r (now (lasts .exit)) × (r .settings ≡ atStart) × (r .at ≡ at) × (r .cells ≡ 0) ⌝ }
     {
         let settings = Settings::at_start();
+        set_lasts(settings.tempo, lasts);
         Walk {
             settings,
             base: base(settings),
-            pace: pace(settings.tempo),
             at,
             cells: 0,
         }
     }
 
-    // One instruction: a note or pause adds its entry, any other changes the settings. Notes have the lowest kind.
-    fn step(self, cell: u32, next: BitPlace, list: &mut [u32]) -> Walk
-        requires { ⌜ Ready self ⌝ }
-        requires { ⌜ Instruction cell × (self .cells + 2 * noteIn cell ≤ length (now list)) ⌝ }
-        ensures { λ r. ⌜ Advanced (self .cells) (step (self .settings) cell) (next .0) (now (list .entry)) (now (list .exit)) r ⌝ }
+    // One instruction, that on top of a sight: a note or pause adds its entry, any other changes the settings. Most are
+    // notes: told first, the next place does not wait for a width. The walk is copied and its fields are changed, since a
+    // new one laid out for each return is slower.
+    fn step(self, x: u64, list: &mut [u32], lasts: &mut [u32]) -> Walk
+        requires { ⌜ Ready self (now lasts) × (self .at .0 < 2 ^ 63) ⌝ }
+        requires { ⌜ Instruction (entrySeen x) × (self .cells + 2 * noteIn (entrySeen x) ≤ length (now list)) ⌝ }
+        ensures { λ r. ⌜ Advanced (self .cells) (step (self .settings) (entrySeen x)) (self .at .0 + length (entryBits (entrySeen x))) (now (list .entry)) (now (list .exit)) (now (lasts .exit)) r ⌝ }
     {
-        let settings = self.settings;
+        let mut walk = self;
         let cells = self.cells;
-        if cell < 131072 {
-            let payload = cell % 65536;
-            let units = units(payload / 4 % 8, payload % 4);
+        if x >> 61 == 1 {
+            let payload = ((x >> 52) % 512) as u32;
             list[cells] = payload / 32 * 1024 + self.base;
-            list[cells + 1] = microseconds(units, self.pace);
-            return Walk {
-                settings,
-                base: self.base,
-                pace: self.pace,
-                at: next,
-                cells: cells + 2,
-            };
+            list[cells + 1] = lasts[(payload % 4) as usize] >> (payload / 4 % 8);
+            let next = BitPlace(self.at.0 + 12);
+            walk.at = next;
+            walk.cells = cells + 2;
+            return walk;
         }
-        let after = settings.applied(cell);
-        if cell / 65536 == 4 {
-            return Walk {
-                settings: after,
-                base: self.base,
-                pace: pace(after.tempo),
-                at: next,
-                cells,
-            };
+        let kind = (x >> 61) as u32;
+        let n = reading::width(kind);
+        let payload = ((x << 3) >> (64 - n)) as u32;
+        let after = self.settings.applied(kind * 65536 + payload);
+        let next = BitPlace(self.at.0 + 3 + n as usize);
+        walk.at = next;
+        walk.settings = after;
+        if kind == 4 {
+            set_lasts(after.tempo, lasts);
+            return walk;
         }
-        Walk {
-            settings: after,
-            base: base(after),
-            pace: self.pace,
-            at: next,
-            cells,
-        }
+        walk.base = base(after);
+        walk
     }
 }
 
-// Fills in one pass of the `n` instructions that stand at a place.
-fn fill_pass(msg: &[u8], from: BitPlace, n: u32, list: &mut [u32], w: Walk) -> Walk
-    requires { ⌜ Ready w ⌝ }
-    requires { ⌜ BodyAt (now msg) (from .0) n (bodyIn (now msg) (from .0) n) (behindIn (now msg) (from .0) n) ⌝ }
-    requires { ⌜ w .cells + 2 * notesOf (bodyIn (now msg) (from .0) n) ≤ length (now list) ⌝ }
-    ensures { λ r. ⌜ Advanced (w .cells) (pass (w .settings) (bodyIn (now (msg .entry)) (from .0) n)) (behindIn (now (msg .entry)) (from .0) n) (now (list .entry)) (now (list .exit)) r ⌝ }
+// Fills in up to four instructions that stand at the walk's place. Each has at most 12 bits, so one sight of 57 holds
+// them all.
+fn fill_few(msg: &[u8], n: u32, list: &mut [u32], lasts: &mut [u32], w: Walk) -> Walk
+    requires { ⌜ Ready w (now lasts) × (n ≤ 4) ⌝ }
+    requires { ⌜ BodyAt (now msg) (w .at .0) n (bodyIn (now msg) (w .at .0) n) (behindIn (now msg) (w .at .0) n) ⌝ }
+    requires { ⌜ w .cells + 2 * notesOf (bodyIn (now msg) (w .at .0) n) ≤ length (now list) ⌝ }
+    ensures { λ r. ⌜ Advanced (w .cells) (pass (w .settings) (bodyIn (now (msg .entry)) (w .at .0) n)) (behindIn (now (msg .entry)) (w .at .0) n) (now (list .entry)) (now (list .exit)) (now (lasts .exit)) r ⌝ }
 {
-    let settings = w.settings;
-    let mut walk = Walk {
-        settings,
-        base: w.base,
-        pace: w.pace,
-        at: from,
-        cells: w.cells,
-    };
+    let at = w.at;
+    let s = bits::sight(msg, at);
+    let mut walk = w;
     let mut left = n;
     while 0 < left {
-        let at = walk.at;
-        let c = reading::entry_at(msg, at);
-        walk = walk.step(c.cell, c.next, list);
+        let here = walk.at.0;
+        walk = walk.step(s << (here - at.0) as u32, list, lasts);
         left -= 1;
     }
     walk
 }
 
+// How many of the instructions to come one sight is for.
+fn turn(left: u32) -> u32
+    requires { ⌜ 0 < left ⌝ }
+    ensures { λ r. ⌜ (0 < r) × (r ≤ 4) × (r ≤ left) ⌝ }
+{
+    if left < 4 { left } else { 4 }
+}
+
+// Fills in one pass of the `n` instructions that stand at a place.
+fn fill_pass(
+    msg: &[u8],
+    from: BitPlace,
+    n: u32,
+    list: &mut [u32],
+    lasts: &mut [u32],
+    w: Walk,
+) -> Walk
+    requires { ⌜ Ready w (now lasts) ⌝ }
+    requires { ⌜ BodyAt (now msg) (from .0) n (bodyIn (now msg) (from .0) n) (behindIn (now msg) (from .0) n) ⌝ }
+    requires { ⌜ w .cells + 2 * notesOf (bodyIn (now msg) (from .0) n) ≤ length (now list) ⌝ }
+    ensures { λ r. ⌜ Advanced (w .cells) (pass (w .settings) (bodyIn (now (msg .entry)) (from .0) n)) (behindIn (now (msg .entry)) (from .0) n) (now (list .entry)) (now (list .exit)) (now (lasts .exit)) r ⌝ }
+{
+    let mut walk = w;
+    walk.at = from;
+    let mut left = n;
+    while 0 < left {
+        let k = turn(left);
+        walk = fill_few(msg, k, list, lasts, walk);
+        left -= k;
+    }
+    walk
+}
+
 // Fills in so many passes of the `n` instructions that stand at a place. The settings carry on.
-fn fill_passes(msg: &[u8], from: BitPlace, n: u32, times: u32, list: &mut [u32], w: Walk) -> Walk
-    requires { ⌜ Ready w ⌝ }
+fn fill_passes(
+    msg: &[u8],
+    from: BitPlace,
+    n: u32,
+    times: u32,
+    list: &mut [u32],
+    lasts: &mut [u32],
+    w: Walk,
+) -> Walk
+    requires { ⌜ Ready w (now lasts) ⌝ }
     requires { ⌜ BodyAt (now msg) (from .0) n (bodyIn (now msg) (from .0) n) (behindIn (now msg) (from .0) n) ⌝ }
     requires { ⌜ (1 ≤ times) × (times ≤ 15) × (w .cells + 2 * (notesOf (bodyIn (now msg) (from .0) n) * times) ≤ length (now list)) ⌝ }
-    ensures { λ r. ⌜ Advanced (w .cells) (passes times (w .settings) (bodyIn (now (msg .entry)) (from .0) n)) (behindIn (now (msg .entry)) (from .0) n) (now (list .entry)) (now (list .exit)) r ⌝ }
+    ensures { λ r. ⌜ Advanced (w .cells) (passes times (w .settings) (bodyIn (now (msg .entry)) (from .0) n)) (behindIn (now (msg .entry)) (from .0) n) (now (list .entry)) (now (list .exit)) (now (lasts .exit)) r ⌝ }
 {
-    let mut walk = fill_pass(msg, from, n, list, w);
+    let mut walk = fill_pass(msg, from, n, list, lasts, w);
     let mut left = times - 1;
     while 0 < left {
-        walk = fill_pass(msg, from, n, list, walk);
+        walk = fill_pass(msg, from, n, list, lasts, walk);
         left -= 1;
     }
     walk
@@ -335,9 +381,10 @@ pub fn fill_list(msg: &[u8], at: BitPlace, n: u32, list: &mut [u32])
     requires { ⌜ 2 * entryCount noBodies (patternsIn (now msg) (at .0) n) ≤ length (now list) ⌝ }
     ensures { λ _. ⌜ now (list .exit) ≡ over (numbers (play atStart noBodies 0 (patternsIn (now (msg .entry)) (at .0) n) .entries)) (now (list .entry)) ⌝ }
 {
+    let mut lasts = [0u32; 4];
     let mut parts = [Part::Unknown; 4];
     let mut place = at;
-    let mut walk = Walk::start(at);
+    let mut walk = Walk::start(at, &mut lasts);
     let mut left = n;
     while 0 < left {
         let head = reading::entry_at(msg, place);
@@ -351,7 +398,15 @@ pub fn fill_list(msg: &[u8], at: BitPlace, n: u32, list: &mut [u32])
                 return;
             }
             Part::Known { at: from, count } => {
-                walk = fill_passes(msg, from, count, judging::passes_of(value), list, walk);
+                walk = fill_passes(
+                    msg,
+                    from,
+                    count,
+                    judging::passes_of(value),
+                    list,
+                    &mut lasts,
+                    walk,
+                );
             }
         }
         if value == 15 {

@@ -2,19 +2,23 @@
 use borrow.Author.Needs.{needs}
 use Rattle.playing.proofs.Walk.start.Statement.{statement}
 use Rattle.playing.proofs.Walk.start.Tie as tie
-use Rattle.playing.proofs.Walking.{start-ready, start-range, start-tempo}
+use Rattle.playing.proofs.Stepping.{starts}
 
 at-start-requires : tie.Need-at-start-requires
 at-start-requires c κs = search needs
 
-base-requires : tie.Need-base-requires
-base-requires c κs = search (start-ready, start-range, start-tempo, needs)
+set-lasts-requires : tie.Need-set-lasts-requires
+set-lasts-requires c κs = search (starts, needs)
 
-pace-requires : tie.Need-pace-requires
-pace-requires c κs = search (start-ready, start-range, start-tempo, needs)
+base-requires : tie.Need-base-requires
+base-requires c κs = search (starts, needs)
+
+same-length : tie.Need-same-length
+same-length c = search needs
 
 returns : tie.Need-returns
-returns c = search (start-ready, start-range, start-tempo, needs)
+returns c = search (starts, needs)
 
 pub start-spec : {M : Type 1} → statement M
-start-spec = tie.close (tie.spec at-start-requires base-requires pace-requires returns)
+start-spec =
+    tie.close (tie.spec at-start-requires set-lasts-requires base-requires same-length returns)

@@ -2,10 +2,10 @@
 use borrow.Author.Needs.{needs}
 use Rattle.playing.proofs.Walk.step.Statement.{statement}
 use Rattle.playing.proofs.Walk.step.Tie as tie
-use Rattle.playing.proofs.Walking.{step-first, steps}
+use Rattle.playing.proofs.Stepping.{steps}
 
-units-requires : tie.Need-units-requires
-units-requires c κs = search (steps, needs)
+cast-payload : tie.Need-cast-payload
+cast-payload c = search needs
 
 mul-list : tie.Need-mul-list
 mul-list c = search needs
@@ -17,24 +17,34 @@ mul-list-2 : tie.Need-mul-list-2
 mul-list-2 c = search needs
 
 slice-write-list : tie.Need-slice-write-list
-slice-write-list c =
-    let start = c .before .before .before .before .before in
-    step-first (start .pre .0) (start .pre .1 .0) (c .before .before .if1 .taken) (start .args .list .now) (start .pre .1 .1)
+slice-write-list c = search (steps, needs)
 
-microseconds-requires : tie.Need-microseconds-requires
-microseconds-requires c κs = search (steps, needs)
-
-add-list-2 : tie.Need-add-list-2
-add-list-2 c = search needs
+cast-list : tie.Need-cast-list
+cast-list c = search needs
 
 mul-list-3 : tie.Need-mul-list-3
 mul-list-3 c = search needs
 
+slice-read-list : tie.Need-slice-read-list
+slice-read-list c = search (steps, needs)
+
+shr-list : tie.Need-shr-list
+shr-list c = search needs
+
+add-list-2 : tie.Need-add-list-2
+add-list-2 c = search needs
+
+mul-list-4 : tie.Need-mul-list-4
+mul-list-4 c = search needs
+
 slice-write-list-2 : tie.Need-slice-write-list-2
 slice-write-list-2 c = search (steps, needs)
 
-add-t14 : tie.Need-add-t14
-add-t14 c = search needs
+add-t21 : tie.Need-add-t21
+add-t21 c = search needs
+
+add-walk : tie.Need-add-walk
+add-walk c = search needs
 
 same-length : tie.Need-same-length
 same-length c = search needs
@@ -42,11 +52,47 @@ same-length c = search needs
 returns : tie.Need-returns
 returns c = search (steps, needs)
 
+cast-kind : tie.Need-cast-kind
+cast-kind c = search needs
+
+width-requires : tie.Need-width-requires
+width-requires c κs = search (steps, needs)
+
+sub-payload : tie.Need-sub-payload
+sub-payload c = search needs
+
+cast-payload-2 : tie.Need-cast-payload-2
+cast-payload-2 c = search needs
+
+shr-payload : tie.Need-shr-payload
+shr-payload c = search (steps, needs)
+
+cast-payload-3 : tie.Need-cast-payload-3
+cast-payload-3 c = search (steps, needs)
+
+mul-applied : tie.Need-mul-applied
+mul-applied c = search needs
+
+add-applied : tie.Need-add-applied
+add-applied c = search (steps, needs)
+
 applied-requires : tie.Need-applied-requires
 applied-requires c κs = search needs
 
-pace-requires : tie.Need-pace-requires
-pace-requires c κs = search (steps, needs)
+add-t34 : tie.Need-add-t34
+add-t34 c = search needs
+
+cast-t35 : tie.Need-cast-t35
+cast-t35 c = search needs
+
+add-t36 : tie.Need-add-t36
+add-t36 c = search needs
+
+set-lasts-requires : tie.Need-set-lasts-requires
+set-lasts-requires c κs = search (steps, needs)
+
+same-length-2 : tie.Need-same-length-2
+same-length-2 c = search needs
 
 returns-2 : tie.Need-returns-2
 returns-2 c = search (steps, needs)
@@ -61,20 +107,36 @@ pub step-spec : {M : Type 1} → statement M
 step-spec =
     tie.close
     (tie.spec
-    units-requires
+    cast-payload
     mul-list
     add-list
     mul-list-2
     slice-write-list
-    microseconds-requires
-    add-list-2
+    cast-list
     mul-list-3
+    slice-read-list
+    shr-list
+    add-list-2
+    mul-list-4
     slice-write-list-2
-    add-t14
+    add-t21
+    add-walk
     same-length
     returns
+    cast-kind
+    width-requires
+    sub-payload
+    cast-payload-2
+    shr-payload
+    cast-payload-3
+    mul-applied
+    add-applied
     applied-requires
-    pace-requires
+    add-t34
+    cast-t35
+    add-t36
+    set-lasts-requires
+    same-length-2
     returns-2
     base-requires
     returns-3)
