@@ -6,6 +6,7 @@ use native.Mathlib.Numerals.{add-one}
 use mathlib.Core.Path.{_≡_, refl, sym, ap, _∙_}
 use mathlib.Core.List.{List}
 use lib.ListN.{length, getD, set, length-set}
+use lib.Pow.{shr-shr}
 use lib.Dec.{eqb, leb}
 use borrow.Author.Tests.{eq-eqb, ne-eqb, leb-true}
 use mir.Val.{Fits}
@@ -78,6 +79,16 @@ step-kind x i = omega (arith, seen-kind x, i .inTable .known)
 abbrev noteSeen : ℕ → ℕ
 noteSeen x = x / 2 ^ 52 % 512
 
+-- its parts, taken one by one
+pitch-seen : (x : ℕ) → x / 2 ^ 57 % 16 ≡ noteOf (noteSeen x)
+pitch-seen x = omega (arith, shr-shr x 52 5)
+
+duration-seen : (x : ℕ) → x / 2 ^ 54 % 8 ≡ durationOf (noteSeen x)
+duration-seen x = omega (arith, shr-shr x 52 2)
+
+specifier-seen : (x : ℕ) → x / 2 ^ 52 % 4 ≡ specifierOf (noteSeen x)
+specifier-seen x = omega arith
+
 -- a note
 module _ (x : ℕ) (h : x / 2 ^ 61 ≡ 1) where
   note : kind (entrySeen x) ≡ 1
@@ -105,7 +116,7 @@ module _ (x : ℕ) (h : x / 2 ^ 61 ≡ 1) where
 
     pub step-note : {lasts : List ℕ} → Ready w lasts
         → Advanced (w .cells) (step (w .settings) (entrySeen x)) (w .at .0 + length (entryBits (entrySeen x))) old
-        (set (set old (w .cells) (noteOf (noteSeen x) * 1024 + w .base)) (w .cells + 1) (getD lasts (specifierOf (noteSeen x)) 0 / 2 ^ durationOf (noteSeen x))) lasts
+        (set (set old (w .cells) (x / 2 ^ 57 % 16 * 1024 + w .base)) (w .cells + 1) (getD lasts (x / 2 ^ 52 % 4) 0 / 2 ^ (x / 2 ^ 54 % 8))) lasts
         (record { settings = w .settings; base = w .base; at = place (w .at .0 + 12); cells = w .cells + 2 })
     unfolding step sounded
     step-note {lasts} r =
@@ -119,7 +130,7 @@ module _ (x : ℕ) (h : x / 2 ^ 61 ≡ 1) where
           ready = record { range = r .range; based = r .based; tuned = r .tuned };
           place = ap (λ (n : ℕ). w .at .0 + n) (sym twelve);
           cells = rw (eq-eqb (kind (entrySeen x)) 1 note) refl;
-          list = rw (eq-eqb (kind (entrySeen x)) 1 note, first, second, add-one (w .cells)) refl;
+          list = rw (pitch-seen x, duration-seen x, specifier-seen x, eq-eqb (kind (entrySeen x)) 1 note, first, second, add-one (w .cells)) refl;
         }
 
 -- any other

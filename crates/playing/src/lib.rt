@@ -254,9 +254,8 @@ impl Walk {
         let mut walk = self;
         let cells = self.cells;
         if x >> 61 == 1 {
-            let payload = ((x >> 52) % 512) as u32;
-            list[cells] = payload / 32 * 1024 + self.base;
-            list[cells + 1] = lasts[(payload % 4) as usize] >> (payload / 4 % 8);
+            list[cells] = ((x >> 57) % 16) as u32 * 1024 + self.base;
+            list[cells + 1] = lasts[((x >> 52) % 4) as usize] >> ((x >> 54) % 8) as u32;
             let next = BitPlace(self.at.0 + 12);
             walk.at = next;
             walk.cells = cells + 2;

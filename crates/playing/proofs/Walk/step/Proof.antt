@@ -1,11 +1,11 @@
--- `Walk::step` meets its contract.
+-- `playing::Walk::step` meets its contract.
 use borrow.Author.Needs.{needs}
 use Rattle.playing.proofs.Walk.step.Statement.{statement}
 use Rattle.playing.proofs.Walk.step.Tie as tie
 use Rattle.playing.proofs.Stepping.{steps}
 
-cast-payload : tie.Need-cast-payload
-cast-payload c = search needs
+cast-list : tie.Need-cast-list
+cast-list c = search needs
 
 mul-list : tie.Need-mul-list
 mul-list c = search needs
@@ -19,14 +19,14 @@ mul-list-2 c = search needs
 slice-write-list : tie.Need-slice-write-list
 slice-write-list c = search (steps, needs)
 
-cast-list : tie.Need-cast-list
-cast-list c = search needs
-
 mul-list-3 : tie.Need-mul-list-3
 mul-list-3 c = search needs
 
 slice-read-list : tie.Need-slice-read-list
 slice-read-list c = search (steps, needs)
+
+cast-list-2 : tie.Need-cast-list-2
+cast-list-2 c = search (steps, needs)
 
 shr-list : tie.Need-shr-list
 shr-list c = search needs
@@ -40,8 +40,8 @@ mul-list-4 c = search needs
 slice-write-list-2 : tie.Need-slice-write-list-2
 slice-write-list-2 c = search (steps, needs)
 
-add-t21 : tie.Need-add-t21
-add-t21 c = search needs
+add-t20 : tie.Need-add-t20
+add-t20 c = search (steps, needs)
 
 add-walk : tie.Need-add-walk
 add-walk c = search needs
@@ -61,14 +61,14 @@ width-requires c κs = search (steps, needs)
 sub-payload : tie.Need-sub-payload
 sub-payload c = search needs
 
-cast-payload-2 : tie.Need-cast-payload-2
-cast-payload-2 c = search needs
+cast-payload : tie.Need-cast-payload
+cast-payload c = search needs
 
 shr-payload : tie.Need-shr-payload
 shr-payload c = search (steps, needs)
 
-cast-payload-3 : tie.Need-cast-payload-3
-cast-payload-3 c = search (steps, needs)
+cast-payload-2 : tie.Need-cast-payload-2
+cast-payload-2 c = search (steps, needs)
 
 mul-applied : tie.Need-mul-applied
 mul-applied c = search needs
@@ -79,14 +79,14 @@ add-applied c = search (steps, needs)
 applied-requires : tie.Need-applied-requires
 applied-requires c κs = search needs
 
-add-t34 : tie.Need-add-t34
-add-t34 c = search needs
+add-t33 : tie.Need-add-t33
+add-t33 c = search (steps, needs)
 
-cast-t35 : tie.Need-cast-t35
-cast-t35 c = search needs
+cast-t34 : tie.Need-cast-t34
+cast-t34 c = search (steps, needs)
 
-add-t36 : tie.Need-add-t36
-add-t36 c = search needs
+add-t35 : tie.Need-add-t35
+add-t35 c = search (steps, needs)
 
 set-lasts-requires : tie.Need-set-lasts-requires
 set-lasts-requires c κs = search (steps, needs)
@@ -107,34 +107,34 @@ pub step-spec : {M : Type 1} → statement M
 step-spec =
     tie.close
     (tie.spec
-    cast-payload
+    cast-list
     mul-list
     add-list
     mul-list-2
     slice-write-list
-    cast-list
     mul-list-3
     slice-read-list
+    cast-list-2
     shr-list
     add-list-2
     mul-list-4
     slice-write-list-2
-    add-t21
+    add-t20
     add-walk
     same-length
     returns
     cast-kind
     width-requires
     sub-payload
-    cast-payload-2
+    cast-payload
     shr-payload
-    cast-payload-3
+    cast-payload-2
     mul-applied
     add-applied
     applied-requires
-    add-t34
-    cast-t35
-    add-t36
+    add-t33
+    cast-t34
+    add-t35
     set-lasts-requires
     same-length-2
     returns-2
