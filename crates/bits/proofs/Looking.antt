@@ -68,6 +68,26 @@ pub window-is : (m : List ℕ) (i : ℕ) {x y z u : ℕ} → (x ≡ getD m i 0) 
     → (u ≡ getD m (i + 3) 0) × (u < 256) → x * 16777216 + y * 65536 + z * 256 + u ≡ num (bitsOf (four m i))
 window-is m i {x} {y} {z} {u} hx hy hz hu = rw (← hx .0, ← hy .0, ← hz .0, ← hu .0) (sym (num-four x y z u (hx .1) (hy .1) (hz .1) (hu .1)))
 
+-- two octets are enough for one at any place
+first-two : (m : List ℕ) → getD m 0 0 ∷ getD m 1 0 ∷ [] ≡ take 2 m ++ replicate (2 - length m) 0
+first-two [] = refl
+first-two (x ∷ []) = refl
+first-two (x ∷ y ∷ m) = let e : 2 - length (x ∷ y ∷ m) ≡ 0 = omega arith in rw e refl
+
+-- what `octet_at` computes
+pub octet-is : (m : List ℕ) (at i : ℕ) {x y : ℕ} → at + 16 ≤ 8 * length m → i ≡ at / 8 → (x ≡ getD m i 0) × (x < 256) → (y ≡ getD m (i + 1) 0) × (y < 256)
+    → (x * 256 + y) / 2 ^ (8 - at % 8) % 256 ≡ field (bitsOf m) at 8
+octet-is m at i {x} {y} h ei hx hy =
+    let f = at % 8 in
+    let p : 8 * i + f ≡ at = omega arith in
+    let d : getD (drop i m) 0 0 ∷ getD (drop i m) 1 0 ∷ [] ≡ x ∷ y ∷ [] = rw (getD-drop i m 0 0, getD-drop i m 1 0, add-zero i, hx .0, hy .0) refl in
+    let n : num (bitsOf (x ∷ y ∷ [])) ≡ x * 256 + y = simp (num-append, length-append, length-bits, num-bits, hx .1, hy .1) (omega arith) in
+    let s : f + 8 + (8 - f) ≡ length (bitsOf (x ∷ y ∷ [])) = rw (length-bitsOf (x ∷ y ∷ [])) (omega arith) in
+    sym (ap (λ (q : ℕ). field (bitsOf m) q 8) (sym p)
+    ∙ within 2 m i f 8 (sym (first-two (drop i m)) ∙ d) (omega arith) (omega arith)
+    ∙ field-num (bitsOf (x ∷ y ∷ [])) f 8 (8 - f) s
+    ∙ ap (λ (q : ℕ). q / 2 ^ (8 - f) % 2 ^ 8) n)
+
 -- a field of the low o + w + q digits
 low-field : (y o w q : ℕ) {t : ℕ} → o + w + q ≡ t → y % 2 ^ t / 2 ^ q % 2 ^ w ≡ y / 2 ^ q % 2 ^ w
 low-field y o w q e = rw (← e, pow-field y (o + w) q, mod-mod-pow (y / 2 ^ q) o w)

@@ -2,7 +2,7 @@ ghost use mathlib.Core.Path.{_≡_};
 ghost use mathlib.Core.List.{[], _∷_};
 ghost use Prim.Native.Nat.{_+_, _-_, _*_, _/_, _%_, _^_, _≤_, _<_};
 ghost use lib.ListN.{length, getD, drop};
-ghost use Rattle.bits.specs.Bits.{bitsN, bitsOf, num, placeAfter, octetsBefore, octetsTo};
+ghost use Rattle.bits.specs.Bits.{bitsN, bitsOf, num, field, placeAfter, octetsBefore, octetsTo};
 ghost use Rattle.bits.specs.Window.{four, eight, Look, Sight};
 ghost use Rattle.bits.specs.Sink.{written, InHand, Stored, Put, Sealed};
 
@@ -104,6 +104,16 @@ pub fn sight(s: &[u8], at: BitPlace) -> u64
 {
     let i = octets_before(at).0;
     wide_window(s, i) << (at.0 % 8)
+}
+
+// The octet at a place, out of two octets of which the second is there too.
+pub fn octet_at(s: &[u8], at: BitPlace) -> u8
+    requires { ⌜ at .0 + 16 ≤ placeAfter (length (now s)) ⌝ }
+    ensures { λ r. ⌜ r ≡ field (bitsOf (now (s .entry))) (at .0) 8 ⌝ }
+{
+    let i = octets_before(at).0;
+    let two = wide(s[i]) * 256 + wide(s[i + 1]);
+    ((two >> (8 - at.0 % 8)) % 256) as u8
 }
 
 // The `w` bits that stand `o` bits into 24.

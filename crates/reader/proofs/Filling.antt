@@ -98,24 +98,25 @@ pub ruleset tables = (table-begins, table-entry, table-index, table-offset, tabl
 -- with i octets of o in the title, and the others at p
 pub record TitleFill (m o : List ℕ) (n : ℕ) (old new : List ℕ) (p i : ℕ) : Type 0 where
   pub within : Within m p
+  pub more : p + 8 * (n - i) + 8 ≤ 8 * length m
   pub least : i ≤ n
   pub all : n ≡ length o
   pub room : n ≤ length old
   pub there : OctetsAt m p (drop i o)
   pub filled : new ≡ filledTo o i old
 
-pub title-begins : {m o : List ℕ} {n at : ℕ} {old : List ℕ} → Within m at → (n ≤ length old) × (n ≡ length o) × OctetsAt m at o → TitleFill m o n old old at 0
-title-begins i h = record { within = i; least = omega arith; all = h .1; room = h .0; there = h .2; filled = refl }
+pub title-begins : {m o : List ℕ} {n at : ℕ} {old : List ℕ} → Within m at × (at + 8 * n + 8 ≤ 8 * length m) → (n ≤ length old) × (n ≡ length o) × OctetsAt m at o → TitleFill m o n old old at 0
+title-begins i h = record { within = i .0; more = omega (arith, i .1); least = omega arith; all = h .1; room = h .0; there = h .2; filled = refl }
 
 module _ {m o : List ℕ} {n : ℕ} {old new : List ℕ} {p i : ℕ} (f : TitleFill m o n old new p i) (h : i < n) where
-  more : drop i o ≡ getD o i 0 ∷ drop (suc i) o
-  more = drop-cons o i 0 (omega (arith, f .all))
+  octet-more : drop i o ≡ getD o i 0 ∷ drop (suc i) o
+  octet-more = drop-cons o i 0 (omega (arith, f .all))
 
   octets : Octets (getD o i 0 ∷ drop (suc i) o)
-  octets = subst Octets more (f .there .each)
+  octets = subst Octets octet-more (f .there .each)
 
   octet-here : drop p (bitsOf m) ≡ bitsN 8 (getD o i 0) ++ (bitsOf (drop (suc i) o) ++ f .there .behind)
-  octet-here = f .there .here ∙ (rw more (append-assoc (bitsN 8 (getD o i 0)) (bitsOf (drop (suc i) o)) (f .there .behind)))
+  octet-here = f .there .here ∙ (rw octet-more (append-assoc (bitsN 8 (getD o i 0)) (bitsOf (drop (suc i) o)) (f .there .behind)))
 
   octet-room : p + 8 ≤ 8 * length m
   octet-room = rw (length-bits 8 (getD o i 0)) at (room m p (bitsN 8 (getD o i 0)) (bitsOf (drop (suc i) o) ++ f .there .behind) (f .within .inside) octet-here)
@@ -126,16 +127,19 @@ module _ {m o : List ℕ} {n : ℕ} {old new : List ℕ} {p i : ℕ} (f : TitleF
   pub title-place : Fits w64 (p + 8)
   title-place = let k = f .within .counted in record { fits = omega (arith, octet-room) }
 
-  pub title-on : {x v : ℕ} → Look (drop p (bitsOf m)) x → (v ≡ x / 2 ^ (24 - (0 + 8)) % 2 ^ 8) × (v < 2 ^ 8) → TitleFill m o n old (set new i v) (p + 8) (i + 1)
-  title-on {x} {v} lk hv =
+  -- the octet behind is there too
+  pub title-two : p + 16 ≤ 8 * length m
+  title-two = omega (arith, f .more)
+
+  pub title-on : {v : ℕ} → v ≡ field (bitsOf m) p 8 → TitleFill m o n old (set new i v) (p + 8) (i + 1)
+  title-on {v} hv =
       let k = octet-room in
-      let s : field (bitsOf m) (p + 0) 8 ≡ x / 2 ^ (24 - (0 + 8)) % 2 ^ 8 = seen m p 0 8 lk (omega arith) (omega arith) in
-      let t : v ≡ getD o i 0 = hv .0 ∙ sym s ∙ ap (λ (y : ℕ). field (bitsOf m) y 8) (add-zero p)
-      ∙ stands (bitsOf m) p 8 (getD o i 0) (bitsOf (drop (suc i) o) ++ f .there .behind) (octets .0) octet-here in
+      let t : v ≡ getD o i 0 = hv ∙ stands (bitsOf m) p 8 (getD o i 0) (bitsOf (drop (suc i) o) ++ f .there .behind) (octets .0) octet-here in
       let e : drop (i + 1) o ≡ drop (suc i) o = ap (λ (y : ℕ). drop y o) (add-one i) in
       let q : p + 8 ≡ p + length (bitsN 8 (getD o i 0)) = ap (λ (y : ℕ). p + y) (sym (length-bits 8 (getD o i 0))) in
       record {
         within = record { inside = k; counted = f .within .counted };
+        more = omega (arith, f .more);
         least = omega arith;
         all = f .all;
         room = f .room;
@@ -153,4 +157,4 @@ title-ends {o = o} {old = old} {i = i} f h = f .filled ∙ filled-all o old {i =
 pub title-long : {m o : List ℕ} {n : ℕ} {old new : List ℕ} {p i : ℕ} → TitleFill m o n old new p i → length new ≡ length old
 title-long {o = o} {old = old} {i = i} f = ap length (f .filled) ∙ length-filled o old i (omega (arith, f .all, f .least)) (omega (arith, f .all, f .room))
 
-pub ruleset titles = (title-begins, title-index, title-place, title-on, title-ends, title-long)
+pub ruleset titles = (title-begins, title-index, title-place, title-two, title-on, title-ends, title-long)

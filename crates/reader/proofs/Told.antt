@@ -204,6 +204,9 @@ module _ (m table title : List ℕ) {j : Judged} (q : j ≡ judgedOf (readTone m
     pub read-within : Within m (f .0)
     read-within = let b = there .told .short in record { inside = front-short; counted = omega arith }
 
+    pub read-title-count : (d : ℕ) → d + 8 * o .0 + 8 ≡ f .0 → d + 8 * o .0 + 8 ≤ 8 * length m
+    read-title-count d h = omega (arith, front-short)
+
     module _ {d : ℕ} (h : d + 8 * o .0 + 8 ≡ f .0) where
       pub read-title-within : Within m d
       read-title-within = let b = there .told .short in record { inside = omega (arith, front-short); counted = omega arith }
@@ -233,4 +236,4 @@ module _ (m table title : List ℕ) {j : Judged} (q : j ≡ judgedOf (readTone m
         promised m table title table′ title′ (Read s u k p e) (accepted x)
         (read-fits (rw (← there .octets) a) (rw (← there .entries) b)) (cc) (rw r at d) (rw r at c)
 
-pub ruleset readings = (read-faulty, read-no-title, read-no-table, read-place, read-small, read-within, read-title-within, read-title-at, read-title-octets, read-table-entries, read-table-at, read-done)
+pub ruleset readings = (read-faulty, read-no-title, read-no-table, read-place, read-small, read-within, read-title-within, read-title-count, read-title-at, read-title-octets, read-table-entries, read-table-at, read-done)

@@ -44,9 +44,9 @@ fn fill_table(msg: &[u8], at: BitPlace, n: usize, table: &mut [u32])
     }
 }
 
-// Writes so many octets that stand at a place to the title.
+// Writes so many octets that stand at a place to the title. Another octet, the pattern count, stands behind them.
 fn fill_title(msg: &[u8], at: BitPlace, octets: OctetCount, title: &mut [u8])
-    requires { ⌜ Within (now msg) (at .0) ⌝ }
+    requires { ⌜ Within (now msg) (at .0) × (at .0 + 8 * octets .0 + 8 ≤ placeAfter (length (now msg))) ⌝ }
     requires { ⌜ (octets .0 ≤ length (now title)) × (octets .0 ≡ length (titleOf (now msg))) × OctetsAt (now msg) (at .0) (titleOf (now msg)) ⌝ }
     ensures { λ _. ⌜ now (title .exit) ≡ over (titleOf (now (msg .entry))) (now (title .entry)) ⌝ }
 {
@@ -54,7 +54,7 @@ fn fill_title(msg: &[u8], at: BitPlace, octets: OctetCount, title: &mut [u8])
     let mut place = at;
     let mut i: usize = 0;
     while i < n {
-        title[i] = bits::part(bits::look(msg, place), 0, 8) as u8;
+        title[i] = bits::octet_at(msg, place);
         place = BitPlace(place.0 + 8);
         i += 1;
     }

@@ -1,4 +1,4 @@
--- `reader::fill_title` meets its contract. Each turn takes up one octet.
+-- `reader::fill_title` meets its contract.
 use Rattle.reader.proofs.fill_title.Statement.{statement}
 use Rattle.reader.proofs.fill_title.Tie as tie
 use borrow.Author.Needs.{needs}
@@ -15,20 +15,14 @@ abbrev μ-loop : tie.MeasureT-loop
 loop-holds : tie.Need-loop-holds Inv-loop μ-loop
 loop-holds c = search (titles, needs)
 
-look-requires : tie.Need-look-requires Inv-loop μ-loop
-look-requires c κs = search (titles, needs)
-
-part-requires : tie.Need-part-requires Inv-loop μ-loop
-part-requires c κs = search (titles, needs)
-
-cast-title : tie.Need-cast-title Inv-loop μ-loop
-cast-title c = search (titles, needs)
+octet-at-requires : tie.Need-octet-at-requires Inv-loop μ-loop
+octet-at-requires c κs = search (titles, needs)
 
 slice-write-title : tie.Need-slice-write-title Inv-loop μ-loop
 slice-write-title c = search (titles, needs)
 
-add-t13 : tie.Need-add-t13 Inv-loop μ-loop
-add-t13 c = search (titles, needs)
+add-t11 : tie.Need-add-t11 Inv-loop μ-loop
+add-t11 c = search (titles, needs)
 
 add-i : tie.Need-add-i Inv-loop μ-loop
 add-i c = search (titles, needs)
@@ -52,11 +46,9 @@ fill-title-spec =
     Inv-loop
     μ-loop
     loop-holds
-    look-requires
-    part-requires
-    cast-title
+    octet-at-requires
     slice-write-title
-    add-t13
+    add-t11
     add-i
     loop-less
     loop-again
