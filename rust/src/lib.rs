@@ -20,6 +20,7 @@ use core::fmt;
 use ohakelm_answers::NO_MARK;
 pub use ohakelm_answers::{Entry, Label};
 
+pub mod numbers;
 pub mod raw;
 
 /// Why a call refused, by the number that the rules give it, and where.
@@ -94,18 +95,7 @@ pub enum Edit {
 
 /// Reads a tone message into a table and its title's octets.
 pub fn read(message: &[u8], table: &mut [u32], title: &mut [u8]) -> Result<Tone, Refusal> {
-    // SAFETY: each pointer and length is a live slice's, and the borrows keep
-    // the lent ones apart from all others.
-    let answer = unsafe {
-        raw::ohakelm_read(
-            message.as_ptr(),
-            message.len(),
-            table.as_mut_ptr(),
-            table.len(),
-            title.as_mut_ptr(),
-            title.len(),
-        )
-    };
+    let answer = numbers::read(message, table, title);
     accepted(answer.refusal, answer.place)?;
     Ok(Tone {
         song: answer.song,
@@ -124,19 +114,7 @@ pub fn write(
     table: &[u32],
     out: &mut [u8],
 ) -> Result<usize, Refusal> {
-    // SAFETY: as in `read`.
-    let answer = unsafe {
-        raw::ohakelm_write(
-            song,
-            unicode,
-            title.as_ptr(),
-            title.len(),
-            table.as_ptr(),
-            table.len(),
-            out.as_mut_ptr(),
-            out.len(),
-        )
-    };
+    let answer = numbers::write(song, unicode, title, table, out);
     accepted(answer.refusal, answer.place)?;
     Ok(answer.octets)
 }
@@ -152,46 +130,17 @@ pub fn label<'a>(title: &'a [u8], unicode: bool, stand_in: &'a [u8]) -> &'a [u8]
 
 /// Which of the two buffers supplies the label, and which stretch of it.
 pub fn label_stretch(title: &[u8], unicode: bool, stand_in: &[u8]) -> Label {
-    // SAFETY: as in `read`.
-    unsafe {
-        raw::ohakelm_label(
-            title.as_ptr(),
-            title.len(),
-            unicode,
-            stand_in.as_ptr(),
-            stand_in.len(),
-        )
-    }
+    numbers::label(title, unicode, stand_in)
 }
 
 /// Makes the playing list of a tone message, two numbers an entry.
 pub fn list(message: &[u8], list: &mut [u32]) -> Result<Playing, Refusal> {
-    // SAFETY: as in `read`.
-    let answer = unsafe {
-        raw::ohakelm_list(
-            message.as_ptr(),
-            message.len(),
-            list.as_mut_ptr(),
-            list.len(),
-        )
-    };
-    playing(answer)
+    playing(numbers::list(message, list))
 }
 
 /// Makes the playing list in both forms, two numbers and one record an entry.
 pub fn rows(message: &[u8], list: &mut [u32], rows: &mut [Entry]) -> Result<Playing, Refusal> {
-    // SAFETY: as in `read`. `Entry` has C's layout.
-    let answer = unsafe {
-        raw::ohakelm_rows(
-            message.as_ptr(),
-            message.len(),
-            list.as_mut_ptr(),
-            list.len(),
-            rows.as_mut_ptr(),
-            rows.len(),
-        )
-    };
-    playing(answer)
+    playing(numbers::rows(message, list, rows))
 }
 
 /// Changes one instruction of the message in the first `used` octets of the
@@ -204,35 +153,10 @@ pub fn edit(
     edit: Edit,
     list: &mut [u32],
 ) -> Result<Edited, Refusal> {
-    let (buf, buf_len) = (buffer.as_mut_ptr(), buffer.len());
-    let (cells, cells_len) = (list.as_mut_ptr(), list.len());
-    // SAFETY: as in `read`. A `used` beyond the buffer is refused.
-    let answer = unsafe {
-        match edit {
-            Edit::Replace(entry) => raw::ohakelm_replace(
-                buf,
-                buf_len,
-                used,
-                pattern,
-                instruction,
-                entry,
-                cells,
-                cells_len,
-            ),
-            Edit::Insert(entry) => raw::ohakelm_insert(
-                buf,
-                buf_len,
-                used,
-                pattern,
-                instruction,
-                entry,
-                cells,
-                cells_len,
-            ),
-            Edit::Delete => {
-                raw::ohakelm_delete(buf, buf_len, used, pattern, instruction, cells, cells_len)
-            }
-        }
+    let answer = match edit {
+        Edit::Replace(entry) => numbers::replace(buffer, used, pattern, instruction, entry, list),
+        Edit::Insert(entry) => numbers::insert(buffer, used, pattern, instruction, entry, list),
+        Edit::Delete => numbers::delete(buffer, used, pattern, instruction, list),
     };
     accepted(answer.refusal, answer.place)?;
     Ok(Edited {
@@ -245,8 +169,7 @@ pub fn edit(
 
 /// Reads a bitmap. The image is handed back as a part of the message.
 pub fn read_bitmap(message: &[u8]) -> Result<Bitmap<'_>, Refusal> {
-    // SAFETY: as in `read`.
-    let answer = unsafe { raw::ohakelm_bitmap_read(message.as_ptr(), message.len()) };
+    let answer = numbers::bitmap_read(message);
     accepted(answer.refusal, answer.place)?;
     Ok(Bitmap {
         width: answer.width,
@@ -264,17 +187,7 @@ pub fn write_bitmap(
     image: &[u8],
     out: &mut [u8],
 ) -> Result<usize, Refusal> {
-    // SAFETY: as in `read`.
-    let answer = unsafe {
-        raw::ohakelm_bitmap_write(
-            width,
-            height,
-            image.as_ptr(),
-            image.len(),
-            out.as_mut_ptr(),
-            out.len(),
-        )
-    };
+    let answer = numbers::bitmap_write(width, height, image, out);
     accepted(answer.refusal, answer.place)?;
     Ok(answer.octets)
 }

@@ -6,10 +6,10 @@
 
 mod clock;
 mod measure;
-mod proved;
 mod tones;
 
 use measure::{compare, once_each, repeated, Batch, Row};
+use ohakelm::numbers as proved;
 use ohakelm_answers::Entry;
 use tones::{Tone, BASIC};
 

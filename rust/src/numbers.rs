@@ -1,12 +1,12 @@
-//! The exports of the proved library, over slices.
-//!
-//! They are measured as they stand, without the safe functions' `Result`.
+//! The exports over slices. Each answers the rules' numbers as they are, 0 for
+//! no refusal.
 
 // SAFETY, for all of them: each pointer and length is a live slice's, and the
-// borrows keep the lent ones apart from all others.
+// borrows keep the lent ones apart from all others. `Entry` has C's layout.
 
-use ohakelm::raw;
-use ohakelm_answers::{Bitmap, Edited, Entry, Listed, Tone, Written};
+use ohakelm_answers::{Bitmap, Edited, Entry, Label, Listed, Tone, Written};
+
+use crate::raw;
 
 #[inline(always)]
 pub fn read(message: &[u8], table: &mut [u32], title: &mut [u8]) -> Tone {
@@ -34,6 +34,19 @@ pub fn write(song: u32, unicode: bool, title: &[u8], table: &[u32], out: &mut [u
             table.len(),
             out.as_mut_ptr(),
             out.len(),
+        )
+    }
+}
+
+#[inline(always)]
+pub fn label(title: &[u8], unicode: bool, stand_in: &[u8]) -> Label {
+    unsafe {
+        raw::ohakelm_label(
+            title.as_ptr(),
+            title.len(),
+            unicode,
+            stand_in.as_ptr(),
+            stand_in.len(),
         )
     }
 }
