@@ -11,16 +11,16 @@ use borrow.Author.Tests.{le-leb, eq-eqb, ne-eqb, eqb-true, eqb-false, leb-true}
 use Rattle.bits.specs.Choice.{pick}
 use Rattle.bits.specs.Bits.{Octets}
 use Rattle.bits.specs.Outcome.{Outcome, accepted, refused}
-use Rattle.bits.proofs.Choice.{pick-elim}
-use Rattle.tone.specs.Table.{kind}
-use Rattle.tone.specs.Tone.{Tone, frontOf, cells, patternsOf, recallable, perCharacter, characters, Titled, FrontFormed, Formed}
+use Rattle.tone.specs.Tone.{Tone, frontOf, cells, patternsOf, perCharacter, characters, Titled, FrontFormed, Formed}
 use Rattle.tone.specs.Writing.{toneLength, mostOctets, WellFormed}
 use Rattle.tone.proofs.Fronts.{or-true, one-or-two, song-fine}
 use Rattle.tone.proofs.Rows.{and-true, and-is}
 use Rattle.tone.proofs.Tables.{patterns-of-cells}
-use Rattle.writing.specs.Judging.{andThen, demand, songFine, titleFine, entryFine, Stage, start, entryJudged, entriesJudged, endJudged, judgeTable, sized, toneOf, writeTone}
-use Rattle.writing.proofs.Walks.{not-refused}
-use Rattle.writing.proofs.GoodTables.{GoodTable, judged-is-good, good-is-judged}
+use Rattle.weighing.specs.Weighing.{andThen, demand, judgeTable}
+use Rattle.weighing.proofs.Walks.{not-refused}
+use Rattle.weighing.proofs.Places.{AtZero, none, then-zero, demand-zero, table-zero, place-zero}
+use Rattle.weighing.proofs.GoodTables.{GoodTable, judged-is-good, good-is-judged}
+use Rattle.writing.specs.Judging.{songFine, titleFine, sized, toneOf, writeTone}
 
 -- ---- the title
 
@@ -141,46 +141,6 @@ module _ (song : ℕ) (unicode : Bool) (title table : List ℕ) (room : ℕ) whe
 
 -- ---- every refusal's place is 0
 
-data AtZero {A : Type 0} : Outcome A → Type 0 where
-  none : {a : A} → AtZero (accepted a)
-  there : {n : ℕ} → AtZero (refused n 0)
-
-then-zero : {A B : Type 0} {x : Outcome A} (f : A → Outcome B) → AtZero x → ((a : A) → AtZero (f a)) → AtZero (andThen x f)
-then-zero f (none {a = a}) k = k a
-then-zero f there k = there
-
-demand-zero : {A : Type 0} (b : Bool) (n : ℕ) {x : Outcome A} → AtZero x → AtZero (demand b n x)
-demand-zero true n h = h
-demand-zero false n h = there
-
-entry-zero : (s : Stage) (e : ℕ) → AtZero (entryJudged s e)
-unfolding entryJudged
-entry-zero s e =
-    demand-zero (entryFine e) 6
-    (pick-elim AtZero (eqb (s .due) 0)
-    (λ _. demand-zero (eqb (kind e) 0) 18 (demand-zero (recallable (s .known) e) 7 none))
-    (λ _. demand-zero (leb 1 (kind e)) 18 none))
-
-entries-zero : (s : Stage) (t : List ℕ) → AtZero (entriesJudged s t)
-unfolding entriesJudged
-entries-zero s [] = none
-entries-zero s (e ∷ t) = then-zero (λ s′. entriesJudged s′ t) (entry-zero s e) (λ s′. entries-zero s′ t)
-
-table-zero : (t : List ℕ) → AtZero (judgeTable t)
-unfolding judgeTable endJudged
-table-zero t =
-    then-zero endJudged (entries-zero start t)
-    (λ s. demand-zero (eqb (s .due) 0) 18 (demand-zero (leb 1 (s .begun)) 5 (demand-zero (leb (s .begun) 255) 18 none)))
-
-place-zero : {A : Type 0} {x : Outcome A} {n p : ℕ} → AtZero x → x ≡ refused n p → p ≡ 0
-place-zero none q = absurd (not-refused (sym q))
-place-zero {p = p} there q = let e : 0 ≡ p = cc in sym e
-
--- a table's
-pub table-place : (t : List ℕ) {n p : ℕ} → judgeTable t ≡ refused n p → p ≡ 0
-table-place t q = place-zero (table-zero t) q
-
--- and the call's
 pub write-place : (song : ℕ) (unicode : Bool) (title table : List ℕ) (room : ℕ) {n p : ℕ} → writeTone song unicode title table room ≡ refused n p → p ≡ 0
 unfolding writeTone sized
 write-place song unicode title table room q =

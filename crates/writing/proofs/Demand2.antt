@@ -24,11 +24,11 @@ use Rattle.reading.specs.Answers.{octetCount, entries}
 use Rattle.reader.specs.declared.Reading.{Reading}
 use Rattle.reader.specs.declared.Reading.the-variants.{Read, Refused}
 use Rattle.reader.specs.Promise.{roomed, readInto, readAnswer, tableAfter, titleAfter, ReadPromise}
+use Rattle.weighing.proofs.Walks.{not-refused}
 use Rattle.writing.specs.declared.Writing.{Writing}
 use Rattle.writing.specs.declared.Writing.the-variants.{Written, Refused as Rejected}
 use Rattle.writing.specs.Judging.{toneOf, writeTone}
 use Rattle.writing.specs.Promise.{writeAnswer, octetsAfter, WritePromise}
-use Rattle.writing.proofs.Walks.{not-refused}
 use Rattle.writing.proofs.Accepting.{Writable, accepted-is-writable, writable-is-accepted}
 
 -- ---- reading

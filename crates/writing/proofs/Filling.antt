@@ -23,11 +23,11 @@ use Rattle.tone.proofs.Rows.{and-true}
 use Rattle.tone.proofs.Demand2.{length-toneOctets, octets-are}
 use Rattle.reader.specs.Judging.{Entries}
 use Rattle.reader.proofs.Told.{cells-entries}
-use Rattle.writing.specs.Judging.{judgeTable, toneOf, writeTone}
-use Rattle.writing.specs.Answers.{frontLength}
-use Rattle.writing.specs.Appending.{frontWith}
+use Rattle.weighing.specs.Weighing.{judgeTable}
+use Rattle.weighing.proofs.GoodTables.{GoodTable, judged-is-good}
+use Rattle.writing.specs.Judging.{toneOf, writeTone}
+use Rattle.writing.specs.Appending.{frontWith, frontLength}
 use Rattle.writing.proofs.Pieces.{put-as, command-length, title-length}
-use Rattle.writing.proofs.GoodTables.{GoodTable, judged-is-good}
 use Rattle.writing.proofs.Accepting.{Passed, passed}
 
 -- ---- a buffer with a tone's bits

@@ -19,15 +19,17 @@ use Rattle.tone.specs.Writing.{tableBits, frontBits, songBits, toneLength, tone
 use Rattle.tone.proofs.Rows.{and-true as conj}
 use Rattle.tone.proofs.Fronts.{song-fine}
 use Rattle.reading.specs.Answers.{place, octetCount}
-use Rattle.writing.specs.declared.Judged.{Judged}
-use Rattle.writing.specs.declared.Judged.the-variants.{Sound, Faulty}
+use Rattle.weighing.specs.declared.Judged.{Judged}
+use Rattle.weighing.specs.declared.Judged.the-variants.{Sound, Faulty}
+use Rattle.weighing.specs.Weighing.{judgeTable}
+use Rattle.weighing.specs.Answers.{atMost, judgedOf}
+use Rattle.weighing.proofs.Places.{table-place}
+use Rattle.weighing.proofs.GoodTables.{judged-is-good}
 use Rattle.writing.specs.declared.Writing.{Writing}
 use Rattle.writing.specs.declared.Writing.the-variants.{Written, Refused}
-use Rattle.writing.specs.Judging.{songFine, titleFine, judgeTable, sized, toneOf, writeTone}
-use Rattle.writing.specs.Answers.{frontLength, atMost, judgedOf}
+use Rattle.writing.specs.Judging.{songFine, titleFine, sized, toneOf, writeTone}
+use Rattle.writing.specs.Appending.{frontLength}
 use Rattle.writing.specs.Promise.{numbers, writeNumbers, writeAnswer, octetsAfter, WritePromise}
-use Rattle.writing.proofs.GoodTables.{judged-is-good}
-use Rattle.writing.proofs.Accepting.{table-place}
 use Rattle.writing.proofs.Pieces.{plus-ten}
 use Rattle.writing.proofs.Filling.{front-length}
 

@@ -1,4 +1,3 @@
 pub mod Judging
-pub mod Answers
 pub mod Appending
 pub mod Promise

@@ -19,13 +19,13 @@ use Rattle.tone.specs.Tone.{specifier, partOf, noneKnown, recallable, learn, In
 use Rattle.tone.specs.Writing.{entryBits, tableBits}
 use Rattle.tone.proofs.Rows.{tableBits-append, length-entryBits, width-most}
 use Rattle.tone.proofs.Recalls.{learn-set}
-use Rattle.writing.specs.declared.Weighed.{Weighed}
-use Rattle.writing.specs.declared.Weighed.the-variants.{Bits, Fault}
-use Rattle.writing.specs.declared.Judged.{Judged}
-use Rattle.writing.specs.declared.Judged.the-variants.{Sound, Faulty}
-use Rattle.writing.specs.Judging.{andThen, demand, entryFine, Stage, headerJudged, instructionJudged, entryJudged, entriesJudged, endJudged, start, judgeTable}
-use Rattle.writing.specs.Answers.{entryLength, headerLength, instructionLength, bodyLength, weighedOf, atMost, judgedOf}
-use Rattle.writing.proofs.Weights.{fine-in-table, header-bound, weighed-bits, weighed-fault}
+use Rattle.weighing.specs.declared.Weighed.{Weighed}
+use Rattle.weighing.specs.declared.Weighed.the-variants.{Bits, Fault}
+use Rattle.weighing.specs.declared.Judged.{Judged}
+use Rattle.weighing.specs.declared.Judged.the-variants.{Sound, Faulty}
+use Rattle.weighing.specs.Weighing.{andThen, demand, entryFine, Stage, headerJudged, instructionJudged, entryJudged, entriesJudged, endJudged, start, judgeTable}
+use Rattle.weighing.specs.Answers.{entryLength, headerLength, instructionLength, bodyLength, weighedOf, atMost, judgedOf}
+use Rattle.weighing.proofs.Weights.{fine-in-table, header-bound, weighed-bits, weighed-fault}
 
 -- how far a table was judged
 abbrev pub stage : ℕ → List Bool → ℕ → Stage

@@ -1,8 +1,8 @@
--- `writing::body` meets its contract. What is left to judge falls with each turn.
-use Rattle.writing.proofs.body.Statement.{statement}
-use Rattle.writing.proofs.body.Tie as tie
+-- `weighing::body` meets its contract. What is left to judge falls with each turn.
+use Rattle.weighing.proofs.body.Statement.{statement}
+use Rattle.weighing.proofs.body.Tie as tie
 use borrow.Author.Needs.{needs}
-use Rattle.writing.proofs.Weights.{BodyWalk, bodies}
+use Rattle.weighing.proofs.Weights.{BodyWalk, bodies}
 
 abbrev Inv-loop : tie.InvT-loop
 Inv-loop table at n i₀ left₀ bits₀ i left bits = BodyWalk table at n i left bits

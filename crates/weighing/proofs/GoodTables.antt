@@ -16,10 +16,10 @@ use Rattle.tone.specs.Table.{kind, payload, width, InTable, Instruction}
 use Rattle.tone.specs.Tone.{Pattern, specifier, header, pattern, cells, patternsOf, noneKnown, recallable, learn, Instructions, Sound, Sequence}
 use Rattle.tone.proofs.Rows.{header-small, header-pattern}
 use Rattle.tone.proofs.Tables.{patterns-of-cells}
-use Rattle.writing.specs.Judging.{andThen, demand, entryFine, entriesJudged, endJudged, start, judgeTable}
-use Rattle.writing.specs.Answers.{entryLength, headerLength, instructionLength, bodyLength}
-use Rattle.writing.proofs.Weights.{in-table-fine, header-in-table}
-use Rattle.writing.proofs.Walks.{stage, fromStage, at-header, at-body, not-refused, header-told, body-told, BodyTold}
+use Rattle.weighing.specs.Weighing.{andThen, demand, entryFine, entriesJudged, endJudged, start, judgeTable}
+use Rattle.weighing.specs.Answers.{entryLength, headerLength, instructionLength, bodyLength}
+use Rattle.weighing.proofs.Weights.{in-table-fine, header-in-table}
+use Rattle.weighing.proofs.Walks.{stage, fromStage, at-header, at-body, not-refused, header-told, body-told, BodyTold}
 
 -- the patterns behind a table that is judged good
 pub record Good (known : List Bool) (c n : ℕ) (t : List ℕ) : Type 0 where

@@ -1,10 +1,10 @@
--- `writing::judge` meets its contract. Each turn judges one pattern.
+-- `weighing::judge` meets its contract. Each turn judges one pattern.
 use borrow.Author.Needs.{needs}
-use Rattle.writing.proofs.judge.Statement.{statement}
-use Rattle.writing.proofs.judge.Tie as tie
+use Rattle.weighing.proofs.judge.Statement.{statement}
+use Rattle.weighing.proofs.judge.Tie as tie
 use Prim.Native.Nat.{_-_}
 use lib.ListN.{length}
-use Rattle.writing.proofs.Walks.{RowWalk, rows}
+use Rattle.weighing.proofs.Walks.{RowWalk, rows}
 
 abbrev Inv-loop : tie.InvT-loop
 Inv-loop table known₀ patterns₀ bits₀ i₀ known patterns bits i = RowWalk table known patterns bits i

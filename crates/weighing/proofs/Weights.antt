@@ -18,10 +18,10 @@ use Rattle.tone.specs.Tone.{specifier, partOf, recallable}
 use Rattle.tone.proofs.Rows.{and-true, width-most}
 use mir.Val.{Fits}
 use mir.Syntax.{w32}
-use Rattle.writing.specs.declared.Weighed.{Weighed}
-use Rattle.writing.specs.declared.Weighed.the-variants.{Bits, Fault}
-use Rattle.writing.specs.Judging.{andThen, demand, entryFine}
-use Rattle.writing.specs.Answers.{entryLength, headerLength, instructionLength, bodyLength, weighedOf}
+use Rattle.weighing.specs.declared.Weighed.{Weighed}
+use Rattle.weighing.specs.declared.Weighed.the-variants.{Bits, Fault}
+use Rattle.weighing.specs.Weighing.{andThen, demand, entryFine}
+use Rattle.weighing.specs.Answers.{entryLength, headerLength, instructionLength, bodyLength, weighedOf}
 
 -- ---- an entry
 

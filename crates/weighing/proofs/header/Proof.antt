@@ -1,8 +1,8 @@
--- `writing::header` meets its contract.
+-- `weighing::header` meets its contract.
 use borrow.Author.Needs.{needs}
-use Rattle.writing.proofs.header.Statement.{statement}
-use Rattle.writing.proofs.header.Tie as tie
-use Rattle.writing.proofs.Weights.{headers}
+use Rattle.weighing.proofs.header.Statement.{statement}
+use Rattle.weighing.proofs.header.Tie as tie
+use Rattle.weighing.proofs.Weights.{headers}
 
 entry-bits-requires : tie.Need-entry-bits-requires
 entry-bits-requires c κs = search needs

@@ -1,8 +1,8 @@
--- `writing::entry_bits` meets its contract.
+-- `weighing::entry_bits` meets its contract.
 use borrow.Author.Needs.{needs}
-use Rattle.writing.proofs.entry_bits.Statement.{statement}
-use Rattle.writing.proofs.entry_bits.Tie as tie
-use Rattle.writing.proofs.Weights.{weights}
+use Rattle.weighing.proofs.entry_bits.Statement.{statement}
+use Rattle.weighing.proofs.entry_bits.Tie as tie
+use Rattle.weighing.proofs.Weights.{weights}
 
 allowed-requires : tie.Need-allowed-requires
 allowed-requires c κs = search needs

@@ -4,17 +4,15 @@ use mathlib.Core.Bool.{Bool}
 use mathlib.Core.List.{List, [], _∷_}
 use lib.ListN.{length}
 use lib.Dec.{leb, eqb}
-use Rattle.bits.specs.Choice.{pick}
-use Rattle.bits.specs.Bits.{placeAfter}
 use Rattle.bits.specs.Outcome.{Outcome, accepted, refused}
 use Rattle.tone.specs.Table.{kind, width}
 use Rattle.tone.specs.Tone.{recallable}
 use Rattle.tone.specs.Writing.{tableBits}
-use Rattle.writing.specs.declared.Weighed.{Weighed}
-use Rattle.writing.specs.declared.Weighed.the-variants.{Bits, Fault}
-use Rattle.writing.specs.declared.Judged.{Judged}
-use Rattle.writing.specs.declared.Judged.the-variants.{Sound, Faulty}
-use Rattle.writing.specs.Judging.{andThen, demand, entryFine}
+use Rattle.weighing.specs.declared.Weighed.{Weighed}
+use Rattle.weighing.specs.declared.Weighed.the-variants.{Bits, Fault}
+use Rattle.weighing.specs.declared.Judged.{Judged}
+use Rattle.weighing.specs.declared.Judged.the-variants.{Sound, Faulty}
+use Rattle.weighing.specs.Weighing.{andThen, demand, entryFine}
 
 -- an entry's bits: its id and its payload
 abbrev pub entryLength : ℕ → ℕ
@@ -47,7 +45,3 @@ atMost bits = min bits 32769
 abbrev pub judgedOf : List ℕ → Outcome ℕ → Judged
 judgedOf t (accepted n) = Sound n (atMost (length (tableBits t)))
 judgedOf t (refused n p) = Faulty n
-
--- how many bits stand ahead of the patterns, with so many octets of title: the command and the song type, the title and its length, the pattern count
-abbrev pub frontLength : ℕ → Bool → ℕ → ℕ
-frontLength song unicode octets = pick unicode 34 26 + (pick (eqb song 1) (4 + placeAfter octets) 0 + 8)

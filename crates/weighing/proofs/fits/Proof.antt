@@ -1,7 +1,7 @@
--- `writing::fits` meets its contract.
+-- `weighing::fits` meets its contract.
 use borrow.Author.Needs.{needs}
-use Rattle.writing.proofs.fits.Statement.{statement}
-use Rattle.writing.proofs.fits.Tie as tie
+use Rattle.weighing.proofs.fits.Statement.{statement}
+use Rattle.weighing.proofs.fits.Tie as tie
 use Rattle.bits.proofs.Numbers.{shl-one}
 use native.Mathlib.Omega.{arith}
 use mathlib.Core.Path.{refl}

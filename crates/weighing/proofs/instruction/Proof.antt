@@ -1,8 +1,8 @@
--- `writing::instruction` meets its contract.
+-- `weighing::instruction` meets its contract.
 use borrow.Author.Needs.{needs}
-use Rattle.writing.proofs.instruction.Statement.{statement}
-use Rattle.writing.proofs.instruction.Tie as tie
-use Rattle.writing.proofs.Weights.{instructions}
+use Rattle.weighing.proofs.instruction.Statement.{statement}
+use Rattle.weighing.proofs.instruction.Tie as tie
+use Rattle.weighing.proofs.Weights.{instructions}
 
 entry-bits-requires : tie.Need-entry-bits-requires
 entry-bits-requires c κs = search needs

@@ -1,0 +1,5 @@
+pub mod Weights
+pub mod Walks
+pub mod GoodTables
+pub mod Places
+pub mod Order
