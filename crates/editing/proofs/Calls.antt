@@ -18,12 +18,12 @@ use Rattle.tone.specs.Reading.{readTone}
 use Rattle.tone.proofs.Demand2.{bits-toneOctets, length-toneOctets}
 use Rattle.playing.specs.declared.Listed.{Listed}
 use Rattle.playing.specs.declared.Listed.the-variants.{Made as ListMade}
-use Rattle.playing.specs.Sounding.{numbers}
-use Rattle.playing.specs.Playing.{Listing, playingList}
-use Rattle.playing.specs.Listing.{fitsNumbers, listTone}
+use Rattle.sounding.specs.Sounding.{numbers}
+use Rattle.sounding.specs.Playing.{Listing, playingList}
+use Rattle.sounding.specs.Listing.{fitsNumbers, listTone}
 use Rattle.playing.specs.Promise.{listAnswer, cellsAfter, ListPromise}
-use Rattle.playing.proofs.Bounds.{none-too-long}
-use Rattle.playing.proofs.Packing.{length-numbers}
+use Rattle.sounding.proofs.Bounds.{none-too-long}
+use Rattle.sounding.proofs.Packing.{length-numbers}
 use borrow.Author.Tests.{le-leb}
 use Rattle.editing.specs.declared.Edit.{Edit}
 use Rattle.editing.specs.declared.Answer.{Answer}

@@ -16,9 +16,9 @@ use Rattle.tone.specs.Tone.{Tone, Formed}
 use Rattle.tone.specs.Writing.{toneBits, toneLength, mostOctets}
 use Rattle.tone.specs.Reading.{readTone}
 use Rattle.tone.proofs.Demand2.{Says, read-says, core-reads}
-use Rattle.playing.specs.Playing.{Listing, playingList}
-use Rattle.playing.specs.Listing.{anyTooLong, fitsNumbers}
-use Rattle.playing.proofs.Bounds.{none-too-long}
+use Rattle.sounding.specs.Playing.{Listing, playingList}
+use Rattle.sounding.specs.Listing.{anyTooLong, fitsNumbers}
+use Rattle.sounding.proofs.Bounds.{none-too-long}
 use Rattle.editing.specs.declared.Edit.{Edit}
 use Rattle.editing.specs.Change.{changed}
 use Rattle.editing.specs.Editing.{Edited, editTone, inBuffer, beside, withList, andThen, editMessage}

@@ -27,13 +27,13 @@ use Rattle.judging.specs.Answers.{judgedOf}
 use Rattle.reader.proofs.Told.{Told, SoundThere, sound-there}
 use Rattle.playing.specs.declared.Listed.{Listed}
 use Rattle.playing.specs.declared.Listed.the-variants.{Made as ListMade, Refused as ListRefused}
-use Rattle.playing.specs.Sounding.{atStart, numbers}
-use Rattle.playing.specs.Playing.{Listing, play, playingList}
+use Rattle.sounding.specs.Sounding.{atStart, numbers}
+use Rattle.sounding.specs.Playing.{Listing, play, playingList}
 use Rattle.playing.specs.Filling.{patternsIn, endIn, PatternsAt}
 use Rattle.playing.proofs.Outcomes.{list-faulty, list-cells-short, list-patterns, list-room, list-made, cells-alone}
 use Rattle.judging.specs.Bodies.{noBodies}
 use Rattle.judging.specs.Counting.{entryCount}
-use Rattle.playing.specs.Listing.{fitted, fitsNumbers, listed, listTone}
+use Rattle.sounding.specs.Listing.{fitted, fitsNumbers, listed, listTone}
 use Rattle.playing.specs.Promise.{listAnswer, cellsAfter, ListPromise}
 use Rattle.editing.specs.declared.Edit.{Edit}
 use Rattle.editing.specs.declared.Answer.{Answer}

@@ -10,9 +10,9 @@ use Rattle.bits.specs.Outcome.{Outcome, accepted, refused}
 use Rattle.tone.specs.Tone.{Tone}
 use Rattle.tone.specs.Writing.{toneLength, toneOctets, mostOctets}
 use Rattle.tone.specs.Reading.{readTone}
-use Rattle.playing.specs.Sounding.{numbers}
-use Rattle.playing.specs.Playing.{Listing, playingList}
-use Rattle.playing.specs.Listing.{fitted, fitsNumbers}
+use Rattle.sounding.specs.Sounding.{numbers}
+use Rattle.sounding.specs.Playing.{Listing, playingList}
+use Rattle.sounding.specs.Listing.{fitted, fitsNumbers}
 use Rattle.editing.specs.declared.Edit.{Edit}
 use Rattle.editing.specs.Change.{patternAt, changed, carriesNew, isThere, empties, overfills}
 

@@ -24,10 +24,10 @@ use Rattle.label.specs.declared.Supplier.the-variants.{Title, StandIn}
 use Rattle.label.specs.Label.{leftOctets, standsIn, labelOf}
 use Rattle.label.specs.Promises.{numbers as labelNumbers, SuppliedPromise}
 use Rattle.label.proofs.Exits.{left-inside}
-use Rattle.playing.specs.declared.Entry.{Entry}
+use Rattle.sounding.specs.declared.Entry.{Entry}
 use Rattle.playing.specs.declared.Listed.{Listed}
 use Rattle.playing.specs.declared.Listed.the-variants.{Made, Refused as Unlisted}
-use Rattle.playing.specs.Listing.{fitsNumbers}
+use Rattle.sounding.specs.Listing.{fitsNumbers}
 use Rattle.playing.specs.Promise.{numbersOf as listedNumbers, ListPromise, RowsPromise}
 use Rattle.editing.specs.declared.Edit.{Edit}
 use Rattle.editing.specs.declared.Answer.{Answer}

@@ -3,7 +3,7 @@ use Prim.Native.Nat.{ℕ}
 use mathlib.Core.Path.{_≡_, sym, _∙_}
 use mathlib.Core.Bool.{Bool}
 use mathlib.Core.List.{List}
-use Rattle.playing.specs.declared.Entry.{Entry}
+use Rattle.sounding.specs.declared.Entry.{Entry}
 use Rattle.editing.specs.declared.Edit.{Edit}
 use Rattle.ohakelm.specs.declared.ToneAnswer.{ToneAnswer}
 use Rattle.ohakelm.specs.declared.WrittenAnswer.{WrittenAnswer}

@@ -11,9 +11,9 @@ use Rattle.reader.specs.Promise.{Numbers as ReadNumbers, readNumbers, readInto,
 use Rattle.writing.specs.Judging.{writeTone}
 use Rattle.writing.specs.Promise.{Numbers as WriteNumbers, writeNumbers, octetsAfter}
 use Rattle.label.specs.Label.{standsIn, labelOf}
-use Rattle.playing.specs.declared.Entry.{Entry}
-use Rattle.playing.specs.Playing.{Listing}
-use Rattle.playing.specs.Listing.{listTone, fitsNumbers, fitsBoth}
+use Rattle.sounding.specs.declared.Entry.{Entry}
+use Rattle.sounding.specs.Playing.{Listing}
+use Rattle.sounding.specs.Listing.{listTone, fitsNumbers, fitsBoth}
 use Rattle.playing.specs.Promise.{Numbers as ListNumbers, listNumbers, cellsAfter, rowsAfter}
 use Rattle.editing.specs.declared.Edit.{Edit}
 use Rattle.editing.specs.Editing.{Edited, editMessage, bufferAfter, listAfter}

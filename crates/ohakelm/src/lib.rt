@@ -9,9 +9,9 @@ use bits::OctetCount;
 use editing::Answer;
 use editing::Edit;
 use label::Supplier;
-use playing::Entry;
 use playing::Listed;
 use reader::Reading;
+use sounding::Entry;
 use writing::Writing;
 
 // ---- answers

@@ -5,7 +5,7 @@ use mathlib.Core.List.{List, [], _∷_, _++_}
 use lib.ListN.{length, getD, take, drop}
 use lib.Dec.{ltb, eqb}
 use Rattle.bits.specs.Choice.{pick}
-use Rattle.playing.specs.Listing.{listTone, fitsNumbers}
+use Rattle.sounding.specs.Listing.{listTone, fitsNumbers}
 use Rattle.playing.specs.Promise.{listAnswer, cellsAfter}
 use Rattle.playing.specs.declared.Listed.{Listed}
 use Rattle.playing.specs.declared.Listed.the-variants.{Made, Refused}

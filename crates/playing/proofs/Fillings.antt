@@ -21,20 +21,20 @@ use Rattle.tone.specs.Reading.{Got, got, bad, onward, headerDue, bodyDue, patte
 use Rattle.tone.proofs.Exact.{Accepted}
 use Rattle.tone.proofs.Rows.{Header, Body, header-exact, body-exact}
 use Rattle.reading.specs.Answers.{Within, place, notes, EntryAt, SomeEntry, Passed}
-use Rattle.playing.specs.declared.Settings.{Settings}
-use Rattle.playing.specs.declared.Entry.{Entry}
+use Rattle.sounding.specs.declared.Settings.{Settings}
+use Rattle.sounding.specs.declared.Entry.{Entry}
 use Rattle.playing.specs.declared.Part.{Part}
 use Rattle.playing.specs.declared.Part.the-variants.{Unknown, Known}
 use Rattle.playing.specs.declared.Walk.{Walk}
-use Rattle.playing.specs.Sounding.{atStart, numbers}
-use Rattle.playing.specs.Playing.{Played, ahead, Listing, passes, patternPlayed, play}
+use Rattle.sounding.specs.Sounding.{atStart, numbers}
+use Rattle.sounding.specs.Playing.{Played, ahead, Listing, passes, patternPlayed, play}
 use Rattle.judging.specs.Bodies.{Remembered, unknown, known, recalled, noBodies, passesOf, bodyOf, remember}
 use Rattle.judging.specs.Counting.{entryCount}
 use Rattle.playing.specs.Filling.{BodyAt, behindOr, bodyIn, behindIn, PatternsAt, partAfter, behindPattern, Ready, Advanced}
-use Rattle.playing.proofs.Counts.{list-count}
+use Rattle.sounding.proofs.Counts.{list-count}
 use Rattle.judging.proofs.Bodies.{isKnown, knownOf, remember-length, body-sounding, learn-read}
-use Rattle.playing.proofs.Joining.{play-one, play-last}
-use Rattle.playing.proofs.Packing.{length-numbers}
+use Rattle.sounding.proofs.Joining.{play-one, play-last}
+use Rattle.sounding.proofs.Packing.{length-numbers}
 use Rattle.playing.proofs.Stepping.{ready-four}
 use Rattle.playing.proofs.Walking.{and-then, advanced-long}
 

@@ -25,17 +25,17 @@ use Rattle.judging.specs.declared.Judged.{Judged}
 use Rattle.judging.specs.declared.Judged.the-variants.{Sound, Faulty}
 use Rattle.playing.specs.declared.Listed.{Listed}
 use Rattle.playing.specs.declared.Listed.the-variants.{Made, Refused}
-use Rattle.playing.specs.Sounding.{atStart, numbers}
-use Rattle.playing.specs.Playing.{Listing, play, playingList}
+use Rattle.sounding.specs.Sounding.{atStart, numbers}
+use Rattle.sounding.specs.Playing.{Listing, play, playingList}
 use Rattle.judging.specs.Bodies.{noBodies}
 use Rattle.judging.specs.Counting.{entryCount, markFrom}
 use Rattle.judging.specs.Answers.{judgedOf}
 use Rattle.playing.specs.Filling.{patternsIn, endIn, PatternsAt}
-use Rattle.playing.specs.Listing.{anyTooLong, listed, fitsNumbers, fitsBoth, listTone}
+use Rattle.sounding.specs.Listing.{anyTooLong, listed, fitsNumbers, fitsBoth, listTone}
 use Rattle.playing.specs.Promise.{numbersOf, listNumbers, listAnswer, cellsAfter, ListPromise}
-use Rattle.playing.proofs.Counts.{list-count}
-use Rattle.playing.proofs.Marks.{list-mark}
-use Rattle.playing.proofs.Bounds.{list-most, none-too-long}
+use Rattle.sounding.proofs.Counts.{list-count}
+use Rattle.sounding.proofs.Marks.{list-mark}
+use Rattle.sounding.proofs.Bounds.{list-most, none-too-long}
 
 -- ---- a message that is accepted
 

@@ -17,16 +17,17 @@ use Rattle.tone.specs.Table.{kind, payload, width, allowed, noteOf, durationOf,
 use Rattle.tone.specs.Writing.{entryBits}
 use Rattle.tone.proofs.Rows.{length-entryBits}
 use Rattle.reading.specs.Answers.{place, noteIn}
-use Rattle.playing.specs.declared.Settings.{Settings}
+use Rattle.sounding.specs.declared.Settings.{Settings}
 use Rattle.playing.specs.declared.Walk.{Walk}
-use Rattle.playing.specs.Duration.{beats, units, microseconds}
-use Rattle.playing.specs.Sounding.{atStart, applied, sounded, packed}
-use Rattle.playing.specs.Ranges.{InRange}
-use Rattle.playing.specs.Playing.{step}
-use Rattle.playing.specs.Filling.{lastsOf, baseOf, entrySeen, Ready, Advanced}
-use Rattle.playing.proofs.Below.{both}
-use Rattle.playing.proofs.Bounds.{range-start, range-applied}
-use Rattle.playing.proofs.Durations.{lasts-exact}
+use Rattle.sounding.specs.Duration.{beats, units, microseconds}
+use Rattle.sounding.specs.Sounding.{atStart, applied, sounded, packed}
+use Rattle.sounding.specs.Ranges.{InRange}
+use Rattle.sounding.specs.Playing.{step}
+use Rattle.sounding.specs.Tempo.{lastsOf, baseOf}
+use Rattle.playing.specs.Filling.{entrySeen, Ready, Advanced}
+use Rattle.sounding.proofs.Below.{both}
+use Rattle.sounding.proofs.Bounds.{range-start, range-applied}
+use Rattle.sounding.proofs.Durations.{lasts-exact}
 use Rattle.playing.proofs.Seeing.{seen-kind, seen-note, seen-entry, seen-small, width-some}
 
 -- ---- the start

@@ -17,14 +17,14 @@ use Rattle.tone.specs.Writing.{entryBits}
 use Rattle.tone.proofs.Exact.{Accepted}
 use Rattle.tone.proofs.Rows.{length-entryBits, instruction-exact, body-exact}
 use Rattle.reading.specs.Answers.{noteIn, notes}
-use Rattle.playing.specs.declared.Settings.{Settings}
-use Rattle.playing.specs.declared.Entry.{Entry}
+use Rattle.sounding.specs.declared.Settings.{Settings}
+use Rattle.sounding.specs.declared.Entry.{Entry}
 use Rattle.playing.specs.declared.Walk.{Walk}
-use Rattle.playing.specs.Sounding.{numbers}
-use Rattle.playing.specs.Playing.{Played, ahead, step, pass, passes}
+use Rattle.sounding.specs.Sounding.{numbers}
+use Rattle.sounding.specs.Playing.{Played, ahead, step, pass, passes}
 use Rattle.playing.specs.Filling.{bodyIn, behindIn, BodyAt, entrySeen, Ready, Advanced}
-use Rattle.playing.proofs.Packing.{length-numbers, numbers-append}
-use Rattle.playing.proofs.Counts.{pass-count, passes-count}
+use Rattle.sounding.proofs.Packing.{length-numbers, numbers-append}
+use Rattle.sounding.proofs.Counts.{pass-count, passes-count}
 use Rattle.playing.proofs.Stepping.{ready-same}
 use Rattle.playing.proofs.Seeing.{seen-is, width-nine}
 

@@ -1,7 +1,7 @@
 -- What filling a list is handed, and what it leaves.
 use Prim.Native.Nat.{ℕ, _+_, _-_, _*_, _/_, _%_, _^_, _≤_}
 use mathlib.Core.Path.{_≡_}
-use mathlib.Core.List.{List, [], _∷_}
+use mathlib.Core.List.{List, []}
 use lib.ListN.{length}
 use lib.Seq.{sets}
 use lib.Dec.{eqb}
@@ -14,12 +14,12 @@ use Rattle.tone.specs.Reading.{Got, got, bad, bodyDue, patternsDue}
 use Rattle.reading.specs.Answers.{Within}
 use Rattle.playing.specs.declared.Part.{Part}
 use Rattle.playing.specs.declared.Part.the-variants.{Known}
-use Rattle.playing.specs.declared.Settings.{Settings}
 use Rattle.playing.specs.declared.Walk.{Walk}
-use Rattle.playing.specs.Duration.{beats, units, microseconds}
-use Rattle.playing.specs.Sounding.{numbers}
-use Rattle.playing.specs.Ranges.{InRange}
-use Rattle.playing.specs.Playing.{Played}
+use Rattle.sounding.specs.Duration.{beats}
+use Rattle.sounding.specs.Tempo.{lastsOf, baseOf}
+use Rattle.sounding.specs.Sounding.{numbers}
+use Rattle.sounding.specs.Ranges.{InRange}
+use Rattle.sounding.specs.Playing.{Played}
 
 -- ---- what stands in a message
 
@@ -69,18 +69,6 @@ abbrev pub behindPattern : ℕ → BitPlace → BitPlace → BitPlace
 behindPattern h next reached = pick (eqb (specifier h) 0) next reached
 
 -- ---- how far filling has come
-
--- how long a unit sounds at so many beats, in parts of a microsecond of which 2 ^ 20 make one, rounded up
-abbrev pub paceOf : ℕ → ℕ
-paceOf b = 655360000000 / b + 1
-
--- how long a full note sounds at so many beats, for each specifier
-abbrev pub lastsOf : ℕ → List ℕ
-lastsOf b = microseconds (units 0 0) b ∷ microseconds (units 0 1) b ∷ microseconds (units 0 2) b ∷ microseconds (units 0 3) b ∷ []
-
--- what the settings put in an entry's first number
-abbrev pub baseOf : Settings → ℕ
-baseOf s = s .scale * 256 + s .style * 16 + s .volume
 
 -- the entry on top of a sight: three bits of 64 are its kind, and as many as that kind has are its payload
 unfoldable pub entrySeen : ℕ → ℕ

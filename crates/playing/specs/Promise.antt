@@ -7,12 +7,12 @@ use lib.ListN.{length}
 use Rattle.bits.specs.Lent.{over}
 use Rattle.bits.specs.Outcome.{Outcome, accepted, refused}
 use Rattle.reading.specs.Answers.{place}
-use Rattle.playing.specs.declared.Entry.{Entry}
+use Rattle.sounding.specs.declared.Entry.{Entry}
 use Rattle.playing.specs.declared.Listed.{Listed}
 use Rattle.playing.specs.declared.Listed.the-variants.{Made, Refused}
-use Rattle.playing.specs.Sounding.{numbers}
-use Rattle.playing.specs.Playing.{Listing}
-use Rattle.playing.specs.Listing.{listTone, fitsBoth}
+use Rattle.sounding.specs.Sounding.{numbers}
+use Rattle.sounding.specs.Playing.{Listing}
+use Rattle.sounding.specs.Listing.{listTone, fitsBoth}
 
 -- the numbers of document 01
 pub record Numbers : Type 0 where

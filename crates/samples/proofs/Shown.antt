@@ -4,9 +4,9 @@ use Rattle.bits.specs.Bits.{field, bitsN}
 use Rattle.tone.specs.Table as table
 use Rattle.tone.specs.Writing as writing
 use Rattle.tone.specs.Reading as reading
-use Rattle.playing.specs.Duration.{beats, units, microseconds}
-use Rattle.playing.specs.Sounding.{applied, sounded}
-use Rattle.playing.specs.Playing.{step, patternPlayed, playingList}
+use Rattle.sounding.specs.Duration.{beats, units, microseconds}
+use Rattle.sounding.specs.Sounding.{applied, sounded}
+use Rattle.sounding.specs.Playing.{step, patternPlayed, playingList}
 use Rattle.judging.specs.Bodies.{passesOf, bodyOf, remember}
 use Rattle.editing.specs.Editing.{editMessage}
 use Rattle.bitmap.proofs.Samples as bitmaps

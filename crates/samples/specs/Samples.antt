@@ -8,9 +8,9 @@ use Rattle.bits.specs.Outcome.{Outcome, accepted, refused}
 use Rattle.tone.specs.Tone.{Tone, cells}
 use Rattle.tone.specs.Writing.{toneOctets}
 use Rattle.tone.specs.Reading.{readTone}
-use Rattle.playing.specs.declared.Entry.{Entry}
-use Rattle.playing.specs.Duration.{beats, units, microseconds}
-use Rattle.playing.specs.Playing.{Listing, playingList}
+use Rattle.sounding.specs.declared.Entry.{Entry}
+use Rattle.sounding.specs.Duration.{beats, units, microseconds}
+use Rattle.sounding.specs.Playing.{Listing, playingList}
 use Rattle.judging.specs.Bodies.{noMark}
 use Rattle.editing.specs.declared.Edit.the-variants.{Insert, Delete}
 use Rattle.editing.specs.Editing.{Edited, editMessage, bufferAfter}

@@ -39,10 +39,10 @@ use denote.Triple.Spec.{Meets, tripleOf}
 use denote.Triple.Table.{entered, cited}
 use denote.Triple.Walked.{says, Stays, stay-none-slice, gave-slice, walkOf, goes-none-slice, goes-gave-slice, Walks, ends-at, walked, walk-meets}
 use denote.Exit.{yes}
-use Rattle.playing.specs.declared.Entry.{Entry}
+use Rattle.sounding.specs.declared.Entry.{Entry}
 use Rattle.playing.specs.declared.Listed.{Listed}
 use Rattle.playing.specs.Promise.{numbersOf, RowsPromise}
-use Rattle.playing.proofs.Entry as E
+use Rattle.sounding.proofs.Entry as E
 use Rattle.playing.proofs.Listed as L
 use Rattle.playing.proofs.Listed.Laws as L′
 use Rattle.playing.proofs.rows as rows

@@ -50,11 +50,11 @@ use denote.Triple.Spec.{Meets, tripleOf}
 use denote.Triple.Table.{entered, cited}
 use denote.Triple.Walked.{says, needs, Stays, stay-slice, stay-none-slice, stay-none, walkOf, goes-none, goes-none-slice, goes-slice, Walks, ends-at, walked, walk-meets}
 use denote.Exit.{yes}
-use Rattle.playing.specs.declared.Entry.{Entry}
-use Rattle.playing.specs.Sounding.{entryAt}
-use Rattle.playing.proofs.Packing.{filled, filled-length, filled-next}
-use Rattle.playing.proofs.Entry as E
-use Rattle.playing.proofs.Entry.Laws as E′
+use Rattle.sounding.specs.declared.Entry.{Entry}
+use Rattle.sounding.specs.Sounding.{entryAt}
+use Rattle.sounding.proofs.Packing.{filled, filled-length, filled-next}
+use Rattle.sounding.proofs.Entry as E
+use Rattle.sounding.proofs.Entry.Laws as E′
 use Rattle.playing.proofs.entry_at as entry-at
 use Rattle.playing.proofs.entry_at.Symbol as entry-at-def
 use Rattle.playing.proofs.entry_at.Symbol.{name as #playing·entry-at}

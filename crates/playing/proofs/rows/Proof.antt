@@ -47,14 +47,14 @@ use denote.Triple.Spec.{Meets, tripleOf}
 use denote.Triple.Table.{entered, cited}
 use denote.Triple.Walked.{says, Stays, stay-slice, stay-none-slice, gave-slice, walkOf, goes-none-slice, goes-slice, goes-gave-slice, Walks, ends-at, walked, walk-meets}
 use denote.Exit.{yes}
-use Rattle.playing.specs.declared.Entry.{Entry}
+use Rattle.sounding.specs.declared.Entry.{Entry}
 use Rattle.playing.specs.declared.Listed.{Listed}
-use Rattle.playing.specs.Sounding.{entriesOf}
-use Rattle.playing.specs.Listing.{fitsBoth}
+use Rattle.sounding.specs.Sounding.{entriesOf}
+use Rattle.sounding.specs.Listing.{fitsBoth}
 use Rattle.playing.specs.Promise.{entriesIn, ListPromise, RowsPromise}
 use Rattle.playing.proofs.Agreeing.{rows-fit, cells-kept, rows-made}
-use Rattle.playing.proofs.Entry as E
-use Rattle.playing.proofs.Entry.Laws as E′
+use Rattle.sounding.proofs.Entry as E
+use Rattle.sounding.proofs.Entry.Laws as E′
 use Rattle.playing.proofs.Listed as L
 use Rattle.playing.proofs.Listed.Laws as L′
 use Rattle.playing.proofs.list_within as list-within

@@ -1,0 +1,11 @@
+pub mod Below
+pub mod Durations
+pub mod Joining
+pub mod Loops
+pub mod Recalls
+pub mod Counts
+pub mod Marks
+pub mod Bounds
+pub mod Grounds
+pub mod Packing
+pub mod Settling
