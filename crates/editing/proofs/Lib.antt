@@ -2,6 +2,8 @@ pub mod Bodies
 pub mod Demand3
 pub mod Pieces
 pub mod Skips
+pub mod Overs
+pub mod Hearings
 pub mod Copies
 pub mod Heads
 pub mod Builds

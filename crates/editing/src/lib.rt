@@ -21,9 +21,15 @@ ghost use Rattle.editing.specs.Editing.{cleared, inBuffer, withList};
 ghost use Rattle.editing.specs.Promise.{Leaves, EditPromise};
 ghost use Rattle.editing.specs.declared.Answer.the-variants.{Refused};
 ghost use Rattle.editing.specs.Plan.{overdoneOf, groundOf, Known, CanBuild, Plans};
+ghost use Rattle.tone.specs.Table.{Instruction};
+ghost use Rattle.tone.specs.Writing.{entryBits};
+ghost use Rattle.reading.specs.Answers.{noteIn, notes as notesOf};
+ghost use Rattle.playing.specs.Filling.{entrySeen, bodyIn, behindIn, BodyAt};
+ghost use Rattle.editing.specs.Hearing.{patternsHere, endHere, Here, Countable, Hears};
 use bits::BitPlace;
 use bits::OctetCount;
 use bits::Sink;
+use judging::Count;
 use judging::Judged;
 
 // What an edit does at an instruction: replace it, insert before it, or delete it. The new instruction is one table entry.
@@ -191,6 +197,104 @@ fn find_spot(msg: &[u8], next: BitPlace, i: usize, r: usize, n: usize) -> Spot
     let behind = skip(msg, at, r);
     let end = skip(msg, behind, n);
     Spot { at, behind, end }
+}
+
+// ---- going over a message
+
+// Instructions that were gone over: the place behind them, and how many of them are notes or pauses.
+pub struct Gone {
+    pub at: BitPlace,
+    pub notes: u32,
+}
+
+impl Gone {
+    // One instruction more, that on top of a sight. Most are notes: told first, the next place does not wait for a width.
+    fn past(self, x: u64) -> Gone
+        requires { ⌜ (self .at .0 < 2 ^ 63) × (self .notes < 255) × Instruction (entrySeen x) ⌝ }
+        ensures { λ r. ⌜ (r .at .0 ≡ self .at .0 + length (entryBits (entrySeen x))) × (r .notes ≡ self .notes + noteIn (entrySeen x)) ⌝ }
+    {
+        if x >> 61 == 1 {
+            return Gone {
+                at: BitPlace(self.at.0 + 12),
+                notes: self.notes + 1,
+            };
+        }
+        let kind = (x >> 61) as u32;
+        Gone {
+            at: BitPlace(self.at.0 + 3 + reading::width(kind) as usize),
+            notes: self.notes,
+        }
+    }
+}
+
+// Goes over up to four instructions more. Each has at most 12 bits, so one sight of 57 holds them all.
+fn over_few(msg: &[u8], from: Gone, n: u32) -> Gone
+    requires { ⌜ (n ≤ 4) × (from .notes + n ≤ 255) ⌝ }
+    requires { ⌜ BodyAt (now msg) (from .at .0) n (bodyIn (now msg) (from .at .0) n) (behindIn (now msg) (from .at .0) n) ⌝ }
+    ensures { λ r. ⌜ (r .at .0 ≡ behindIn (now (msg .entry)) (from .at .0) n) × (r .notes ≡ from .notes + notesOf (bodyIn (now (msg .entry)) (from .at .0) n)) ⌝ }
+{
+    let at = from.at;
+    let s = bits::sight(msg, at);
+    let mut gone = from;
+    let mut left = n;
+    while 0 < left {
+        let here = gone.at.0;
+        gone = gone.past(s << (here - at.0) as u32);
+        left -= 1;
+    }
+    gone
+}
+
+// How many of the instructions to come one sight is for.
+fn turn(left: u32) -> u32
+    requires { ⌜ 0 < left ⌝ }
+    ensures { λ r. ⌜ (0 < r) × (r ≤ 4) × (r ≤ left) ⌝ }
+{
+    if left < 4 { left } else { 4 }
+}
+
+// Goes over the `n` instructions that stand at a place.
+fn go_over(msg: &[u8], at: BitPlace, n: u32) -> Gone
+    requires { ⌜ BodyAt (now msg) (at .0) n (bodyIn (now msg) (at .0) n) (behindIn (now msg) (at .0) n) ⌝ }
+    ensures { λ r. ⌜ (r .at .0 ≡ behindIn (now (msg .entry)) (at .0) n) × (r .notes ≡ notesOf (bodyIn (now (msg .entry)) (at .0) n)) ⌝ }
+{
+    let mut gone = Gone { at, notes: 0 };
+    let mut left = n;
+    while 0 < left {
+        let k = turn(left);
+        gone = over_few(msg, gone, k);
+        left -= k;
+    }
+    gone
+}
+
+// Patterns that were heard: the place behind them, and what is counted of the list.
+pub struct Heard {
+    pub place: BitPlace,
+    pub count: Count,
+}
+
+// Hears `n` patterns more. The notes of the four parts go on from those handed in.
+fn hear(msg: &[u8], from: Heard, n: u32, notes: &mut [u32]) -> Heard
+    requires { ⌜ Here (now msg) (from .place .0) n (patternsHere (now msg) (from .place .0) n) (endHere (now msg) (from .place .0) n) ⌝ }
+    requires { ⌜ Countable (now notes) (from .count) n ⌝ }
+    ensures { λ r. ⌜ Hears (now (msg .entry)) (from .place .0) n (now (notes .entry)) (from .count) (r .place .0) (now (notes .exit)) (r .count) ⌝ }
+{
+    let mut place = from.place;
+    let mut count = from.count;
+    let mut left = n;
+    while 0 < left {
+        let head = reading::entry_at(msg, place);
+        let header = head.cell;
+        let own = go_over(msg, head.next, header % 256);
+        let id = (header / 4096 % 4) as usize;
+        let heard = judging::sounding(notes[id], header, own.notes);
+        notes[id] = heard;
+        count = count.with(heard, header / 256 % 16);
+        place = own.at;
+        left -= 1;
+    }
+    Heard { place, count }
 }
 
 // ---- copying
