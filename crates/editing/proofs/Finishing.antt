@@ -204,12 +204,11 @@ module _ (buf list : List ℕ) (used : ℕ) (ed : Edit) (k i : ℕ) where
       same : there .tone ≡ toneOf (take used buf)
       same = sym (ap toneIn (there .told .reads))
 
-      pub edit-known : Known (take used buf) (f .0) ps es
+      pub edit-known : Known (take used buf) (f .0) ps
       edit-known = record {
         stands = record { reads = reads; begins = there .place ∙ ap (λ (t : Tone). length (frontBits (frontOf t))) same };
         short = there .told .short;
         patterns = there .patterns ∙ ap (λ (t : Tone). length (t .patterns)) same;
-        entries = there .entries ∙ ap (λ (t : Tone). length (cells (t .patterns))) same;
       }
 
       pub edit-within : Within (take used buf) (f .0)
@@ -232,8 +231,8 @@ module _ (buf list : List ℕ) (used : ℕ) (ed : Edit) (k i : ℕ) where
           let e : editTone ed k i (toneOf (take used buf)) ≡ refused n 0 = subst (Plans (take used buf) ed k i) z y in
           on (rw e (leaves (refused n 0) used buf list buf list (Refused n (place 0)) refl refl refl))
 
-      module _ {pl : Plan} {hd : BitPlace} {cell : ℕ} {sp : Spot} {pi : Piece} (y : Plans (take used buf) ed k i pl) (z : pl ≡ Go hd cell sp pi) where
-        going : Going (take used buf) ed k i (hd .0) cell (sp .at .0) (sp .behind .0) (sp .end .0) (pi .width) (pi .value)
+      module _ {pl : Plan} {hd : BitPlace} {cell : ℕ} {sp : Spot} {pi : Piece} {en mk′ : ℕ} (y : Plans (take used buf) ed k i pl) (z : pl ≡ Go hd cell sp pi en mk′) where
+        going : Going (take used buf) ed k i (hd .0) cell (sp .at .0) (sp .behind .0) (sp .end .0) (pi .width) (pi .value) en mk′
         going = subst (Plans (take used buf) ed k i) z y
 
         pub edit-can : CanBuild (take used buf) (hd .0) cell (sp .at .0) (sp .behind .0) (sp .end .0) (pi .width) (pi .value)

@@ -283,7 +283,7 @@ hear-done {m} {at} {n} {ns₀} {c₀} {ns} {p} {c} {left} w h s = go (w .others)
   where
     go : (t : List Pattern) → length t ≡ left → p + length (tableBits (cells t)) ≡ at + length (tableBits (cells (patternsHere m at n))) → notesAfter ns t ≡ notesAfter ns₀ (patternsHere m at n)
         → countAfter c ns t ≡ countAfter c₀ ns₀ (patternsHere m at n) → Hears m at n ns₀ c₀ p ns c
-    go [] z e₁ e₂ e₃ = record { place = omega (arith, e₁, row-of s .end); notes = e₂; count = e₃; four = w .room .four; small = w .room .small; most = omega (arith, w .most) }
+    go [] z e₁ e₂ e₃ = record { place = omega (arith, e₁, row-of s .end); noted = e₂; count = e₃; four = w .room .four; small = w .room .small; most = omega (arith, w .most) }
     go (x ∷ t) z e₁ e₂ e₃ = let y : ⊥ = omega arith in absurd y
 
 pub ruleset hears = (hear-begins, hear-same, hear-within, hear-id, hear-header, hear-body, hear-notes, hear-entries, hear-on, hear-done)

@@ -3,16 +3,21 @@ use Prim.Native.Nat.{ℕ, _+_, _*_, _≤_}
 use mathlib.Core.Path.{_≡_}
 use mathlib.Core.Bool.{Bool, true}
 use mathlib.Core.List.{List, [], _∷_}
-use lib.ListN.{length, getD, set}
+use lib.ListN.{length, getD, take, drop, set}
 use Rattle.bits.specs.Choice.{pick}
 use Rattle.bits.specs.Bits.{bitsOf}
-use Rattle.tone.specs.Tone.{Pattern}
+use Rattle.tone.specs.Tone.{Pattern, loopOf, partOf}
 use Rattle.tone.specs.Reading.{got, patternsDue}
+use Rattle.tone.specs.Writing.{tableBits}
 use Rattle.reading.specs.Answers.{Within, notes}
 use Rattle.judging.specs.declared.Count.{Count}
 use Rattle.judging.specs.Bodies.{isRecall}
 use Rattle.judging.specs.Counting.{counted}
 use Rattle.playing.specs.Filling.{valueOr, behindOr}
+use Rattle.editing.specs.declared.Edit.{Edit}
+use Rattle.editing.specs.declared.Heard.{Heard}
+use Rattle.editing.specs.declared.Cut.{Cut}
+use Rattle.editing.specs.Change.{removed, bodyAfter}
 
 -- ---- the patterns that stand at a place
 
@@ -58,8 +63,16 @@ pub record Countable (ns : List ℕ) (c : Count) (n : ℕ) : Type 0 where
 -- n patterns at a place were heard: the place behind them, the notes of the four parts and what is counted then
 pub record Hears (m : List ℕ) (at n : ℕ) (ns : List ℕ) (c : Count) (q : ℕ) (ns′ : List ℕ) (c′ : Count) : Type 0 where
   pub place : q ≡ endHere m at n
-  pub notes : ns′ ≡ notesAfter ns (patternsHere m at n)
+  pub noted : ns′ ≡ notesAfter ns (patternsHere m at n)
   pub count : c′ ≡ countAfter c ns (patternsHere m at n)
   pub four : length ns′ ≡ 4
   pub small : (i : ℕ) → getD ns′ i 0 ≤ 255
   pub most : c′ .entries ≤ c .entries + 3825 * n
+
+-- the body b of a header was heard as an edit at i changes it
+pub record CutOf (b : List ℕ) (ed : Edit) (cell i : ℕ) (from : Heard) (ns ns′ : List ℕ) (r : Cut) : Type 0 where
+  pub here : r .at .0 ≡ from .place .0 + length (tableBits (take i b))
+  pub after : r .behind .0 ≡ r .at .0 + length (tableBits (take (removed ed) (drop i b)))
+  pub last : r .heard .place .0 ≡ from .place .0 + length (tableBits b)
+  pub noted : ns′ ≡ set ns (partOf cell) (notes (bodyAfter ed i b))
+  pub count : r .heard .count ≡ counted (from .count) (notes (bodyAfter ed i b)) (loopOf cell)

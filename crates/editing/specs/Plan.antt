@@ -8,8 +8,10 @@ use lib.Dec.{leb}
 use Rattle.bits.specs.Choice.{pick}
 use Rattle.bits.specs.Bits.{bitsOf, placeAfter}
 use Rattle.bits.specs.Outcome.{Outcome, accepted, refused}
-use Rattle.tone.specs.Tone.{cells, Formed}
+use Rattle.tone.specs.Tone.{Formed}
 use Rattle.tone.specs.Writing.{songBits, mostOctets}
+use Rattle.judging.specs.Bodies.{noBodies}
+use Rattle.judging.specs.Counting.{entryCount, markFrom}
 use Rattle.editing.specs.declared.Edit.{Edit}
 use Rattle.editing.specs.declared.Plan.{Plan}
 use Rattle.editing.specs.declared.Plan.the-variants.{Halt, Go}
@@ -25,12 +27,11 @@ overdoneOf ed n = pick (empties ed n) 13 (pick (overfills ed n) 14 0)
 abbrev pub groundOf : Edit → ℕ → ℕ → ℕ
 groundOf ed i n = pick (leb 1 n && inBody ed i n) (overdoneOf ed n) 12
 
--- an accepted message, the place of its first pattern, its patterns and its entries
-pub record Known (m : List ℕ) (first p e : ℕ) : Type 0 where
+-- an accepted message, the place of its first pattern, and its patterns
+pub record Known (m : List ℕ) (first p : ℕ) : Type 0 where
   pub stands : Accepted m first
   pub short : length m ≤ mostOctets
   pub patterns : p ≡ length (toneOf m .patterns)
-  pub entries : e ≡ length (cells (toneOf m .patterns))
 
 -- these places and pieces are in order, and within the message
 pub record CanBuild (m : List ℕ) (head cell at behind end w v : ℕ) : Type 0 where
@@ -42,14 +43,16 @@ pub record CanBuild (m : List ℕ) (head cell at behind end w v : ℕ) : Type 0 
   pub width : w ≤ 17
   pub value : v < 2 ^ w
 
--- the edit is accepted, and these places and pieces spell the changed tone's song
-pub record Going (m : List ℕ) (ed : Edit) (k i head cell at behind end w v : ℕ) : Type 0 where
+-- the edit is accepted, these places and pieces spell the changed tone's song, and its list comes to so many entries and this mark
+pub record Going (m : List ℕ) (ed : Edit) (k i head cell at behind end w v n mk : ℕ) : Type 0 where
   pub accepts : editTone ed k i (toneOf m) ≡ accepted (changed ed k i (toneOf m))
   pub formed : Formed (changed ed k i (toneOf m))
   pub spells : joined (bitsOf m) head cell at w v behind end ≡ songBits (changed ed k i (toneOf m))
   pub can : CanBuild m head cell at behind end w v
+  pub entries : n ≡ entryCount noBodies (changed ed k i (toneOf m) .patterns)
+  pub mark : mk ≡ markFrom noBodies 0 (changed ed k i (toneOf m) .patterns)
 
 -- what a plan says of an edit
 abbrev pub Plans : List ℕ → Edit → ℕ → ℕ → Plan → Type 0
 Plans m ed k i (Halt n) = editTone ed k i (toneOf m) ≡ refused n 0
-Plans m ed k i (Go head cell spot piece) = Going m ed k i (head .0) cell (spot .at .0) (spot .behind .0) (spot .end .0) (piece .width) (piece .value)
+Plans m ed k i (Go head cell spot piece n mk) = Going m ed k i (head .0) cell (spot .at .0) (spot .behind .0) (spot .end .0) (piece .width) (piece .value) n mk

@@ -1,18 +1,16 @@
 ghost use mathlib.Core.Path.{_≡_};
 ghost use mathlib.Core.Bool.{Bool, true, false};
 ghost use mathlib.Core.List.{List, [], _∷_, _++_};
-ghost use Prim.Native.Nat.{ℕ, _+_, _-_, _*_, _^_, _≤_, _<_};
+ghost use Prim.Native.Nat.{ℕ, _+_, _-_, _*_, _%_, _^_, _≤_, _<_};
 ghost use lib.ListN.{length, take, drop};
 ghost use Rattle.bits.specs.Bits.{bitsN, bitsOf, placeAfter, octetsTo};
 ghost use Rattle.bits.specs.Lent.{over};
 ghost use Rattle.bits.specs.Sink.{written, InHand, Put};
 ghost use Rattle.tone.specs.Table.{width as widthOf, allowed as allowedOf};
-ghost use Rattle.tone.specs.Writing.{tableBits};
 ghost use Rattle.reading.specs.Answers.{Within, place};
-ghost use Rattle.reader.specs.Judging.{TableAt};
 ghost use Rattle.editing.specs.Change.{isNew as isNewOf, carriesNew, carried, removed as removedOf, inBody};
 ghost use Rattle.tone.specs.Tone.{Tone};
-ghost use Rattle.editing.specs.Places.{SomeTable, Puts, toneOf, Accepted, HeadAt, SpotIn, Begun, Built, headed, reached, pieced, joined};
+ghost use Rattle.editing.specs.Places.{Puts, Begun, Built, headed, reached, pieced, joined};
 ghost use lib.IntN.{pos, _-ℤ_};
 ghost use Rattle.bits.specs.Outcome.{accepted};
 ghost use Rattle.tone.specs.Tone.{Formed};
@@ -25,7 +23,8 @@ ghost use Rattle.tone.specs.Table.{Instruction};
 ghost use Rattle.tone.specs.Writing.{entryBits};
 ghost use Rattle.reading.specs.Answers.{noteIn, notes as notesOf};
 ghost use Rattle.playing.specs.Filling.{entrySeen, bodyIn, behindIn, BodyAt};
-ghost use Rattle.editing.specs.Hearing.{patternsHere, endHere, Here, Countable, Hears};
+ghost use Rattle.editing.specs.Hearing.{patternsHere, endHere, Here, Countable, Hears, CutOf};
+ghost use Rattle.judging.specs.Counting.{noCount};
 use bits::BitPlace;
 use bits::OctetCount;
 use bits::Sink;
@@ -116,7 +115,7 @@ fn carried_piece(edit: Edit) -> Piece
 }
 
 // How many instructions an edit takes away.
-fn removed(edit: Edit) -> usize
+fn removed(edit: Edit) -> u32
     ensures { λ r. ⌜ (r ≡ removedOf edit) × (r ≤ 1) ⌝ }
 {
     match edit {
@@ -124,79 +123,6 @@ fn removed(edit: Edit) -> usize
         Edit::Insert(_) => 0,
         Edit::Delete => 1,
     }
-}
-
-// ---- places
-
-// The place behind `n` entries that stand at a place.
-fn skip(msg: &[u8], at: BitPlace, n: usize) -> BitPlace
-    requires { ⌜ Within (now msg) (at .0) ⌝ }
-    requires { ⌜ SomeTable (now msg) (at .0) n ⌝ }
-    ensures { λ r. ⌜ ((t : List ℕ) → TableAt (now (msg .entry)) (at .0) t → n ≤ length t → r .0 ≡ at .0 + length (tableBits (take n t))) ⌝ }
-{
-    let mut place = at;
-    let mut i: usize = 0;
-    while i < n {
-        let c = reading::entry_at(msg, place);
-        place = c.next;
-        i += 1;
-    }
-    place
-}
-
-// The header of a pattern: its place, its entry, the place behind it, and how many entries stand ahead of it.
-pub struct Head {
-    pub at: BitPlace,
-    pub cell: u32,
-    pub next: BitPlace,
-    pub ahead: usize,
-}
-
-// The header of pattern `k` of an accepted message whose first pattern stands at a place.
-fn find_header(msg: &[u8], first: BitPlace, k: usize) -> Head
-    requires { ⌜ Within (now msg) (first .0) ⌝ }
-    requires { ⌜ Accepted (now msg) (first .0) ⌝ }
-    requires { ⌜ k < length (toneOf (now msg) .patterns) ⌝ }
-    ensures { λ r. ⌜ HeadAt (toneOf (now (msg .entry))) k (r .at .0) (r .cell) (r .next .0) (r .ahead) ⌝ }
-{
-    let mut place = first;
-    let mut ahead: usize = 0;
-    let mut j: usize = 0;
-    while j < k {
-        let c = reading::entry_at(msg, place);
-        let n = (c.cell % 256) as usize;
-        let next = c.next;
-        place = skip(msg, next, n);
-        ahead += 1 + n;
-        j += 1;
-    }
-    let c = reading::entry_at(msg, place);
-    let next = c.next;
-    Head {
-        at: place,
-        cell: c.cell,
-        next,
-        ahead,
-    }
-}
-
-// Where an instruction stands, where what is left behind it does, and where the patterns end.
-pub struct Spot {
-    pub at: BitPlace,
-    pub behind: BitPlace,
-    pub end: BitPlace,
-}
-
-// The places behind `i` entries, behind `r` more and behind `n` more.
-fn find_spot(msg: &[u8], next: BitPlace, i: usize, r: usize, n: usize) -> Spot
-    requires { ⌜ Within (now msg) (next .0) ⌝ }
-    requires { ⌜ SomeTable (now msg) (next .0) (i + r + n) ⌝ }
-    ensures { λ s. ⌜ ((t : List ℕ) → TableAt (now (msg .entry)) (next .0) t → i + r + n ≤ length t → SpotIn t (next .0) i r n (s .at .0) (s .behind .0) (s .end .0)) ⌝ }
-{
-    let at = skip(msg, next, i);
-    let behind = skip(msg, at, r);
-    let end = skip(msg, behind, n);
-    Spot { at, behind, end }
 }
 
 // ---- going over a message
@@ -274,6 +200,16 @@ pub struct Heard {
     pub count: Count,
 }
 
+// Nothing is heard yet of the patterns that begin at a place.
+fn unheard(first: BitPlace) -> Heard
+    ensures { λ r. ⌜ (r .place ≡ first) × (r .count ≡ noCount) ⌝ }
+{
+    Heard {
+        place: first,
+        count: Count::none(),
+    }
+}
+
 // Hears `n` patterns more. The notes of the four parts go on from those handed in.
 fn hear(msg: &[u8], from: Heard, n: u32, notes: &mut [u32]) -> Heard
     requires { ⌜ Here (now msg) (from .place .0) n (patternsHere (now msg) (from .place .0) n) (endHere (now msg) (from .place .0) n) ⌝ }
@@ -295,6 +231,56 @@ fn hear(msg: &[u8], from: Heard, n: u32, notes: &mut [u32]) -> Heard
         left -= 1;
     }
     Heard { place, count }
+}
+
+// 1 for a note or pause, 0 for any other instruction.
+fn note_in(cell: u32) -> u32
+    ensures { λ r. ⌜ (r ≡ noteIn cell) × (r ≤ 1) ⌝ }
+{
+    if cell / 65536 == 1 { 1 } else { 0 }
+}
+
+// How many notes or pauses an edit puts.
+fn carried_notes(edit: Edit) -> u32
+    ensures { λ r. ⌜ (r ≡ notesOf (carried edit)) × (r ≤ 1) ⌝ }
+{
+    match edit {
+        Edit::Replace(cell) => note_in(cell),
+        Edit::Insert(cell) => note_in(cell),
+        Edit::Delete => 0,
+    }
+}
+
+// A part as an edit changes it: where the instruction named stands, where what is left behind it does, and what is heard
+// up to the part's end.
+pub struct Cut {
+    pub at: BitPlace,
+    pub behind: BitPlace,
+    pub heard: Heard,
+}
+
+// Hears the part of a header as an edit at instruction `i` changes it. Its instructions stand at the place handed in.
+fn hear_edited(msg: &[u8], from: Heard, cell: u32, edit: Edit, i: u32, notes: &mut [u32]) -> Cut
+    requires { ⌜ BodyAt (now msg) (from .place .0) (cell % 256) (bodyIn (now msg) (from .place .0) (cell % 256)) (behindIn (now msg) (from .place .0) (cell % 256)) ⌝ }
+    requires { ⌜ (i + removedOf edit ≤ cell % 256) × (cell % 256 - removedOf edit + length (carried edit) ≤ 255) × (from .count .entries ≤ 971550) × (length (now notes) ≡ 4) ⌝ }
+    ensures { λ r. ⌜ CutOf (bodyIn (now (msg .entry)) (from .place .0) (cell % 256)) edit cell i from (now (notes .entry)) (now (notes .exit)) r ⌝ }
+{
+    let r = removed(edit);
+    let place = from.place;
+    let count = from.count;
+    let ahead = go_over(msg, place, i);
+    let at = ahead.at;
+    let taken = go_over(msg, at, r);
+    let behind = taken.at;
+    let rest = go_over(msg, behind, cell % 256 - i - r);
+    let own = ahead.notes + carried_notes(edit) + rest.notes;
+    notes[(cell / 4096 % 4) as usize] = own;
+    let end = rest.at;
+    let heard = Heard {
+        place: end,
+        count: count.with(own, cell / 256 % 16),
+    };
+    Cut { at, behind, heard }
 }
 
 // ---- copying
@@ -387,6 +373,13 @@ fn put_piece(
     bits::put(out, s, piece.width, piece.value)
 }
 
+// Where an instruction stands, where what is left behind it does, and where the patterns end.
+pub struct Spot {
+    pub at: BitPlace,
+    pub behind: BitPlace,
+    pub end: BitPlace,
+}
+
 // Then the bits behind it up to the patterns' end, filler and the end octet.
 fn build(
     msg: &[u8],
@@ -467,7 +460,7 @@ fn ground(edit: Edit, i: usize, n: usize) -> u32
     12
 }
 
-// Why an edit is refused, or what is put where.
+// Why an edit is refused, or what is put where, and what the changed list comes to.
 pub enum Plan {
     Halt(u32),
     Go {
@@ -475,43 +468,48 @@ pub enum Plan {
         cell: u32,
         spot: Spot,
         piece: Piece,
+        entries: u32,
+        mark: u32,
     },
 }
 
-// The plan of an edit of an accepted message of so many patterns and entries, whose first pattern stands at a place.
-fn plan_edit(
-    msg: &[u8],
-    first: BitPlace,
-    patterns: usize,
-    entries: usize,
-    edit: Edit,
-    k: usize,
-    i: usize,
-) -> Plan
+// The plan of an edit of an accepted message of so many patterns, of which the first stands at a place.
+fn plan_edit(msg: &[u8], first: BitPlace, patterns: u32, edit: Edit, k: usize, i: usize) -> Plan
     requires { ⌜ Within (now msg) (first .0) ⌝ }
-    requires { ⌜ Known (now msg) (first .0) patterns entries ⌝ }
+    requires { ⌜ Known (now msg) (first .0) patterns ⌝ }
     ensures { λ r. ⌜ Plans (now (msg .entry)) edit k i r ⌝ }
 {
     if !carries_new(edit) {
         return Plan::Halt(6);
     }
-    if patterns <= k {
+    if patterns as usize <= k {
         return Plan::Halt(12);
     }
-    let h = find_header(msg, first, k);
-    let fault = ground(edit, i, (h.cell % 256) as usize);
+    let mut notes = [0u32; 4];
+    let before = hear(msg, unheard(first), k as u32, &mut notes);
+    let header = before.place;
+    let head = reading::entry_at(msg, header);
+    let cell = head.cell;
+    let fault = ground(edit, i, (cell % 256) as usize);
     if fault != 0 {
         return Plan::Halt(fault);
     }
-    let r = removed(edit);
-    let header = h.at;
-    let next = h.next;
-    let spot = find_spot(msg, next, i, r, entries - h.ahead - 1 - i - r);
+    let place = head.next;
+    let count = before.count;
+    let body = Heard { place, count };
+    let cut = hear_edited(msg, body, cell, edit, i as u32, &mut notes);
+    let heard = cut.heard;
+    let after = hear(msg, heard, patterns - k as u32 - 1, &mut notes);
+    let at = cut.at;
+    let behind = cut.behind;
+    let end = after.place;
     Plan::Go {
         header,
-        cell: h.cell + added(edit) - r as u32,
-        spot,
+        cell: cell + added(edit) - removed(edit),
+        spot: Spot { at, behind, end },
         piece: carried_piece(edit),
+        entries: after.count.entries,
+        mark: after.count.mark,
     }
 }
 
@@ -650,26 +648,20 @@ pub fn edit_message(
             at,
             octets: _,
             patterns,
-            table: entries,
+            table: _,
             list: _,
             mark: _,
             unicode: _,
         } => {
-            match plan_edit(
-                &buf[..old],
-                at,
-                patterns as usize,
-                entries as usize,
-                edit,
-                pattern,
-                instruction,
-            ) {
+            match plan_edit(&buf[..old], at, patterns, edit, pattern, instruction) {
                 Plan::Halt(number) => halted(number),
                 Plan::Go {
                     header,
                     cell,
                     spot,
                     piece,
+                    entries: _,
+                    mark: _,
                 } => carry_out(buf, used, header, cell, spot, piece, list),
             }
         }

@@ -33,12 +33,6 @@ slice-aggregate-plan-edit : tie.Need-slice-aggregate-plan-edit
 slice-aggregate-plan-edit c = let a = c .before .before .before .before .before .before .before .before .before .args in
     sym (length-take-le (a .used .0) (a .buf .now) (c .before .before .before .before .before .before .if1 .left))
 
-cast-plan-edit : tie.Need-cast-plan-edit
-cast-plan-edit c = search needs
-
-cast-plan-edit-2 : tie.Need-cast-plan-edit-2
-cast-plan-edit-2 c = search needs
-
 plan-edit-requires : tie.Need-plan-edit-requires
 plan-edit-requires c κs = let a = c .before .before .before .before .before .before .before .before .before .args in
     (edit-within (a .buf .now) (a .list .now) (a .used .0) (a .edit) (a .pattern) (a .instruction) (c .before .before .before .before .before .before .if1 .left) (c .before .before .before .before .judge .ensures) (c .before .before .at .given .1), edit-known (a .buf .now) (a .list .now) (a .used .0) (a .edit) (a .pattern) (a .instruction) (c .before .before .before .before .before .before .if1 .left) (c .before .before .before .before .judge .ensures) (c .before .before .at .given .1))
@@ -93,8 +87,6 @@ edit-message-spec =
     enum-known-at
     slice-reshare-prefix-plan-edit
     slice-aggregate-plan-edit
-    cast-plan-edit
-    cast-plan-edit-2
     plan-edit-requires
     enum-known-number-2
     halted-requires

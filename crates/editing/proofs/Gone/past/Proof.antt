@@ -3,7 +3,6 @@ use borrow.Author.Needs.{needs}
 use Rattle.editing.proofs.Gone.past.Statement.{statement}
 use Rattle.editing.proofs.Gone.past.Tie as tie
 use Rattle.editing.proofs.Overs.{pasts}
-use borrow.Author.Needs.{needs}
 
 add-t6 : tie.Need-add-t6
 add-t6 c = search needs
