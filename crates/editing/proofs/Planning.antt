@@ -4,7 +4,7 @@ use native.Mathlib.Omega.{arith}
 use mathlib.Core.Path.{_≡_, refl, sym, ap, ap₂, subst, _∙_}
 use mathlib.Core.Bool.{Bool, true, false, not, _&&_}
 use mathlib.Core.List.{List, [], _∷_, _++_}
-use lib.ListN.{length, getD, take, drop, set, replicate, length-drop}
+use lib.ListN.{length, getD, take, drop, set, replicate, length-drop, length-set}
 use lib.Seq.{split-at, drop-drop, length-take-le}
 use lib.Dec.{leb, ltb, eqb}
 use borrow.Author.Tests.{lt-leb, le-leb, le-ltb, lt-ltb, eq-eqb, ne-eqb, not-true, not-false, leb-true}
@@ -14,8 +14,8 @@ use Rattle.bits.specs.Choice.{pick}
 use Rattle.bits.specs.Bits.{bitsOf}
 use Rattle.bits.specs.Outcome.{Outcome, accepted, refused}
 use Rattle.bits.specs.declared.BitPlace.{BitPlace}
-use Rattle.tone.specs.Tone.{Pattern, Tone, partOf, loopOf, header, cells, noneKnown, Sound}
-use Rattle.tone.specs.Writing.{tableBits}
+use Rattle.tone.specs.Tone.{Pattern, Tone, Front, partOf, loopOf, header, cells, noneKnown, Sound}
+use Rattle.tone.specs.Writing.{tableBits, frontBits}
 use Rattle.tone.proofs.Rows.{and-true, header-small}
 use Rattle.reading.specs.Answers.{Within, place, notes, EntryAt, SomeEntry, Passed}
 use Rattle.reading.proofs.Standing.{room}
@@ -27,12 +27,13 @@ use Rattle.editing.specs.declared.Edit.{Edit}
 use Rattle.editing.specs.declared.Edit.the-variants.{Replace, Insert, Delete}
 use Rattle.editing.specs.declared.Heard.{Heard}
 use Rattle.editing.specs.declared.Cut.{Cut}
+use Rattle.editing.specs.declared.Outline.{Outline}
 use Rattle.editing.specs.Change.{carried, removed, bodyAfter, withBody, patternAt, changed, carriesNew, inBody, isThere, empties, overfills, headerPlace}
 use Rattle.editing.specs.Editing.{bodyLength, editTone}
 use Rattle.editing.specs.Places.{Puts, toneOf, Accepted}
 use Rattle.editing.specs.Plan.{overdoneOf, groundOf, Known, Going}
 use Rattle.editing.specs.Hearing.{patternsHere, endHere, Here, notesHeard, notesAfter, countAfter, Countable, Hears, CutOf}
-use Rattle.editing.proofs.Bodies.{Fits as FitsEdit, fits, length-after, body-instructions, changed-formed, sound-at}
+use Rattle.editing.proofs.Bodies.{Fits as FitsEdit, fits, length-after, body-instructions, changed-formed, front-same, sound-at}
 use Rattle.editing.proofs.Overs.{Standing, read-of, body-of, bits-cut}
 use Rattle.editing.proofs.Hearings.{AllSound, all-sound, sound-take, sound-drop, Row, patterns-of, here-of, front-row, rest-row, header-there, passed, body-stands, others-stand, codes, countable-on}
 use Rattle.editing.proofs.Recounts.{entries-counted, mark-counted, own-heard, count-set}
@@ -311,8 +312,9 @@ module _ (ed : Edit) (k i : ℕ) {m : List ℕ} {first p : ℕ} (kn : Known m fi
                     new-small : header after < 16384
                     new-small = header-small after after-sound .0
 
-                    pub plan-go : {w v : ℕ} → Puts (carried ed) w v → Going m ed k i hp (c + a - rm) (r .at .0) (r .behind .0) en w v (c₃ .entries) (c₃ .mark)
-                    plan-go {w} {v} pu =
+                    pub plan-go : {w v : ℕ} {o : Outline} {f₀ : BitPlace} → Puts (carried ed) w v → (o .first ≡ f₀) × (o .patterns ≡ p) × (o .entries ≡ c₃ .entries) × (o .mark ≡ c₃ .mark) → f₀ .0 ≡ first
+                        → Going m ed k i hp (c + a - rm) (r .at .0) (r .behind .0) en w v o
+                    plan-go {w} {v} pu ho hf =
                         let n₁ = bits-cut i b′ in
                         let n₂ = bits-cut (removed ed) (drop i b′) in
                         let n₃ = ap (λ (y : List ℕ). length (tableBits y)) (drop-drop (removed ed) i b′) in
@@ -333,6 +335,10 @@ module _ (ed : Edit) (k i : ℕ) {m : List ℕ} {first p : ℕ} (kn : Known m fi
                             width = pu .short;
                             value = pu .small;
                           };
-                          entries = ap (λ (y : Count). y .entries) recounted ∙ entries-counted (changed ed k i (toneOf m) .patterns);
-                          mark = ap (λ (y : Count). y .mark) recounted ∙ mark-counted (changed ed k i (toneOf m) .patterns);
+                          outlines = record {
+                            first = ap (λ (y : BitPlace). y .0) (ho .0) ∙ hf ∙ kn .stands .begins ∙ ap (λ (y : Front). length (frontBits y)) (sym (front-same ed k i (toneOf m)));
+                            patterns = ho .1 ∙ kn .patterns ∙ sym (length-set ps k after);
+                            entries = ho .2 ∙ ap (λ (y : Count). y .entries) recounted ∙ entries-counted (changed ed k i (toneOf m) .patterns);
+                            mark = ho .3 ∙ ap (λ (y : Count). y .mark) recounted ∙ mark-counted (changed ed k i (toneOf m) .patterns);
+                          };
                         }

@@ -18,7 +18,7 @@ ghost use Rattle.tone.specs.Writing.{songBits, toneOctets, WellFormed};
 ghost use Rattle.editing.specs.Editing.{cleared, inBuffer, withList};
 ghost use Rattle.editing.specs.Promise.{Leaves, EditPromise};
 ghost use Rattle.editing.specs.declared.Answer.the-variants.{Refused};
-ghost use Rattle.editing.specs.Plan.{overdoneOf, groundOf, Known, CanBuild, Plans};
+ghost use Rattle.editing.specs.Plan.{overdoneOf, groundOf, Known, CanBuild, Written, Spelt, Plans};
 ghost use Rattle.tone.specs.Table.{Instruction};
 ghost use Rattle.tone.specs.Writing.{entryBits};
 ghost use Rattle.reading.specs.Answers.{noteIn, notes as notesOf};
@@ -460,7 +460,28 @@ fn ground(edit: Edit, i: usize, n: usize) -> u32
     12
 }
 
-// Why an edit is refused, or what is put where, and what the changed list comes to.
+// What is known of a changed message before it is built: the place of its first pattern, how many there are, and the
+// entries of their list and its return mark.
+pub struct Outline {
+    pub first: BitPlace,
+    pub patterns: u32,
+    pub entries: u32,
+    pub mark: u32,
+}
+
+// The outline of so many patterns whose list was counted.
+fn outlined(first: BitPlace, patterns: u32, count: Count) -> Outline
+    ensures { λ r. ⌜ (r .first ≡ first) × (r .patterns ≡ patterns) × (r .entries ≡ count .entries) × (r .mark ≡ count .mark) ⌝ }
+{
+    Outline {
+        first,
+        patterns,
+        entries: count.entries,
+        mark: count.mark,
+    }
+}
+
+// Why an edit is refused, or what is put where, and what the changed message is then.
 pub enum Plan {
     Halt(u32),
     Go {
@@ -468,8 +489,7 @@ pub enum Plan {
         cell: u32,
         spot: Spot,
         piece: Piece,
-        entries: u32,
-        mark: u32,
+        outline: Outline,
     },
 }
 
@@ -503,13 +523,13 @@ fn plan_edit(msg: &[u8], first: BitPlace, patterns: u32, edit: Edit, k: usize, i
     let at = cut.at;
     let behind = cut.behind;
     let end = after.place;
+    let total = after.count;
     Plan::Go {
         header,
         cell: cell + added(edit) - removed(edit),
         spot: Spot { at, behind, end },
         piece: carried_piece(edit),
-        entries: after.count.entries,
-        mark: after.count.mark,
+        outline: outlined(first, patterns, total),
     }
 }
 
@@ -536,43 +556,33 @@ fn clear(buf: &mut [u8], from: OctetCount, to: OctetCount)
     }
 }
 
-// Puts a message that was built, and its list, in place of the old ones; or the list refuses, and nothing changes.
-fn finish(buf: &mut [u8], used: OctetCount, new: &[u8], list: &mut [u32]) -> Answer
+// Puts a message that was built, and its list, in place of the old ones; or the list refuses, and nothing changes. What
+// the list comes to was counted on the way over the old message.
+fn finish(
+    buf: &mut [u8],
+    used: OctetCount,
+    new: &[u8],
+    outline: Outline,
+    list: &mut [u32],
+) -> Answer
     requires { ⌜ (used .0 ≤ length (now buf)) × (used .0 ≤ 4096) × (length (now new) ≤ length (now buf)) × (length (now new) ≤ 4096) ⌝ }
+    requires { ⌜ Written (now new) outline ⌝ }
     ensures { λ r. ⌜ ((t : Tone) → WellFormed t → toneOctets t ≡ now (new .entry) → Leaves (withList (length (now (list .entry))) (accepted t)) (used .0) (now (buf .entry)) (now (list .entry)) (now (buf .exit)) (now (list .exit)) r) ⌝ }
 {
-    match judging::judge(new) {
-        Judged::Faulty { number, at: fault } => Answer::Refused {
-            number,
-            place: fault,
-        },
-        Judged::Sound {
-            song: _,
-            at,
-            octets: _,
-            patterns,
-            table: _,
-            list: entries,
-            mark,
-            unicode: _,
-        } => {
-            if list.len() / 2 < entries as usize {
-                return Answer::Refused {
-                    number: 11,
-                    place: BitPlace(0),
-                };
-            }
-            playing::fill_list(new, at, patterns, list);
-            let length = OctetCount(new.len());
-            copy_octets(new, length, buf);
-            clear(buf, length, used);
-            Answer::Edited {
-                length,
-                entries,
-                mark,
-                change: change(length, used),
-            }
-        }
+    let entries = outline.entries;
+    if list.len() / 2 < entries as usize {
+        return halted(11);
+    }
+    let first = outline.first;
+    playing::fill_list(new, first, outline.patterns, list);
+    let length = OctetCount(new.len());
+    copy_octets(new, length, buf);
+    clear(buf, length, used);
+    Answer::Edited {
+        length,
+        entries,
+        mark: outline.mark,
+        change: change(length, used),
     }
 }
 
@@ -584,9 +594,11 @@ fn carry_out(
     cell: u32,
     spot: Spot,
     piece: Piece,
+    outline: Outline,
     list: &mut [u32],
 ) -> Answer
     requires { ⌜ (used .0 ≤ length (now buf)) × (used .0 ≤ 4096) × CanBuild (take (used .0) (now buf)) (header .0) cell (spot .at .0) (spot .behind .0) (spot .end .0) (piece .width) (piece .value) ⌝ }
+    requires { ⌜ Spelt (joined (bitsOf (take (used .0) (now buf))) (header .0) cell (spot .at .0) (piece .width) (piece .value) (spot .behind .0) (spot .end .0)) outline ⌝ }
     ensures { λ r. ⌜ ((t : Tone) → Formed t → joined (bitsOf (take (used .0) (now (buf .entry)))) (header .0) cell (spot .at .0) (piece .width) (piece .value) (spot .behind .0) (spot .end .0) ≡ songBits t → Leaves (withList (length (now (list .entry))) (inBuffer (length (now (buf .entry))) t)) (used .0) (now (buf .entry)) (now (list .entry)) (now (buf .exit)) (now (list .exit)) r) ⌝ }
 {
     let end = spot.at.0 + piece.width as usize + (spot.end.0 - spot.behind.0);
@@ -607,7 +619,7 @@ fn carry_out(
     let old = used.0;
     let n = build(&buf[..old], header, cell, spot, piece, &mut scratch);
     let new = n.0;
-    finish(buf, used, &scratch[..new], list)
+    finish(buf, used, &scratch[..new], outline, list)
 }
 
 // An edit's own grounds are placed at 0.
@@ -633,10 +645,7 @@ pub fn edit_message(
 {
     let old = used.0;
     if buf.len() < old {
-        return Answer::Refused {
-            number: 1,
-            place: BitPlace(0),
-        };
+        return halted(1);
     }
     match judging::judge(&buf[..old]) {
         Judged::Faulty { number, at: fault } => Answer::Refused {
@@ -660,9 +669,8 @@ pub fn edit_message(
                     cell,
                     spot,
                     piece,
-                    entries: _,
-                    mark: _,
-                } => carry_out(buf, used, header, cell, spot, piece, list),
+                    outline,
+                } => carry_out(buf, used, header, cell, spot, piece, outline, list),
             }
         }
     }
