@@ -1,19 +1,18 @@
 -- Building a message anew from bits of the old one.
-use Prim.Native.Nat.{ℕ, zero, suc, _+_, _-_, _*_, _/_, _%_, _^_, _≤_, _<_}
+use Prim.Native.Nat.{ℕ, _+_, _-_, _*_, _^_, _≤_, _<_}
 use native.Mathlib.Omega.{arith}
-use native.Mathlib.Nat.{add-zero, add-assoc}
-use mathlib.Core.Path.{_≡_, refl, sym, ap, ap₂, subst, _∙_}
-use mathlib.Core.Bool.{Bool, false}
-use mathlib.Core.List.{List, [], _∷_, _++_, append-assoc, append-nil}
+use mathlib.Core.Path.{_≡_, refl, sym, ap, ap₂, _∙_}
+use mathlib.Core.Bool.{Bool}
+use mathlib.Core.List.{List, _++_, append-nil}
 use lib.ListN.{length, getD, take, drop, length-append, length-drop, take-append-drop}
-use lib.Seq.{take-add, drop-drop, take-at, length-take-le}
+use lib.Seq.{take-add, take-at, length-take-le}
 use mir.Val.{Fits}
 use mir.Syntax.{w8}
 use Rattle.bits.specs.Bits.{bitsN, bitsOf, placeAfter, octetsTo, octetsBefore}
 use Rattle.bits.specs.Lent.{over}
 use Rattle.bits.specs.Sink.{written, InHand, Put, Sealed}
 use Rattle.bits.proofs.Numbers.{length-bits}
-use Rattle.bits.proofs.Octets.{length-bitsOf, bitsOf-append, drop-bitsOf, octets-of, octets-take}
+use Rattle.bits.proofs.Octets.{length-bitsOf, bitsOf-append, octets-of, octets-take}
 use Rattle.tone.specs.Writing.{endBits}
 use Rattle.editing.specs.Places.{Begun, Built, headed, reached, pieced, joined}
 

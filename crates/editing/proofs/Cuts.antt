@@ -1,14 +1,10 @@
 -- Hearing a part as an edit changes it.
-use Prim.Native.Nat.{ℕ, zero, suc, _+_, _-_, _*_, _/_, _%_, _≤_, _<_}
+use Prim.Native.Nat.{ℕ, _+_, _-_, _%_, _≤_}
 use native.Mathlib.Omega.{arith}
-use native.Mathlib.Nat.{le-trans}
-use mathlib.Core.Path.{_≡_, refl, sym, ap, ap₂, subst, _∙_}
-use mathlib.Core.List.{List, [], _∷_, _++_}
-use lib.ListN.{length, take, drop, set, length-append, length-drop}
-use lib.Seq.{length-take-le, drop-drop, take-all}
-use lib.Dec.{eqb}
-use borrow.Author.Tests.{eq-eqb, ne-eqb}
-use Rattle.bits.specs.Bits.{bitsOf}
+use mathlib.Core.Path.{_≡_, refl, sym, ap, subst, _∙_}
+use mathlib.Core.List.{List, _++_}
+use lib.ListN.{length, take, drop, set, length-drop}
+use lib.Seq.{length-take-le, drop-drop}
 use Rattle.tone.specs.Tone.{loopOf, partOf}
 use Rattle.tone.specs.Writing.{tableBits}
 use Rattle.reading.specs.Answers.{noteIn, notes}
@@ -86,9 +82,6 @@ module _ (from : Heard) (cell : ℕ) (ns : List ℕ) (ed : Edit) (i : ℕ) {m b 
 
       left : length (drop (i + removed ed) b) ≡ cell % 256 - i - r
       left = length-drop (i + removed ed) b ∙ omega (arith, size, h .0, hr .0)
-
-      pub cut-least : r ≤ cell % 256 - i
-      cut-least = omega (arith, h .0, hr .0)
 
       pub cut-behind : BodyAt m (g₂ .at .0) (cell % 256 - i - r) (bodyIn m (g₂ .at .0) (cell % 256 - i - r)) (behindIn m (g₂ .at .0) (cell % 256 - i - r))
       cut-behind = body-of last left (omega arith)

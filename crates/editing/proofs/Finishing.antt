@@ -1,16 +1,16 @@
 -- What each return of `finish`, `carry_out` and `edit_message` shows.
-use Prim.Native.Nat.{ℕ, zero, suc, _+_, _-_, _*_, _/_, _%_, _^_, _≤_, _<_}
+use Prim.Native.Nat.{ℕ, _+_, _-_, _*_, _/_, _≤_, _<_}
 use native.Mathlib.Omega.{arith}
 use mathlib.Core.Path.{_≡_, refl, sym, ap, ap₂, subst, _∙_}
-use mathlib.Core.Bool.{Bool, true, false}
-use mathlib.Core.List.{List, [], _∷_, _++_}
-use lib.ListN.{length, getD, take, drop, replicate, length-append}
+use mathlib.Core.Bool.{Bool}
+use mathlib.Core.List.{List, _++_}
+use lib.ListN.{length, take, replicate, length-append}
 use lib.Seq.{take-length, length-take-le}
 use lib.Dec.{leb}
 use lib.IntN.{ℤ, pos, _-ℤ_}
 use borrow.Author.Tests.{le-leb, lt-leb}
 use Rattle.bits.specs.Choice.{pick}
-use Rattle.bits.specs.Bits.{bitsOf, octets, Octets, octetsTo}
+use Rattle.bits.specs.Bits.{bitsOf, octetsTo}
 use Rattle.bits.specs.Lent.{over}
 use Rattle.bits.specs.Outcome.{Outcome, accepted, refused}
 use Rattle.bits.specs.declared.BitPlace.{BitPlace}
@@ -24,16 +24,16 @@ use Rattle.reading.specs.Answers.{Within, place, octetCount}
 use Rattle.judging.specs.declared.Judged.{Judged}
 use Rattle.judging.specs.declared.Judged.the-variants.{Sound, Faulty}
 use Rattle.judging.specs.Answers.{judgedOf}
-use Rattle.reader.proofs.Told.{Told, SoundThere, sound-there}
+use Rattle.reader.proofs.Told.{SoundThere, sound-there}
 use Rattle.playing.specs.Sounding.{atStart, numbers}
-use Rattle.playing.specs.Playing.{Listing, play, playingList}
+use Rattle.playing.specs.Playing.{play, playingList}
 use Rattle.playing.specs.Filling.{patternsIn, endIn, PatternsAt}
 use Rattle.playing.proofs.Counts.{list-count}
 use Rattle.playing.proofs.Marks.{list-mark}
 use Rattle.playing.proofs.Bounds.{none-too-long}
 use Rattle.playing.proofs.Outcomes.{patterns-there, patterns-within}
 use Rattle.judging.specs.Bodies.{noBodies}
-use Rattle.judging.specs.Counting.{entryCount, markFrom}
+use Rattle.judging.specs.Counting.{entryCount}
 use Rattle.editing.specs.declared.Edit.{Edit}
 use Rattle.editing.specs.declared.Answer.{Answer}
 use Rattle.editing.specs.declared.Answer.the-variants.{Edited as Made, Refused}
@@ -44,8 +44,8 @@ use Rattle.editing.specs.declared.Plan.{Plan}
 use Rattle.editing.specs.declared.Plan.the-variants.{Halt, Go}
 use Rattle.editing.specs.Change.{changed}
 use Rattle.editing.specs.Editing.{Edited, editTone, inBuffer, beside, withList, andThen, editMessage, cleared, bufferAfter, listAfter}
-use Rattle.editing.specs.Places.{Built, joined, toneIn, toneOf, Accepted}
-use Rattle.editing.specs.Plan.{Known, CanBuild, Outlines, Written, Spelt, Going, Plans}
+use Rattle.editing.specs.Places.{Built, joined, toneIn, toneOf}
+use Rattle.editing.specs.Plan.{Known, CanBuild, Written, Spelt, Going, Plans}
 use Rattle.editing.specs.Promise.{numbersOf, editNumbers, editAnswer, Leaves, EditPromise}
 use Rattle.editing.proofs.Changes.{cleared-over}
 use Rattle.editing.proofs.Builds.{length-joined}
@@ -112,8 +112,6 @@ module _ (new buf list : List ℕ) (used : ℕ) {o : Outline} (w : Written new o
         let e₄ : ch ≡ pos (toneLength (w .tone)) -ℤ pos used = hc ∙ ap (λ (y : ℕ). pos y -ℤ pos used) size in
         let listing : list′ ≡ over (numbers (g .entries)) list = z ∙ ap (λ (x : List Pattern). over (numbers (play atStart noBodies 0 x .entries)) list) patterns-are in
         rw d (leaves (accepted (record { tone = w .tone; listing = g })) used buf list buf₂ list′ (Made (octetCount (length new)) (o .entries) (o .mark) ch) (cc) buffer listing)
-
-pub ruleset finishes = (finish-short, finish-patterns, finish-room, finish-made)
 
 -- ---- carrying out a plan
 

@@ -1,11 +1,11 @@
 -- Hearing patterns, one a turn.
-use Prim.Native.Nat.{ℕ, zero, suc, _+_, _-_, _*_, _/_, _%_, _^_, _≤_, _<_}
+use Prim.Native.Nat.{ℕ, zero, suc, _+_, _-_, _*_, _/_, _%_, _≤_, _<_}
 use native.Mathlib.Omega.{arith}
 use native.Mathlib.Nat.{le-trans}
 use mathlib.Core.Path.{_≡_, refl, sym, ap, ap₂, subst, _∙_}
 use mathlib.Core.Bool.{Bool, true, false}
 use mathlib.Core.List.{List, [], _∷_, _++_, append-assoc}
-use lib.ListN.{length, getD, take, drop, set, length-append, length-set, take-append-drop}
+use lib.ListN.{length, getD, take, drop, set, length-append, length-set}
 use lib.Dec.{eqb}
 use Rattle.bits.specs.Choice.{pick}
 use Rattle.bits.specs.Bits.{bitsOf}
@@ -26,7 +26,6 @@ use Rattle.judging.proofs.Tallies.{counted-most}
 use Rattle.playing.specs.Filling.{bodyIn, behindIn, BodyAt}
 use Rattle.editing.specs.declared.Gone.{Gone}
 use Rattle.editing.specs.Hearing.{allKnown, patternsHere, endHere, Here, notesHeard, notesAfter, countAfter, Countable, Hears}
-use Rattle.editing.proofs.Bodies.{part-is}
 use Rattle.editing.proofs.Demand3.{cells-append}
 use Rattle.editing.proofs.Overs.{Standing, read-of, body-of}
 

@@ -1,12 +1,12 @@
 -- What each return of the functions that plan an edit shows.
-use Prim.Native.Nat.{ℕ, zero, suc, _+_, _-_, _*_, _/_, _%_, _^_, _≤_, _<_}
+use Prim.Native.Nat.{ℕ, zero, suc, _+_, _-_, _%_, _≤_, _<_}
 use native.Mathlib.Omega.{arith}
 use mathlib.Core.Path.{_≡_, refl, sym, ap, ap₂, subst, _∙_}
 use mathlib.Core.Bool.{Bool, true, false, not, _&&_}
 use mathlib.Core.List.{List, [], _∷_, _++_}
 use lib.ListN.{length, getD, take, drop, set, replicate, length-drop, length-set}
 use lib.Seq.{split-at, drop-drop, length-take-le}
-use lib.Dec.{leb, ltb, eqb}
+use lib.Dec.{leb, ltb}
 use borrow.Author.Tests.{lt-leb, le-leb, le-ltb, lt-ltb, eq-eqb, ne-eqb, not-true, not-false, leb-true}
 use mir.Val.{Fits}
 use mir.Syntax.{w32}
@@ -14,7 +14,7 @@ use Rattle.bits.specs.Choice.{pick}
 use Rattle.bits.specs.Bits.{bitsOf}
 use Rattle.bits.specs.Outcome.{Outcome, accepted, refused}
 use Rattle.bits.specs.declared.BitPlace.{BitPlace}
-use Rattle.tone.specs.Tone.{Pattern, Tone, Front, partOf, loopOf, header, cells, noneKnown, Sound}
+use Rattle.tone.specs.Tone.{Pattern, Front, partOf, loopOf, header, cells, noneKnown, Sound}
 use Rattle.tone.specs.Writing.{tableBits, frontBits}
 use Rattle.tone.proofs.Rows.{and-true, header-small}
 use Rattle.reading.specs.Answers.{Within, place, notes, EntryAt, SomeEntry, Passed}
@@ -28,9 +28,9 @@ use Rattle.editing.specs.declared.Edit.the-variants.{Replace, Insert, De
 use Rattle.editing.specs.declared.Heard.{Heard}
 use Rattle.editing.specs.declared.Cut.{Cut}
 use Rattle.editing.specs.declared.Outline.{Outline}
-use Rattle.editing.specs.Change.{carried, removed, bodyAfter, withBody, patternAt, changed, carriesNew, inBody, isThere, empties, overfills, headerPlace}
+use Rattle.editing.specs.Change.{carried, removed, bodyAfter, withBody, patternAt, changed, carriesNew, inBody, empties, overfills, headerPlace}
 use Rattle.editing.specs.Editing.{bodyLength, editTone}
-use Rattle.editing.specs.Places.{Puts, toneOf, Accepted}
+use Rattle.editing.specs.Places.{Puts, toneOf}
 use Rattle.editing.specs.Plan.{overdoneOf, groundOf, Known, Going}
 use Rattle.editing.specs.Hearing.{patternsHere, endHere, Here, notesHeard, notesAfter, countAfter, Countable, Hears, CutOf}
 use Rattle.editing.proofs.Bodies.{Fits as FitsEdit, fits, length-after, body-instructions, changed-formed, front-same, sound-at}
@@ -141,9 +141,6 @@ module _ (ed : Edit) (k i : ℕ) {m : List ℕ} {first p : ℕ} (kn : Known m fi
 
       pub plan-short : k ≤ 255
       plan-short = omega (arith, few)
-
-      pub plan-left : k ≤ p
-      plan-left = omega arith
 
       sounds : AllSound (toneOf m .patterns)
       sounds = all-sound noneKnown (toneOf m .patterns) (d .formed .sequence)

@@ -1,23 +1,21 @@
 -- What is built of the old bits and the new piece is the writing of the changed tone.
-use Prim.Native.Nat.{ℕ, zero, suc, _+_, _-_, _*_, _/_, _%_, _^_, _≤_, _<_}
+use Prim.Native.Nat.{ℕ, suc, _+_, _-_, _*_, _^_, _≤_, _<_}
 use native.Mathlib.Omega.{arith}
-use native.Mathlib.Nat.{add-zero, add-assoc, zero-mul, zero-add}
-use mathlib.Core.Path.{_≡_, refl, sym, ap, ap₂, subst, _∙_}
-use mathlib.Core.Bool.{Bool, false}
-use mathlib.Core.List.{List, [], _∷_, _++_, append-assoc, append-nil}
-use lib.ListN.{length, getD, take, drop, set, length-append, length-drop, take-append-drop}
-use lib.Seq.{take-at, drop-at, drop-drop, drop-append-le, take-all, take-append-le, set-split, split-at}
-use Rattle.bits.specs.Bits.{bitsN, bitsOf, Octets}
-use Rattle.bits.proofs.Numbers.{length-bits, bits-append}
+use mathlib.Core.Path.{_≡_, refl, sym, ap, ap₂, _∙_}
+use mathlib.Core.Bool.{Bool}
+use mathlib.Core.List.{List, [], _∷_, _++_, append-assoc}
+use lib.ListN.{length, take, drop, length-append, take-append-drop}
+use lib.Seq.{take-at, drop-at, drop-drop, set-split, split-at}
+use Rattle.bits.specs.Bits.{bitsN, bitsOf}
+use Rattle.bits.proofs.Numbers.{bits-append}
 use Rattle.tone.specs.Table.{kind, payload, width}
-use Rattle.tone.specs.Tone.{Pattern, Tone, frontOf, header, cells, noneKnown, Sound, Sequence}
-use Rattle.tone.specs.Writing.{entryBits, tableBits, frontBits, songBits, endBits, toneBits, toneLength, toneOctets}
+use Rattle.tone.specs.Tone.{Pattern, Tone, frontOf, header, cells, noneKnown, Sound}
+use Rattle.tone.specs.Writing.{entryBits, tableBits, frontBits, songBits}
 use Rattle.tone.proofs.Rows.{length-entryBits, tableBits-append, header-small}
-use Rattle.tone.proofs.Demand2.{octets-are}
 use Rattle.reader.proofs.Told.{Told}
 use Rattle.editing.specs.declared.Edit.{Edit}
-use Rattle.editing.specs.Change.{carried, removed, bodyAfter, withBody, patternAt, patternsAfter, changed, headerPlace}
-use Rattle.editing.specs.Places.{Puts, Built, headed, reached, pieced, joined}
+use Rattle.editing.specs.Change.{carried, removed, bodyAfter, withBody, patternAt, changed, headerPlace}
+use Rattle.editing.specs.Places.{Puts, joined}
 use Rattle.editing.proofs.Bodies.{sound-at, front-same}
 use Rattle.editing.proofs.Demand3.{cells-append}
 

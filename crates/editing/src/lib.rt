@@ -1,12 +1,11 @@
 ghost use mathlib.Core.Path.{_≡_};
-ghost use mathlib.Core.Bool.{Bool, true, false};
-ghost use mathlib.Core.List.{List, [], _∷_, _++_};
-ghost use Prim.Native.Nat.{ℕ, _+_, _-_, _*_, _%_, _^_, _≤_, _<_};
+ghost use mathlib.Core.Bool.{true, false};
+ghost use mathlib.Core.List.{[], _∷_};
+ghost use Prim.Native.Nat.{_+_, _-_, _%_, _^_, _≤_, _<_};
 ghost use lib.ListN.{length, take, drop};
-ghost use Rattle.bits.specs.Bits.{bitsN, bitsOf, placeAfter, octetsTo};
+ghost use Rattle.bits.specs.Bits.{bitsOf, placeAfter, octetsTo};
 ghost use Rattle.bits.specs.Lent.{over};
 ghost use Rattle.bits.specs.Sink.{written, InHand, Put};
-ghost use Rattle.tone.specs.Table.{width as widthOf, allowed as allowedOf};
 ghost use Rattle.reading.specs.Answers.{Within, place};
 ghost use Rattle.editing.specs.Change.{isNew as isNewOf, carriesNew, carried, removed as removedOf, inBody};
 ghost use Rattle.tone.specs.Tone.{Tone};
@@ -569,11 +568,15 @@ fn finish(
     requires { ⌜ Written (now new) outline ⌝ }
     ensures { λ r. ⌜ ((t : Tone) → WellFormed t → toneOctets t ≡ now (new .entry) → Leaves (withList (length (now (list .entry))) (accepted t)) (used .0) (now (buf .entry)) (now (list .entry)) (now (buf .exit)) (now (list .exit)) r) ⌝ }
 {
-    let entries = outline.entries;
-    if list.len() / 2 < entries as usize {
-        return halted(11);
-    }
     let first = outline.first;
+    let entries = outline.entries;
+    let mark = outline.mark;
+    if list.len() / 2 < entries as usize {
+        return Answer::Refused {
+            number: 11,
+            place: BitPlace(0),
+        };
+    }
     playing::fill_list(new, first, outline.patterns, list);
     let length = OctetCount(new.len());
     copy_octets(new, length, buf);
@@ -581,7 +584,7 @@ fn finish(
     Answer::Edited {
         length,
         entries,
-        mark: outline.mark,
+        mark,
         change: change(length, used),
     }
 }
@@ -604,16 +607,10 @@ fn carry_out(
     let end = spot.at.0 + piece.width as usize + (spot.end.0 - spot.behind.0);
     let length = bits::octets_to(BitPlace(end)).0 + 1;
     if 4096 < length {
-        return Answer::Refused {
-            number: 1,
-            place: BitPlace(0),
-        };
+        return halted(1);
     }
     if buf.len() < length {
-        return Answer::Refused {
-            number: 11,
-            place: BitPlace(0),
-        };
+        return halted(11);
     }
     let mut scratch = [0u8; 4096];
     let old = used.0;

@@ -1,15 +1,13 @@
 -- `editing::carry_out` meets its contract.
 use borrow.Author.Needs.{needs}
-use Rattle.editing.proofs.carry_out.Statement.{statement}
-use Rattle.editing.proofs.carry_out.Tie as tie
 use native.Mathlib.Omega.{arith}
 use lib.ListN.{take, length-take}
 use Rattle.editing.proofs.Finishing.{carry-short, carry-at, carry-end, carry-long, carry-room, carry-done}
 use mathlib.Core.Path.{refl, sym}
 use lib.Seq.{length-take-le}
 use Rattle.editing.proofs.Finishing.{carry-size, carry-written}
-
--- `editing::carry_out` meets its contract.
+use Rattle.editing.proofs.carry_out.Statement.{statement}
+use Rattle.editing.proofs.carry_out.Tie as tie
 
 cast-end : tie.Need-cast-end
 cast-end c = search needs
@@ -38,17 +36,23 @@ octets-to-requires c κs =
 add-length : tie.Need-add-length
 add-length c = search needs
 
+halted-requires : tie.Need-halted-requires
+halted-requires c κs = search needs
+
 returns : tie.Need-returns
 returns c =
-    let a = c .before .before .before .before .before .before .before .before .args in
-    let p = c .before .before .before .before .before .before .before .before .pre .0 in
-    carry-long (take (a .used .0) (a .buf .now)) (a .header .0) (a .cell) (a .spot .at .0) (a .spot .behind .0) (a .spot .end .0) (a .piece .width) (a .piece .value) (p .2) (a .buf .now) (a .list .now) (a .used .0) (c .before .before .octets-to .ensures) (c .if1 .taken)
+    let a = c .before .before .before .before .before .before .before .before .before .args in
+    let p = c .before .before .before .before .before .before .before .before .before .pre .0 in
+    rw (c .halted .ensures) (carry-long (take (a .used .0) (a .buf .now)) (a .header .0) (a .cell) (a .spot .at .0) (a .spot .behind .0) (a .spot .end .0) (a .piece .width) (a .piece .value) (p .2) (a .buf .now) (a .list .now) (a .used .0) (c .before .before .before .octets-to .ensures) (c .before .if1 .taken))
+
+halted-requires-2 : tie.Need-halted-requires-2
+halted-requires-2 c κs = search needs
 
 returns-2 : tie.Need-returns-2
 returns-2 c =
-    let a = c .before .before .before .before .before .before .before .before .before .args in
-    let p = c .before .before .before .before .before .before .before .before .before .pre .0 in
-    carry-room (take (a .used .0) (a .buf .now)) (a .header .0) (a .cell) (a .spot .at .0) (a .spot .behind .0) (a .spot .end .0) (a .piece .width) (a .piece .value) (p .2) (a .buf .now) (a .list .now) (a .used .0) (c .before .before .before .octets-to .ensures) (c .before .if1 .left) (c .if2 .taken)
+    let a = c .before .before .before .before .before .before .before .before .before .before .args in
+    let p = c .before .before .before .before .before .before .before .before .before .before .pre .0 in
+    rw (c .halted2 .ensures) (carry-room (take (a .used .0) (a .buf .now)) (a .header .0) (a .cell) (a .spot .at .0) (a .spot .behind .0) (a .spot .end .0) (a .piece .width) (a .piece .value) (p .2) (a .buf .now) (a .list .now) (a .used .0) (c .before .before .before .before .octets-to .ensures) (c .before .before .if1 .left) (c .before .if2 .taken))
 
 slice-reshare-prefix-build : tie.Need-slice-reshare-prefix-build
 slice-reshare-prefix-build c = search needs
@@ -111,7 +115,9 @@ carry-out-spec =
     add-end-2
     octets-to-requires
     add-length
+    halted-requires
     returns
+    halted-requires-2
     returns-2
     slice-reshare-prefix-build
     slice-aggregate-build

@@ -2,7 +2,7 @@
 use Rattle.editing.proofs.go_over.Statement.{statement}
 use Rattle.editing.proofs.go_over.Tie as tie
 use borrow.Author.Needs.{needs}
-use Rattle.playing.specs.Filling.{bodyIn, behindIn}
+use Rattle.playing.specs.Filling.{bodyIn}
 use Rattle.editing.proofs.Overs.{OverWalk, goings}
 
 abbrev Inv-loop : tie.InvT-loop

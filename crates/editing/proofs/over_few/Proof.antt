@@ -2,7 +2,7 @@
 use Rattle.editing.proofs.over_few.Statement.{statement}
 use Rattle.editing.proofs.over_few.Tie as tie
 use borrow.Author.Needs.{needs}
-use Rattle.playing.specs.Filling.{bodyIn, behindIn}
+use Rattle.playing.specs.Filling.{bodyIn}
 use Rattle.editing.proofs.Overs.{FewWalk, fews}
 
 abbrev Inv-loop : tie.InvT-loop
