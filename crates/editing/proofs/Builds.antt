@@ -1,72 +1,20 @@
 -- Building a message anew from bits of the old one.
-use Prim.Native.Nat.{ℕ, zero, suc, _+_, _-_, _*_, _/_, _%_, _^_, _≤_, _<_}
+use Prim.Native.Nat.{ℕ, _+_, _-_, _*_, _^_, _≤_, _<_}
 use native.Mathlib.Omega.{arith}
-use native.Mathlib.Nat.{add-zero, add-assoc}
-use mathlib.Core.Path.{_≡_, refl, sym, ap, ap₂, subst, _∙_}
-use mathlib.Core.Bool.{Bool, false}
-use mathlib.Core.List.{List, [], _∷_, _++_, append-assoc, append-nil}
+use mathlib.Core.Path.{_≡_, refl, sym, ap, ap₂, _∙_}
+use mathlib.Core.Bool.{Bool}
+use mathlib.Core.List.{List, _++_, append-nil}
 use lib.ListN.{length, getD, take, drop, length-append, length-drop, take-append-drop}
-use lib.Seq.{take-add, drop-drop, take-at, length-take-le}
+use lib.Seq.{take-add, take-at, length-take-le}
 use mir.Val.{Fits}
 use mir.Syntax.{w8}
 use Rattle.bits.specs.Bits.{bitsN, bitsOf, placeAfter, octetsTo, octetsBefore}
 use Rattle.bits.specs.Lent.{over}
 use Rattle.bits.specs.Sink.{written, InHand, Put, Sealed}
 use Rattle.bits.proofs.Numbers.{length-bits}
-use Rattle.bits.proofs.Octets.{length-bitsOf, bitsOf-append, drop-bitsOf, octets-of, octets-take}
-use Rattle.tone.specs.Writing.{tableBits, endBits}
-use Rattle.reading.specs.Answers.{Within}
-use Rattle.reader.specs.Judging.{TableAt}
-use Rattle.editing.specs.Places.{SomeTable, SpotIn, Begun, Built, headed, reached, pieced, joined}
-use Rattle.editing.proofs.Skips.{table-behind, table-within}
-
--- ---- the places of a spot
-
-fewer : {m : List ℕ} {at n : ℕ} (k : ℕ) → k ≤ n → SomeTable m at n → SomeTable m at k
-fewer k h s = record { table = s .table; stands = s .stands; enough = omega (arith, s .enough) }
-
--- a place behind i entries, where there are k more
-module _ {m : List ℕ} {p q : ℕ} (i : ℕ) (e : (t : List ℕ) → TableAt m p t → i ≤ length t → q ≡ p + length (tableBits (take i t))) where
-  behind : (t : List ℕ) → TableAt m p t → i ≤ length t → TableAt m q (drop i t)
-  behind t a h =
-      let s : TableAt m p (take i t ++ drop i t) = subst (TableAt m p) (sym (take-append-drop i t)) a in
-      subst (λ (x : ℕ). TableAt m x (drop i t)) (sym (e t a h)) (table-behind m p (take i t) (drop i t) s)
-
-  pub spot-within : (k : ℕ) → Within m p → SomeTable m p (i + k) → Within m q
-  spot-within k w s =
-      let t = s .table in
-      let a : TableAt m p (take i t ++ drop i t) = subst (TableAt m p) (sym (take-append-drop i t)) (s .stands) in
-      subst (Within m) (sym (e t (s .stands) (omega (arith, s .enough)))) (table-within m p (take i t) (drop i t) w a)
-
-  pub spot-some : (k : ℕ) → SomeTable m p (i + k) → SomeTable m q k
-  spot-some k s = record {
-    table = drop i (s .table);
-    stands = behind (s .table) (s .stands) (omega (arith, s .enough));
-    enough = rw (length-drop i (s .table)) (omega (arith, s .enough));
-  }
-
-pub spot-first : (m : List ℕ) (p i r n : ℕ) → SomeTable m p (i + r + n) → SomeTable m p i
-spot-first m p i r n s = fewer i (omega arith) s
-
-pub spot-regroup : (m : List ℕ) (p i r n : ℕ) → SomeTable m p (i + r + n) → SomeTable m p (i + (r + n))
-spot-regroup m p i r n s = fewer (i + (r + n)) (omega arith) s
-
-pub spot-fewer : (m : List ℕ) (p r n : ℕ) → SomeTable m p (r + n) → SomeTable m p r
-spot-fewer m p r n s = fewer r (omega arith) s
-
-pub spot-is : (m : List ℕ) (next i r n at bh en : ℕ) → ((t : List ℕ) → TableAt m next t → i ≤ length t → at ≡ next + length (tableBits (take i t)))
-    → ((t : List ℕ) → TableAt m at t → r ≤ length t → bh ≡ at + length (tableBits (take r t))) → ((t : List ℕ) → TableAt m bh t → n ≤ length t → en ≡ bh + length (tableBits (take n t)))
-    → (t : List ℕ) → TableAt m next t → i + r + n ≤ length t → SpotIn t next i r n at bh en
-spot-is m next i r n at bh en e₁ e₂ e₃ t a h =
-    let a₂ = behind i e₁ t a (omega arith) in
-    let l₂ : length (drop i t) ≡ length t - i = length-drop i t in
-    let a₃ = behind r e₂ (drop i t) a₂ (omega arith) in
-    let l₃ : length (drop r (drop i t)) ≡ length t - i - r = length-drop r (drop i t) ∙ ap (λ (x : ℕ). x - r) l₂ in
-    record {
-      here = e₁ t a (omega arith);
-      after = e₂ (drop i t) a₂ (omega arith);
-      last = e₃ (drop r (drop i t)) a₃ (omega arith) ∙ ap (λ (x : List ℕ). bh + length (tableBits (take n x))) (drop-drop r i t);
-    }
+use Rattle.bits.proofs.Octets.{length-bitsOf, bitsOf-append, octets-of, octets-take}
+use Rattle.tone.specs.Writing.{endBits}
+use Rattle.editing.specs.Places.{Begun, Built, headed, reached, pieced, joined}
 
 -- ---- the front
 

@@ -1,51 +1,51 @@
 -- What each return of `finish`, `carry_out` and `edit_message` shows.
-use Prim.Native.Nat.{ℕ, zero, suc, _+_, _-_, _*_, _/_, _%_, _^_, _≤_, _<_}
+use Prim.Native.Nat.{ℕ, _+_, _-_, _*_, _/_, _≤_, _<_}
 use native.Mathlib.Omega.{arith}
 use mathlib.Core.Path.{_≡_, refl, sym, ap, ap₂, subst, _∙_}
-use mathlib.Core.Bool.{Bool, true, false}
-use mathlib.Core.List.{List, [], _∷_, _++_}
-use lib.ListN.{length, getD, take, drop, replicate, length-append}
+use mathlib.Core.Bool.{Bool}
+use mathlib.Core.List.{List, _++_}
+use lib.ListN.{length, take, replicate, length-append}
 use lib.Seq.{take-length, length-take-le}
 use lib.Dec.{leb}
 use lib.IntN.{ℤ, pos, _-ℤ_}
 use borrow.Author.Tests.{le-leb, lt-leb}
 use Rattle.bits.specs.Choice.{pick}
-use Rattle.bits.specs.Bits.{bitsOf, octets, Octets, octetsTo}
+use Rattle.bits.specs.Bits.{bitsOf, octetsTo}
 use Rattle.bits.specs.Lent.{over}
 use Rattle.bits.specs.Outcome.{Outcome, accepted, refused}
 use Rattle.bits.specs.declared.BitPlace.{BitPlace}
 use Rattle.bits.specs.declared.OctetCount.{OctetCount}
 use Rattle.bits.proofs.Octets.{length-bitsOf}
-use Rattle.tone.specs.Tone.{Tone, frontOf, cells, Formed}
+use Rattle.tone.specs.Tone.{Pattern, Tone, frontOf, cells, noneKnown, Formed}
 use Rattle.tone.specs.Writing.{tableBits, frontBits, songBits, endBits, toneBits, toneLength, toneOctets, mostOctets, WellFormed}
-use Rattle.tone.specs.Reading.{readTone}
-use Rattle.tone.proofs.Demand2.{octets-are, written-is-accepted, length-toneOctets}
+use Rattle.tone.specs.Reading.{got, patternsDue, readTone}
+use Rattle.tone.proofs.Demand2.{octets-are, one-tone, written-is-accepted, length-toneOctets}
 use Rattle.reading.specs.Answers.{Within, place, octetCount}
 use Rattle.judging.specs.declared.Judged.{Judged}
 use Rattle.judging.specs.declared.Judged.the-variants.{Sound, Faulty}
 use Rattle.judging.specs.Answers.{judgedOf}
-use Rattle.reader.proofs.Told.{Told, SoundThere, sound-there}
-use Rattle.playing.specs.declared.Listed.{Listed}
-use Rattle.playing.specs.declared.Listed.the-variants.{Made as ListMade, Refused as ListRefused}
+use Rattle.reader.proofs.Told.{SoundThere, sound-there}
 use Rattle.sounding.specs.Sounding.{atStart, numbers}
-use Rattle.sounding.specs.Playing.{Listing, play, playingList}
+use Rattle.sounding.specs.Playing.{play, playingList}
 use Rattle.playing.specs.Filling.{patternsIn, endIn, PatternsAt}
-use Rattle.playing.proofs.Outcomes.{list-faulty, list-cells-short, list-patterns, list-room, list-made, cells-alone}
+use Rattle.sounding.proofs.Counts.{list-count}
+use Rattle.sounding.proofs.Marks.{list-mark}
+use Rattle.sounding.proofs.Bounds.{none-too-long}
+use Rattle.playing.proofs.Outcomes.{patterns-there, patterns-within}
 use Rattle.judging.specs.Bodies.{noBodies}
 use Rattle.judging.specs.Counting.{entryCount}
-use Rattle.sounding.specs.Listing.{fitted, fitsNumbers, listed, listTone}
-use Rattle.playing.specs.Promise.{listAnswer, cellsAfter, ListPromise}
 use Rattle.editing.specs.declared.Edit.{Edit}
 use Rattle.editing.specs.declared.Answer.{Answer}
 use Rattle.editing.specs.declared.Answer.the-variants.{Edited as Made, Refused}
 use Rattle.editing.specs.declared.Spot.{Spot}
 use Rattle.editing.specs.declared.Piece.{Piece}
+use Rattle.editing.specs.declared.Outline.{Outline}
 use Rattle.editing.specs.declared.Plan.{Plan}
 use Rattle.editing.specs.declared.Plan.the-variants.{Halt, Go}
 use Rattle.editing.specs.Change.{changed}
 use Rattle.editing.specs.Editing.{Edited, editTone, inBuffer, beside, withList, andThen, editMessage, cleared, bufferAfter, listAfter}
-use Rattle.editing.specs.Places.{Built, joined, toneIn, toneOf, Accepted}
-use Rattle.editing.specs.Plan.{Known, CanBuild, Going, Plans}
+use Rattle.editing.specs.Places.{Built, joined, toneIn, toneOf}
+use Rattle.editing.specs.Plan.{Known, CanBuild, Written, Spelt, Going, Plans}
 use Rattle.editing.specs.Promise.{numbersOf, editNumbers, editAnswer, Leaves, EditPromise}
 use Rattle.editing.proofs.Changes.{cleared-over}
 use Rattle.editing.proofs.Builds.{length-joined}
@@ -60,67 +60,58 @@ leaves o used buf list buf′ list′ r a b c = record { answer = a; numbers = a
 
 -- ---- putting a message in place
 
-module _ (new buf list : List ℕ) (used : ℕ) {list′ : List ℕ} {s : Listed} (q : ListPromise new (fitsNumbers (length list)) list list′ s) (t : Tone) (w : WellFormed t) (e : toneOctets t ≡ new) where
-  -- the list of the message is the tone's
-  made : listTone new (fitsNumbers (length list)) ≡ fitted (fitsNumbers (length list)) (playingList t)
-  unfolding listTone
-  made = rw (ap readTone (sym e) ∙ written-is-accepted t w) refl
+module _ (new buf list : List ℕ) (used : ℕ) {o : Outline} (w : Written new o) where
+  -- a message is the writing of one tone
+  same-tone : (t : Tone) → WellFormed t → toneOctets t ≡ new → t ≡ w .tone
+  same-tone t f e = one-tone t (w .tone) f (w .formed) (e ∙ sym (w .writes))
 
-  finish-no : {n : ℕ} {p : BitPlace} → s ≡ ListRefused n p → Leaves (withList (length list) (accepted t)) used buf list buf list′ (Refused n p)
-  finish-no {n} {p} g =
-      go (fitted (fitsNumbers (length list)) (playingList t)) (sym g ∙ q .answer ∙ ap listAnswer made) (q .leaves ∙ ap (λ (x : Outcome Listing). cellsAfter x list) made)
-    where
-      go : (x : Outcome Listing) → ListRefused n p ≡ listAnswer x → list′ ≡ cellsAfter x list → Leaves (beside t x) used buf list buf list′ (Refused n p)
-      go (accepted g) h c = let z : _≡_ {A = ℕ} 0 1 = cc in absurd (omega arith)
-      go (refused n′ p′) h c =
-          let e₁ : n ≡ n′ = cc in
-          let e₂ : p ≡ place p′ = cc in
-          leaves (refused n′ p′) used buf list buf list′ (Refused n p) (cc) refl c
+  new-reads : readTone new ≡ accepted (w .tone)
+  new-reads = ap readTone (sym (w .writes)) ∙ written-is-accepted (w .tone) (w .formed)
 
-  finish-yes : {n k : ℕ} {buf₁ buf₂ : List ℕ} {ch : ℤ} → s ≡ ListMade n k → length new ≤ length buf → buf₁ ≡ over (take (length new) new) buf → buf₂ ≡ cleared (length new) used buf₁
-      → ch ≡ pos (length new) -ℤ pos used → Leaves (withList (length list) (accepted t)) used buf list buf₂ list′ (Made (octetCount (length new)) n k ch)
-  finish-yes {n} {k} {buf₁} {buf₂} {ch} g l b₁ b₂ hc =
-      go (fitted (fitsNumbers (length list)) (playingList t)) (sym g ∙ q .answer ∙ ap listAnswer made) (q .leaves ∙ ap (λ (x : Outcome Listing). cellsAfter x list) made)
-    where
-      size : length new ≡ toneLength t
-      size = ap length (sym e) ∙ length-toneOctets t
+  new-there : patternsDue (o .patterns) noneKnown (bitsOf new) (o .first .0) ≡ got (w .tone .patterns) (length (frontBits (frontOf (w .tone))) + length (tableBits (cells (w .tone .patterns))))
+  new-there = ap₂ (λ (x y : ℕ). patternsDue x noneKnown (bitsOf new) y) (w .outlines .patterns) (w .outlines .first) ∙ patterns-there new (w .tone) new-reads
 
-      buffer : buf₂ ≡ over (toneOctets t ++ replicate (used - toneLength t) 0) buf
-      buffer =
-          b₂ ∙ ap (cleared (length new) used) (b₁ ∙ ap (λ (y : List ℕ). over y buf) (take-length new)) ∙ cleared-over new buf (length new) used refl l
-          ∙ ap₂ (λ (y : List ℕ) (z : ℕ). over (y ++ replicate (used - z) 0) buf) (sym e) size
+  patterns-are : patternsIn new (o .first .0) (o .patterns) ≡ w .tone .patterns
+  patterns-are = rw new-there refl
 
-      go : (x : Outcome Listing) → ListMade n k ≡ listAnswer x → list′ ≡ cellsAfter x list → Leaves (beside t x) used buf list buf₂ list′ (Made (octetCount (length new)) n k ch)
-      go (accepted g) h c =
-          let e₁ : n ≡ length (g .entries) = cc in
-          let e₂ : k ≡ g .mark = cc in
-          let e₃ : octetCount (length new) ≡ octetCount (toneLength t) = ap octetCount size in
-          let e₄ : ch ≡ pos (toneLength t) -ℤ pos used = hc ∙ ap (λ (y : ℕ). pos y -ℤ pos used) size in
-          leaves (accepted (record { tone = t; listing = g })) used buf list buf₂ list′ (Made (octetCount (length new)) n k ch) (cc) buffer c
-      go (refused n′ p′) h c = let z : _≡_ {A = ℕ} 0 1 = cc in absurd (omega arith)
+  count : length (playingList (w .tone) .entries) ≡ o .entries
+  unfolding playingList
+  count = list-count atStart noBodies 0 (w .tone .patterns) ∙ sym (w .outlines .entries)
 
--- in the code's terms: the message is judged, and then its list is filled where there is room
-module _ (new buf list : List ℕ) (used : ℕ) {j : Judged} (q : j ≡ judgedOf (readTone new)) where
-  pub finish-faulty : {n : ℕ} {p : BitPlace} → j ≡ Faulty n p → (t : Tone) → WellFormed t → toneOctets t ≡ new → Leaves (withList (length list) (accepted t)) used buf list buf list (Refused n p)
-  finish-faulty g t w e = finish-no new buf list used (cells-alone new list (list-faulty new list (length list) q g)) t w e refl
+  -- no duration is too long, so only the room counts
+  outcome : withList (length list) (accepted (w .tone)) ≡ beside (w .tone) (pick (leb (2 * o .entries) (length list)) (accepted (playingList (w .tone))) (refused 11 0))
+  outcome = rw (none-too-long (w .tone) (w .formed .formed), count) refl
 
-  module _ {s : ℕ} {f : BitPlace} {o : OctetCount} {ps b n k : ℕ} {u : Bool} (g : j ≡ Sound s f o ps b n k u) where
-    pub finish-short : length list / 2 < n → (t : Tone) → WellFormed t → toneOctets t ≡ new → Leaves (withList (length list) (accepted t)) used buf list buf list (Refused 11 (place 0))
-    finish-short h t w e = finish-no new buf list used (cells-alone new list (list-cells-short new list (length list) q g h)) t w e refl
+  pub finish-short : length list / 2 < o .entries → (t : Tone) → WellFormed t → toneOctets t ≡ new → Leaves (withList (length list) (accepted t)) used buf list buf list (Refused 11 (place 0))
+  finish-short h t f e =
+      let z : withList (length list) (accepted t) ≡ refused 11 0 = ap (λ (y : Tone). withList (length list) (accepted y)) (same-tone t f e) ∙ outcome ∙ (rw (lt-leb (2 * o .entries) (length list) (omega arith)) refl) in
+      rw z (leaves (refused 11 0) used buf list buf list (Refused 11 (place 0)) refl refl refl)
 
-    module _ (h : n ≤ length list / 2) where
-      pub finish-patterns : PatternsAt new (f .0) ps (patternsIn new (f .0) ps) (endIn new (f .0) ps)
-      finish-patterns = list-patterns new list (length list) q g h
+  module _ (h : o .entries ≤ length list / 2) where
+    pub finish-patterns : PatternsAt new (o .first .0) (o .patterns) (patternsIn new (o .first .0) (o .patterns)) (endIn new (o .first .0) (o .patterns))
+    finish-patterns = record { within = subst (Within new) (sym (w .outlines .first)) (patterns-within new (w .tone) new-reads); reads = rw new-there refl }
 
-      pub finish-room : 2 * entryCount noBodies (patternsIn new (f .0) ps) ≤ length list
-      finish-room = list-room new list (length list) q g h
+    pub finish-room : 2 * entryCount noBodies (patternsIn new (o .first .0) (o .patterns)) ≤ length list
+    finish-room = omega (arith, ap (entryCount noBodies) patterns-are, w .outlines .entries)
 
-      pub finish-made : {list′ buf₁ buf₂ : List ℕ} {ch : ℤ} → list′ ≡ over (numbers (play atStart noBodies 0 (patternsIn new (f .0) ps) .entries)) list → length new ≤ length buf
-          → buf₁ ≡ over (take (length new) new) buf → buf₂ ≡ cleared (length new) used buf₁ → ch ≡ pos (length new) -ℤ pos used
-          → (t : Tone) → WellFormed t → toneOctets t ≡ new → Leaves (withList (length list) (accepted t)) used buf list buf₂ list′ (Made (octetCount (length new)) n k ch)
-      finish-made z l b₁ b₂ hc t w e = finish-yes new buf list used (cells-alone new list (list-made new list (length list) q g h (omega arith) z)) t w e refl l b₁ b₂ hc
-
-pub ruleset finishes = (finish-faulty, finish-short, finish-patterns, finish-room, finish-made)
+    pub finish-made : {list′ buf₁ buf₂ : List ℕ} {ch : ℤ} → list′ ≡ over (numbers (play atStart noBodies 0 (patternsIn new (o .first .0) (o .patterns)) .entries)) list → length new ≤ length buf
+        → buf₁ ≡ over (take (length new) new) buf → buf₂ ≡ cleared (length new) used buf₁ → ch ≡ pos (length new) -ℤ pos used
+        → (t : Tone) → WellFormed t → toneOctets t ≡ new → Leaves (withList (length list) (accepted t)) used buf list buf₂ list′ (Made (octetCount (length new)) (o .entries) (o .mark) ch)
+    unfolding playingList
+    finish-made {list′} {buf₁} {buf₂} {ch} z l b₁ b₂ hc t f e =
+        let g = playingList (w .tone) in
+        let d : withList (length list) (accepted t) ≡ accepted (record { tone = w .tone; listing = g }) =
+        ap (λ (y : Tone). withList (length list) (accepted y)) (same-tone t f e) ∙ outcome ∙ (rw (le-leb (2 * o .entries) (length list) (omega arith)) refl) in
+        let size : length new ≡ toneLength (w .tone) = ap length (sym (w .writes)) ∙ length-toneOctets (w .tone) in
+        let buffer : buf₂ ≡ over (toneOctets (w .tone) ++ replicate (used - toneLength (w .tone)) 0) buf =
+        b₂ ∙ ap (cleared (length new) used) (b₁ ∙ ap (λ (y : List ℕ). over y buf) (take-length new)) ∙ cleared-over new buf (length new) used refl l
+        ∙ ap₂ (λ (y : List ℕ) (x : ℕ). over (y ++ replicate (used - x) 0) buf) (sym (w .writes)) size in
+        let e₁ : o .entries ≡ length (g .entries) = sym count in
+        let e₂ : o .mark ≡ g .mark = w .outlines .mark ∙ sym (list-mark atStart noBodies 0 (w .tone .patterns)) in
+        let e₃ : octetCount (length new) ≡ octetCount (toneLength (w .tone)) = ap octetCount size in
+        let e₄ : ch ≡ pos (toneLength (w .tone)) -ℤ pos used = hc ∙ ap (λ (y : ℕ). pos y -ℤ pos used) size in
+        let listing : list′ ≡ over (numbers (g .entries)) list = z ∙ ap (λ (x : List Pattern). over (numbers (play atStart noBodies 0 x .entries)) list) patterns-are in
+        rw d (leaves (accepted (record { tone = w .tone; listing = g })) used buf list buf₂ list′ (Made (octetCount (length new)) (o .entries) (o .mark) ch) (cc) buffer listing)
 
 -- ---- carrying out a plan
 
@@ -149,16 +140,26 @@ module _ (m : List ℕ) (head cell at bh en w v : ℕ) (c : CanBuild m head cell
           let o : inBuffer (length buf) t ≡ refused 11 0 = rw (le-leb (toneLength t) mostOctets (omega arith), lt-leb (toneLength t) (length buf) (omega arith)) refl in
           rw o (leaves (refused 11 0) used buf list buf list (Refused 11 (place 0)) refl refl refl)
 
+      -- what is built is the writing of a tone whose song it spells
+      written : {scratch : List ℕ} {n : ℕ} → Built (joined (bitsOf m) head cell at w v bh en) scratch n → (t : Tone) → Formed t → joined (bitsOf m) head cell at w v bh en ≡ songBits t
+          → WellFormed t × (toneOctets t ≡ take n scratch)
+      unfolding toneBits
+      written {scratch} {n} b t f e =
+          let y = length-is t e hz refl in
+          let bits : bitsOf (take n scratch) ≡ toneBits t = b .spelt ∙ ap (λ (x : List Bool). x ++ endBits (length x)) e in
+          (record { formed = f; size = omega arith }, octets-are (take n scratch) t (b .each) bits)
+
+      pub carry-written : {scratch : List ℕ} {n : ℕ} {o : Outline} → Built (joined (bitsOf m) head cell at w v bh en) scratch n → Spelt (joined (bitsOf m) head cell at w v bh en) o → Written (take n scratch) o
+      carry-written b p = let x = written b (p .tone) (p .formed) (p .spells) in record { tone = p .tone; formed = x .0; writes = x .1; outlines = p .outlines }
+
       pub carry-done : {scratch buf′ list′ new : List ℕ} {n : ℕ} {r : Answer} → z + 1 ≤ length buf → Built (joined (bitsOf m) head cell at w v bh en) scratch n → new ≡ take n scratch
           → ((t : Tone) → WellFormed t → toneOctets t ≡ new → Leaves (withList (length list) (accepted t)) used buf list buf′ list′ r)
           → (t : Tone) → Formed t → joined (bitsOf m) head cell at w v bh en ≡ songBits t → Leaves (withList (length list) (inBuffer (length buf) t)) used buf list buf′ list′ r
-      unfolding toneBits
       carry-done {scratch} {buf′} {list′} {new} {n} {r} l b hn k t f e =
           let y = length-is t e hz refl in
           let o : inBuffer (length buf) t ≡ accepted t = rw (le-leb (toneLength t) mostOctets (omega arith), le-leb (toneLength t) (length buf) (omega arith)) refl in
-          let bits : bitsOf (take n scratch) ≡ toneBits t = b .spelt ∙ ap (λ (x : List Bool). x ++ endBits (length x)) e in
-          let m′ : toneOctets t ≡ new = octets-are (take n scratch) t (b .each) bits ∙ sym hn in
-          rw o (k t (record { formed = f; size = omega arith }) m′)
+          let x = written b t f e in
+          rw o (k t (x .0) (x .1 ∙ sym hn))
 
 -- what the code needs to know before it builds
 module _ (buf : List ℕ) (used : ℕ) {head cell at bh en w v : ℕ} (p : (used ≤ length buf) × (used ≤ 4096) × CanBuild (take used buf) head cell at bh en w v) where
@@ -204,12 +205,11 @@ module _ (buf list : List ℕ) (used : ℕ) (ed : Edit) (k i : ℕ) where
       same : there .tone ≡ toneOf (take used buf)
       same = sym (ap toneIn (there .told .reads))
 
-      pub edit-known : Known (take used buf) (f .0) ps es
+      pub edit-known : Known (take used buf) (f .0) ps
       edit-known = record {
         stands = record { reads = reads; begins = there .place ∙ ap (λ (t : Tone). length (frontBits (frontOf t))) same };
         short = there .told .short;
         patterns = there .patterns ∙ ap (λ (t : Tone). length (t .patterns)) same;
-        entries = there .entries ∙ ap (λ (t : Tone). length (cells (t .patterns))) same;
       }
 
       pub edit-within : Within (take used buf) (f .0)
@@ -232,12 +232,15 @@ module _ (buf list : List ℕ) (used : ℕ) (ed : Edit) (k i : ℕ) where
           let e : editTone ed k i (toneOf (take used buf)) ≡ refused n 0 = subst (Plans (take used buf) ed k i) z y in
           on (rw e (leaves (refused n 0) used buf list buf list (Refused n (place 0)) refl refl refl))
 
-      module _ {pl : Plan} {hd : BitPlace} {cell : ℕ} {sp : Spot} {pi : Piece} (y : Plans (take used buf) ed k i pl) (z : pl ≡ Go hd cell sp pi) where
-        going : Going (take used buf) ed k i (hd .0) cell (sp .at .0) (sp .behind .0) (sp .end .0) (pi .width) (pi .value)
+      module _ {pl : Plan} {hd : BitPlace} {cell : ℕ} {sp : Spot} {pi : Piece} {ol : Outline} (y : Plans (take used buf) ed k i pl) (z : pl ≡ Go hd cell sp pi ol) where
+        going : Going (take used buf) ed k i (hd .0) cell (sp .at .0) (sp .behind .0) (sp .end .0) (pi .width) (pi .value) ol
         going = subst (Plans (take used buf) ed k i) z y
 
         pub edit-can : CanBuild (take used buf) (hd .0) cell (sp .at .0) (sp .behind .0) (sp .end .0) (pi .width) (pi .value)
         edit-can = going .can
+
+        pub edit-spelt : Spelt (joined (bitsOf (take used buf)) (hd .0) cell (sp .at .0) (pi .width) (pi .value) (sp .behind .0) (sp .end .0)) ol
+        edit-spelt = record { tone = changed ed k i (toneOf (take used buf)); formed = going .formed; spells = going .spells; outlines = going .outlines }
 
         pub edit-done : {r : Answer} {buf′ list′ : List ℕ} → ((t : Tone) → Formed t → joined (bitsOf (take used buf)) (hd .0) cell (sp .at .0) (pi .width) (pi .value) (sp .behind .0) (sp .end .0) ≡ songBits t
             → Leaves (withList (length list) (inBuffer (length buf) t)) used buf list buf′ list′ r) → EditPromise buf used ed k i list buf′ list′ r

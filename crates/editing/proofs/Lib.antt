@@ -1,9 +1,11 @@
 pub mod Bodies
 pub mod Demand3
 pub mod Pieces
-pub mod Skips
+pub mod Overs
+pub mod Hearings
+pub mod Cuts
+pub mod Recounts
 pub mod Copies
-pub mod Heads
 pub mod Builds
 pub mod Rebuilt
 pub mod Changes

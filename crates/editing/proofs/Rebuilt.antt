@@ -1,27 +1,23 @@
 -- What is built of the old bits and the new piece is the writing of the changed tone.
-use Prim.Native.Nat.{ℕ, zero, suc, _+_, _-_, _*_, _/_, _%_, _^_, _≤_, _<_}
+use Prim.Native.Nat.{ℕ, suc, _+_, _-_, _*_, _^_, _≤_, _<_}
 use native.Mathlib.Omega.{arith}
-use native.Mathlib.Nat.{add-zero, add-assoc, zero-mul, zero-add}
-use mathlib.Core.Path.{_≡_, refl, sym, ap, ap₂, subst, _∙_}
-use mathlib.Core.Bool.{Bool, false}
-use mathlib.Core.List.{List, [], _∷_, _++_, append-assoc, append-nil}
-use lib.ListN.{length, getD, take, drop, set, length-append, length-drop, take-append-drop}
-use lib.Seq.{take-at, drop-at, drop-drop, drop-append-le, take-all, take-append-le, set-split, split-at}
-use Rattle.bits.specs.Bits.{bitsN, bitsOf, Octets}
-use Rattle.bits.proofs.Numbers.{length-bits, bits-append}
+use mathlib.Core.Path.{_≡_, refl, sym, ap, ap₂, _∙_}
+use mathlib.Core.Bool.{Bool}
+use mathlib.Core.List.{List, [], _∷_, _++_, append-assoc}
+use lib.ListN.{length, take, drop, length-append, take-append-drop}
+use lib.Seq.{take-at, drop-at, drop-drop, set-split, split-at}
+use Rattle.bits.specs.Bits.{bitsN, bitsOf}
+use Rattle.bits.proofs.Numbers.{bits-append}
 use Rattle.tone.specs.Table.{kind, payload, width}
-use Rattle.tone.specs.Tone.{Pattern, Tone, frontOf, header, cells, noneKnown, Sound, Sequence}
-use Rattle.tone.specs.Writing.{entryBits, tableBits, frontBits, songBits, endBits, toneBits, toneLength, toneOctets}
-use Rattle.tone.proofs.Rows.{tableBits-append, header-small}
-use Rattle.tone.proofs.Demand2.{octets-are}
-use Rattle.reader.specs.Judging.{TableAt}
+use Rattle.tone.specs.Tone.{Pattern, Tone, frontOf, header, cells, noneKnown, Sound}
+use Rattle.tone.specs.Writing.{entryBits, tableBits, frontBits, songBits}
+use Rattle.tone.proofs.Rows.{length-entryBits, tableBits-append, header-small}
 use Rattle.reader.proofs.Told.{Told}
 use Rattle.editing.specs.declared.Edit.{Edit}
-use Rattle.editing.specs.Change.{carried, removed, bodyAfter, withBody, patternAt, patternsAfter, changed, headerPlace}
-use Rattle.editing.specs.Places.{Puts, SpotIn, HeadAt, Built, headed, reached, pieced, joined}
+use Rattle.editing.specs.Change.{carried, removed, bodyAfter, withBody, patternAt, changed, headerPlace}
+use Rattle.editing.specs.Places.{Puts, joined}
 use Rattle.editing.proofs.Bodies.{sound-at, front-same}
 use Rattle.editing.proofs.Demand3.{cells-append}
-use Rattle.editing.proofs.Heads.{header-wide}
 
 -- ---- cutting a row of bits
 
@@ -52,7 +48,12 @@ module _ (a h b₁ b₂ b₃ rest : List Bool) (l : List Bool) (e : l ≡ a ++ (
 
 -- ---- headers
 
--- a header in one piece
+-- a header is 17 bits
+pub header-wide : (h : ℕ) → h < 16384 → length (entryBits h) ≡ 17
+unfolding width
+header-wide h k = let z : kind h ≡ 0 = omega arith in length-entryBits h ∙ (rw z refl)
+
+-- in one piece
 pub header-piece : (h : ℕ) → h < 16384 → entryBits h ≡ bitsN 17 h
 unfolding entryBits width
 header-piece h k =
@@ -118,25 +119,13 @@ module _ (m : List ℕ) (t : Tone) (d : Told m t) (ed : Edit) (k i : ℕ) (there
       ∙ simp append-assoc
 
   -- the places of the code are those of the tone
-  module _ {hp cell next before at bh en n : ℕ} (h : HeadAt t k hp cell next before) (s : SpotIn (b ++ x) next i (removed ed) n at bh en) (all : i + removed ed + n ≡ length (b ++ x)) where
+  module _ {hp at bh en : ℕ} (eh : hp ≡ headerPlace t k) (ea : at ≡ hp + 17 + length (tableBits (take i b))) (eb : bh ≡ at + length (tableBits (take (removed ed) (drop i b))))
+      (ee : en ≡ bh + length (tableBits (drop (i + removed ed) b)) + length (tableBits x)) where
     place-head : hp ≡ length ahead
-    place-head = h .place ∙ sym (length-append (frontBits (frontOf t)) (tableBits (cells (take k ps))))
-
-    place-at : at ≡ hp + 17 + length (tableBits (take i b))
-    place-at = s .here ∙ ap₂ (λ (y : ℕ) (z : List ℕ). y + length (tableBits z)) (h .behind) (take-append-le i b x (omega (arith, inside)))
-
-    place-behind : bh ≡ at + length (tableBits (take (removed ed) (drop i b)))
-    place-behind =
-        let e : drop i (b ++ x) ≡ drop i b ++ x = drop-append-le i b x (omega (arith, inside)) in
-        let l : removed ed ≤ length (drop i b) = rw (length-drop i b) (omega (arith, inside)) in
-        s .after ∙ ap (λ (y : List ℕ). at + length (tableBits y)) (ap (take (removed ed)) e ∙ take-append-le (removed ed) (drop i b) x l)
+    place-head = eh ∙ sym (length-append (frontBits (frontOf t)) (tableBits (cells (take k ps))))
 
     place-end : en ≡ bh + length behind
-    place-end =
-        let e : drop (i + removed ed) (b ++ x) ≡ drop (i + removed ed) b ++ x = drop-append-le (i + removed ed) b x inside in
-        let l : length (drop (i + removed ed) (b ++ x)) ≤ n = rw (length-drop (i + removed ed) (b ++ x)) (omega (arith, all)) in
-        s .last ∙ ap (λ (y : List ℕ). bh + length (tableBits y)) (take-all n (drop (i + removed ed) (b ++ x)) l ∙ e)
-        ∙ ap (λ (y : List Bool). bh + length y) (tableBits-append (drop (i + removed ed) b) x)
+    place-end = omega (arith, ee, length-append (tableBits (drop (i + removed ed) b)) (tableBits x))
 
     -- what is built is the changed tone's song
     pub joined-is : {cell′ w v : ℕ} → Puts (carried ed) w v → cell′ ≡ header (withBody p (bodyAfter ed i b)) → cell′ < 16384
@@ -144,5 +133,5 @@ module _ (m : List ℕ) (t : Tone) (d : Told m t) (ed : Edit) (k i : ℕ) (there
     joined-is {cell′} {w} {v} q e small =
         let wide = header-wide (header p) (header-small p sound .0) in
         let hb : bitsN 17 cell′ ≡ entryBits (header (withBody p (bodyAfter ed i b))) = sym (header-piece cell′ small) ∙ ap entryBits e in
-        cut-joined ahead (entryBits (header p)) (tableBits (take i b)) (tableBits (take (removed ed) (drop i b))) behind (d .behind) (bitsOf m) message-bits wide hp at bh en cell′ w v place-head place-at place-behind place-end
+        cut-joined ahead (entryBits (header p)) (tableBits (take i b)) (tableBits (take (removed ed) (drop i b))) behind (d .behind) (bitsOf m) message-bits wide hp at bh en cell′ w v place-head ea eb place-end
         ∙ (rw (hb, ← q .bits) (simp append-assoc)) ∙ sym changed-bits

@@ -1,5 +1,6 @@
 pub mod Change
 pub mod Editing
+pub mod Hearing
 pub mod Places
 pub mod Plan
 pub mod Promise

@@ -7,17 +7,9 @@ use lib.ListN.{length, take, drop}
 use Rattle.bits.specs.Bits.{bitsN, bitsOf, Octets, placeAfter, octetsTo}
 use Rattle.bits.specs.Sink.{written, InHand}
 use Rattle.bits.specs.Outcome.{Outcome, accepted, refused}
-use Rattle.tone.specs.Tone.{Tone, frontOf, header, cells}
+use Rattle.tone.specs.Tone.{Tone, frontOf}
 use Rattle.tone.specs.Writing.{tableBits, frontBits, endBits}
 use Rattle.tone.specs.Reading.{readTone}
-use Rattle.reader.specs.Judging.{TableAt}
-use Rattle.editing.specs.Change.{patternAt, headerPlace}
-
--- some table stands at a place, with n entries at least
-pub record SomeTable (m : List ℕ) (at n : ℕ) : Type 0 where
-  pub table : List ℕ
-  pub stands : TableAt m at table
-  pub enough : n ≤ length table
 
 -- the entries t, in w bits that spell v
 pub record Puts (t : List ℕ) (w v : ℕ) : Type 0 where
@@ -37,19 +29,6 @@ toneOf m = toneIn (readTone m)
 pub record Accepted (m : List ℕ) (first : ℕ) : Type 0 where
   pub reads : readTone m ≡ accepted (toneOf m)
   pub begins : first ≡ length (frontBits (frontOf (toneOf m)))
-
--- the header of pattern k: its place, its entry, the place behind it, and how many entries stand ahead of it
-pub record HeadAt (t : Tone) (k at cell next before : ℕ) : Type 0 where
-  pub place : at ≡ headerPlace t k
-  pub entry : cell ≡ header (patternAt (t .patterns) k)
-  pub behind : next ≡ at + 17
-  pub ahead : before ≡ length (cells (take k (t .patterns)))
-
--- of entries t that stand at a place: where entry i does, where the one behind r entries more does, and where those behind n more end
-pub record SpotIn (t : List ℕ) (next i r n at behind end : ℕ) : Type 0 where
-  pub here : at ≡ next + length (tableBits (take i t))
-  pub after : behind ≡ at + length (tableBits (take r (drop i t)))
-  pub last : end ≡ behind + length (tableBits (take n (drop (i + r) t)))
 
 -- bits that were written from a buffer's start on
 pub record Begun (bits : List Bool) (buf : List ℕ) (o n acc : ℕ) : Type 0 where

@@ -1,18 +1,15 @@
 ghost use mathlib.Core.Path.{_≡_};
-ghost use mathlib.Core.Bool.{Bool, true, false};
-ghost use mathlib.Core.List.{List, [], _∷_, _++_};
-ghost use Prim.Native.Nat.{ℕ, _+_, _-_, _*_, _^_, _≤_, _<_};
+ghost use mathlib.Core.Bool.{true, false};
+ghost use mathlib.Core.List.{[], _∷_};
+ghost use Prim.Native.Nat.{_+_, _-_, _%_, _^_, _≤_, _<_};
 ghost use lib.ListN.{length, take, drop};
-ghost use Rattle.bits.specs.Bits.{bitsN, bitsOf, placeAfter, octetsTo};
+ghost use Rattle.bits.specs.Bits.{bitsOf, placeAfter, octetsTo};
 ghost use Rattle.bits.specs.Lent.{over};
 ghost use Rattle.bits.specs.Sink.{written, InHand, Put};
-ghost use Rattle.tone.specs.Table.{width as widthOf, allowed as allowedOf};
-ghost use Rattle.tone.specs.Writing.{tableBits};
 ghost use Rattle.reading.specs.Answers.{Within, place};
-ghost use Rattle.reader.specs.Judging.{TableAt};
 ghost use Rattle.editing.specs.Change.{isNew as isNewOf, carriesNew, carried, removed as removedOf, inBody};
 ghost use Rattle.tone.specs.Tone.{Tone};
-ghost use Rattle.editing.specs.Places.{SomeTable, Puts, toneOf, Accepted, HeadAt, SpotIn, Begun, Built, headed, reached, pieced, joined};
+ghost use Rattle.editing.specs.Places.{Puts, Begun, Built, headed, reached, pieced, joined};
 ghost use lib.IntN.{pos, _-ℤ_};
 ghost use Rattle.bits.specs.Outcome.{accepted};
 ghost use Rattle.tone.specs.Tone.{Formed};
@@ -20,10 +17,17 @@ ghost use Rattle.tone.specs.Writing.{songBits, toneOctets, WellFormed};
 ghost use Rattle.editing.specs.Editing.{cleared, inBuffer, withList};
 ghost use Rattle.editing.specs.Promise.{Leaves, EditPromise};
 ghost use Rattle.editing.specs.declared.Answer.the-variants.{Refused};
-ghost use Rattle.editing.specs.Plan.{overdoneOf, groundOf, Known, CanBuild, Plans};
+ghost use Rattle.editing.specs.Plan.{overdoneOf, groundOf, Known, CanBuild, Written, Spelt, Plans};
+ghost use Rattle.tone.specs.Table.{Instruction};
+ghost use Rattle.tone.specs.Writing.{entryBits};
+ghost use Rattle.reading.specs.Answers.{noteIn, notes as notesOf};
+ghost use Rattle.playing.specs.Filling.{entrySeen, bodyIn, behindIn, BodyAt};
+ghost use Rattle.editing.specs.Hearing.{patternsHere, endHere, Here, Countable, Hears, CutOf};
+ghost use Rattle.judging.specs.Counting.{noCount};
 use bits::BitPlace;
 use bits::OctetCount;
 use bits::Sink;
+use judging::Count;
 use judging::Judged;
 
 // What an edit does at an instruction: replace it, insert before it, or delete it. The new instruction is one table entry.
@@ -110,7 +114,7 @@ fn carried_piece(edit: Edit) -> Piece
 }
 
 // How many instructions an edit takes away.
-fn removed(edit: Edit) -> usize
+fn removed(edit: Edit) -> u32
     ensures { λ r. ⌜ (r ≡ removedOf edit) × (r ≤ 1) ⌝ }
 {
     match edit {
@@ -120,77 +124,162 @@ fn removed(edit: Edit) -> usize
     }
 }
 
-// ---- places
+// ---- going over a message
 
-// The place behind `n` entries that stand at a place.
-fn skip(msg: &[u8], at: BitPlace, n: usize) -> BitPlace
-    requires { ⌜ Within (now msg) (at .0) ⌝ }
-    requires { ⌜ SomeTable (now msg) (at .0) n ⌝ }
-    ensures { λ r. ⌜ ((t : List ℕ) → TableAt (now (msg .entry)) (at .0) t → n ≤ length t → r .0 ≡ at .0 + length (tableBits (take n t))) ⌝ }
-{
-    let mut place = at;
-    let mut i: usize = 0;
-    while i < n {
-        let c = reading::entry_at(msg, place);
-        place = c.next;
-        i += 1;
-    }
-    place
-}
-
-// The header of a pattern: its place, its entry, the place behind it, and how many entries stand ahead of it.
-pub struct Head {
+// Instructions that were gone over: the place behind them, and how many of them are notes or pauses.
+pub struct Gone {
     pub at: BitPlace,
-    pub cell: u32,
-    pub next: BitPlace,
-    pub ahead: usize,
+    pub notes: u32,
 }
 
-// The header of pattern `k` of an accepted message whose first pattern stands at a place.
-fn find_header(msg: &[u8], first: BitPlace, k: usize) -> Head
-    requires { ⌜ Within (now msg) (first .0) ⌝ }
-    requires { ⌜ Accepted (now msg) (first .0) ⌝ }
-    requires { ⌜ k < length (toneOf (now msg) .patterns) ⌝ }
-    ensures { λ r. ⌜ HeadAt (toneOf (now (msg .entry))) k (r .at .0) (r .cell) (r .next .0) (r .ahead) ⌝ }
+impl Gone {
+    // One instruction more, that on top of a sight. Most are notes: told first, the next place does not wait for a width.
+    fn past(self, x: u64) -> Gone
+        requires { ⌜ (self .at .0 < 2 ^ 63) × (self .notes < 255) × Instruction (entrySeen x) ⌝ }
+        ensures { λ r. ⌜ (r .at .0 ≡ self .at .0 + length (entryBits (entrySeen x))) × (r .notes ≡ self .notes + noteIn (entrySeen x)) ⌝ }
+    {
+        if x >> 61 == 1 {
+            return Gone {
+                at: BitPlace(self.at.0 + 12),
+                notes: self.notes + 1,
+            };
+        }
+        let kind = (x >> 61) as u32;
+        Gone {
+            at: BitPlace(self.at.0 + 3 + reading::width(kind) as usize),
+            notes: self.notes,
+        }
+    }
+}
+
+// Goes over up to four instructions more. Each has at most 12 bits, so one sight of 57 holds them all.
+fn over_few(msg: &[u8], from: Gone, n: u32) -> Gone
+    requires { ⌜ (n ≤ 4) × (from .notes + n ≤ 255) ⌝ }
+    requires { ⌜ BodyAt (now msg) (from .at .0) n (bodyIn (now msg) (from .at .0) n) (behindIn (now msg) (from .at .0) n) ⌝ }
+    ensures { λ r. ⌜ (r .at .0 ≡ behindIn (now (msg .entry)) (from .at .0) n) × (r .notes ≡ from .notes + notesOf (bodyIn (now (msg .entry)) (from .at .0) n)) ⌝ }
 {
-    let mut place = first;
-    let mut ahead: usize = 0;
-    let mut j: usize = 0;
-    while j < k {
-        let c = reading::entry_at(msg, place);
-        let n = (c.cell % 256) as usize;
-        let next = c.next;
-        place = skip(msg, next, n);
-        ahead += 1 + n;
-        j += 1;
+    let at = from.at;
+    let s = bits::sight(msg, at);
+    let mut gone = from;
+    let mut left = n;
+    while 0 < left {
+        let here = gone.at.0;
+        gone = gone.past(s << (here - at.0) as u32);
+        left -= 1;
     }
-    let c = reading::entry_at(msg, place);
-    let next = c.next;
-    Head {
-        at: place,
-        cell: c.cell,
-        next,
-        ahead,
+    gone
+}
+
+// How many of the instructions to come one sight is for.
+fn turn(left: u32) -> u32
+    requires { ⌜ 0 < left ⌝ }
+    ensures { λ r. ⌜ (0 < r) × (r ≤ 4) × (r ≤ left) ⌝ }
+{
+    if left < 4 { left } else { 4 }
+}
+
+// Goes over the `n` instructions that stand at a place.
+fn go_over(msg: &[u8], at: BitPlace, n: u32) -> Gone
+    requires { ⌜ BodyAt (now msg) (at .0) n (bodyIn (now msg) (at .0) n) (behindIn (now msg) (at .0) n) ⌝ }
+    ensures { λ r. ⌜ (r .at .0 ≡ behindIn (now (msg .entry)) (at .0) n) × (r .notes ≡ notesOf (bodyIn (now (msg .entry)) (at .0) n)) ⌝ }
+{
+    let mut gone = Gone { at, notes: 0 };
+    let mut left = n;
+    while 0 < left {
+        let k = turn(left);
+        gone = over_few(msg, gone, k);
+        left -= k;
+    }
+    gone
+}
+
+// Patterns that were heard: the place behind them, and what is counted of the list.
+pub struct Heard {
+    pub place: BitPlace,
+    pub count: Count,
+}
+
+// Nothing is heard yet of the patterns that begin at a place.
+fn unheard(first: BitPlace) -> Heard
+    ensures { λ r. ⌜ (r .place ≡ first) × (r .count ≡ noCount) ⌝ }
+{
+    Heard {
+        place: first,
+        count: Count::none(),
     }
 }
 
-// Where an instruction stands, where what is left behind it does, and where the patterns end.
-pub struct Spot {
+// Hears `n` patterns more. The notes of the four parts go on from those handed in.
+fn hear(msg: &[u8], from: Heard, n: u32, notes: &mut [u32]) -> Heard
+    requires { ⌜ Here (now msg) (from .place .0) n (patternsHere (now msg) (from .place .0) n) (endHere (now msg) (from .place .0) n) ⌝ }
+    requires { ⌜ Countable (now notes) (from .count) n ⌝ }
+    ensures { λ r. ⌜ Hears (now (msg .entry)) (from .place .0) n (now (notes .entry)) (from .count) (r .place .0) (now (notes .exit)) (r .count) ⌝ }
+{
+    let mut place = from.place;
+    let mut count = from.count;
+    let mut left = n;
+    while 0 < left {
+        let head = reading::entry_at(msg, place);
+        let header = head.cell;
+        let own = go_over(msg, head.next, header % 256);
+        let id = (header / 4096 % 4) as usize;
+        let heard = judging::sounding(notes[id], header, own.notes);
+        notes[id] = heard;
+        count = count.with(heard, header / 256 % 16);
+        place = own.at;
+        left -= 1;
+    }
+    Heard { place, count }
+}
+
+// 1 for a note or pause, 0 for any other instruction.
+fn note_in(cell: u32) -> u32
+    ensures { λ r. ⌜ (r ≡ noteIn cell) × (r ≤ 1) ⌝ }
+{
+    if cell / 65536 == 1 { 1 } else { 0 }
+}
+
+// How many notes or pauses an edit puts.
+fn carried_notes(edit: Edit) -> u32
+    ensures { λ r. ⌜ (r ≡ notesOf (carried edit)) × (r ≤ 1) ⌝ }
+{
+    match edit {
+        Edit::Replace(cell) => note_in(cell),
+        Edit::Insert(cell) => note_in(cell),
+        Edit::Delete => 0,
+    }
+}
+
+// A part as an edit changes it: where the instruction named stands, where what is left behind it does, and what is heard
+// up to the part's end.
+pub struct Cut {
     pub at: BitPlace,
     pub behind: BitPlace,
-    pub end: BitPlace,
+    pub heard: Heard,
 }
 
-// The places behind `i` entries, behind `r` more and behind `n` more.
-fn find_spot(msg: &[u8], next: BitPlace, i: usize, r: usize, n: usize) -> Spot
-    requires { ⌜ Within (now msg) (next .0) ⌝ }
-    requires { ⌜ SomeTable (now msg) (next .0) (i + r + n) ⌝ }
-    ensures { λ s. ⌜ ((t : List ℕ) → TableAt (now (msg .entry)) (next .0) t → i + r + n ≤ length t → SpotIn t (next .0) i r n (s .at .0) (s .behind .0) (s .end .0)) ⌝ }
+// Hears the part of a header as an edit at instruction `i` changes it. Its instructions stand at the place handed in.
+fn hear_edited(msg: &[u8], from: Heard, cell: u32, edit: Edit, i: u32, notes: &mut [u32]) -> Cut
+    requires { ⌜ BodyAt (now msg) (from .place .0) (cell % 256) (bodyIn (now msg) (from .place .0) (cell % 256)) (behindIn (now msg) (from .place .0) (cell % 256)) ⌝ }
+    requires { ⌜ (i + removedOf edit ≤ cell % 256) × (cell % 256 - removedOf edit + length (carried edit) ≤ 255) × (from .count .entries ≤ 971550) × (length (now notes) ≡ 4) ⌝ }
+    ensures { λ r. ⌜ CutOf (bodyIn (now (msg .entry)) (from .place .0) (cell % 256)) edit cell i from (now (notes .entry)) (now (notes .exit)) r ⌝ }
 {
-    let at = skip(msg, next, i);
-    let behind = skip(msg, at, r);
-    let end = skip(msg, behind, n);
-    Spot { at, behind, end }
+    let r = removed(edit);
+    let place = from.place;
+    let count = from.count;
+    let ahead = go_over(msg, place, i);
+    let at = ahead.at;
+    let taken = go_over(msg, at, r);
+    let behind = taken.at;
+    let rest = go_over(msg, behind, cell % 256 - i - r);
+    let own = ahead.notes + carried_notes(edit) + rest.notes;
+    notes[(cell / 4096 % 4) as usize] = own;
+    let end = rest.at;
+    let heard = Heard {
+        place: end,
+        count: count.with(own, cell / 256 % 16),
+    };
+    Cut { at, behind, heard }
 }
 
 // ---- copying
@@ -283,6 +372,13 @@ fn put_piece(
     bits::put(out, s, piece.width, piece.value)
 }
 
+// Where an instruction stands, where what is left behind it does, and where the patterns end.
+pub struct Spot {
+    pub at: BitPlace,
+    pub behind: BitPlace,
+    pub end: BitPlace,
+}
+
 // Then the bits behind it up to the patterns' end, filler and the end octet.
 fn build(
     msg: &[u8],
@@ -363,7 +459,28 @@ fn ground(edit: Edit, i: usize, n: usize) -> u32
     12
 }
 
-// Why an edit is refused, or what is put where.
+// What is known of a changed message before it is built: the place of its first pattern, how many there are, and the
+// entries of their list and its return mark.
+pub struct Outline {
+    pub first: BitPlace,
+    pub patterns: u32,
+    pub entries: u32,
+    pub mark: u32,
+}
+
+// The outline of so many patterns whose list was counted.
+fn outlined(first: BitPlace, patterns: u32, count: Count) -> Outline
+    ensures { λ r. ⌜ (r .first ≡ first) × (r .patterns ≡ patterns) × (r .entries ≡ count .entries) × (r .mark ≡ count .mark) ⌝ }
+{
+    Outline {
+        first,
+        patterns,
+        entries: count.entries,
+        mark: count.mark,
+    }
+}
+
+// Why an edit is refused, or what is put where, and what the changed message is then.
 pub enum Plan {
     Halt(u32),
     Go {
@@ -371,43 +488,47 @@ pub enum Plan {
         cell: u32,
         spot: Spot,
         piece: Piece,
+        outline: Outline,
     },
 }
 
-// The plan of an edit of an accepted message of so many patterns and entries, whose first pattern stands at a place.
-fn plan_edit(
-    msg: &[u8],
-    first: BitPlace,
-    patterns: usize,
-    entries: usize,
-    edit: Edit,
-    k: usize,
-    i: usize,
-) -> Plan
+// The plan of an edit of an accepted message of so many patterns, of which the first stands at a place.
+fn plan_edit(msg: &[u8], first: BitPlace, patterns: u32, edit: Edit, k: usize, i: usize) -> Plan
     requires { ⌜ Within (now msg) (first .0) ⌝ }
-    requires { ⌜ Known (now msg) (first .0) patterns entries ⌝ }
+    requires { ⌜ Known (now msg) (first .0) patterns ⌝ }
     ensures { λ r. ⌜ Plans (now (msg .entry)) edit k i r ⌝ }
 {
     if !carries_new(edit) {
         return Plan::Halt(6);
     }
-    if patterns <= k {
+    if patterns as usize <= k {
         return Plan::Halt(12);
     }
-    let h = find_header(msg, first, k);
-    let fault = ground(edit, i, (h.cell % 256) as usize);
+    let mut notes = [0u32; 4];
+    let before = hear(msg, unheard(first), k as u32, &mut notes);
+    let header = before.place;
+    let head = reading::entry_at(msg, header);
+    let cell = head.cell;
+    let fault = ground(edit, i, (cell % 256) as usize);
     if fault != 0 {
         return Plan::Halt(fault);
     }
-    let r = removed(edit);
-    let header = h.at;
-    let next = h.next;
-    let spot = find_spot(msg, next, i, r, entries - h.ahead - 1 - i - r);
+    let place = head.next;
+    let count = before.count;
+    let body = Heard { place, count };
+    let cut = hear_edited(msg, body, cell, edit, i as u32, &mut notes);
+    let heard = cut.heard;
+    let after = hear(msg, heard, patterns - k as u32 - 1, &mut notes);
+    let at = cut.at;
+    let behind = cut.behind;
+    let end = after.place;
+    let total = after.count;
     Plan::Go {
         header,
-        cell: h.cell + added(edit) - r as u32,
-        spot,
+        cell: cell + added(edit) - removed(edit),
+        spot: Spot { at, behind, end },
         piece: carried_piece(edit),
+        outline: outlined(first, patterns, total),
     }
 }
 
@@ -434,43 +555,37 @@ fn clear(buf: &mut [u8], from: OctetCount, to: OctetCount)
     }
 }
 
-// Puts a message that was built, and its list, in place of the old ones; or the list refuses, and nothing changes.
-fn finish(buf: &mut [u8], used: OctetCount, new: &[u8], list: &mut [u32]) -> Answer
+// Puts a message that was built, and its list, in place of the old ones; or the list refuses, and nothing changes. What
+// the list comes to was counted on the way over the old message.
+fn finish(
+    buf: &mut [u8],
+    used: OctetCount,
+    new: &[u8],
+    outline: Outline,
+    list: &mut [u32],
+) -> Answer
     requires { ⌜ (used .0 ≤ length (now buf)) × (used .0 ≤ 4096) × (length (now new) ≤ length (now buf)) × (length (now new) ≤ 4096) ⌝ }
+    requires { ⌜ Written (now new) outline ⌝ }
     ensures { λ r. ⌜ ((t : Tone) → WellFormed t → toneOctets t ≡ now (new .entry) → Leaves (withList (length (now (list .entry))) (accepted t)) (used .0) (now (buf .entry)) (now (list .entry)) (now (buf .exit)) (now (list .exit)) r) ⌝ }
 {
-    match judging::judge(new) {
-        Judged::Faulty { number, at: fault } => Answer::Refused {
-            number,
-            place: fault,
-        },
-        Judged::Sound {
-            song: _,
-            at,
-            octets: _,
-            patterns,
-            table: _,
-            list: entries,
-            mark,
-            unicode: _,
-        } => {
-            if list.len() / 2 < entries as usize {
-                return Answer::Refused {
-                    number: 11,
-                    place: BitPlace(0),
-                };
-            }
-            playing::fill_list(new, at, patterns, list);
-            let length = OctetCount(new.len());
-            copy_octets(new, length, buf);
-            clear(buf, length, used);
-            Answer::Edited {
-                length,
-                entries,
-                mark,
-                change: change(length, used),
-            }
-        }
+    let first = outline.first;
+    let entries = outline.entries;
+    let mark = outline.mark;
+    if list.len() / 2 < entries as usize {
+        return Answer::Refused {
+            number: 11,
+            place: BitPlace(0),
+        };
+    }
+    playing::fill_list(new, first, outline.patterns, list);
+    let length = OctetCount(new.len());
+    copy_octets(new, length, buf);
+    clear(buf, length, used);
+    Answer::Edited {
+        length,
+        entries,
+        mark,
+        change: change(length, used),
     }
 }
 
@@ -482,30 +597,26 @@ fn carry_out(
     cell: u32,
     spot: Spot,
     piece: Piece,
+    outline: Outline,
     list: &mut [u32],
 ) -> Answer
     requires { ⌜ (used .0 ≤ length (now buf)) × (used .0 ≤ 4096) × CanBuild (take (used .0) (now buf)) (header .0) cell (spot .at .0) (spot .behind .0) (spot .end .0) (piece .width) (piece .value) ⌝ }
+    requires { ⌜ Spelt (joined (bitsOf (take (used .0) (now buf))) (header .0) cell (spot .at .0) (piece .width) (piece .value) (spot .behind .0) (spot .end .0)) outline ⌝ }
     ensures { λ r. ⌜ ((t : Tone) → Formed t → joined (bitsOf (take (used .0) (now (buf .entry)))) (header .0) cell (spot .at .0) (piece .width) (piece .value) (spot .behind .0) (spot .end .0) ≡ songBits t → Leaves (withList (length (now (list .entry))) (inBuffer (length (now (buf .entry))) t)) (used .0) (now (buf .entry)) (now (list .entry)) (now (buf .exit)) (now (list .exit)) r) ⌝ }
 {
     let end = spot.at.0 + piece.width as usize + (spot.end.0 - spot.behind.0);
     let length = bits::octets_to(BitPlace(end)).0 + 1;
     if 4096 < length {
-        return Answer::Refused {
-            number: 1,
-            place: BitPlace(0),
-        };
+        return halted(1);
     }
     if buf.len() < length {
-        return Answer::Refused {
-            number: 11,
-            place: BitPlace(0),
-        };
+        return halted(11);
     }
     let mut scratch = [0u8; 4096];
     let old = used.0;
     let n = build(&buf[..old], header, cell, spot, piece, &mut scratch);
     let new = n.0;
-    finish(buf, used, &scratch[..new], list)
+    finish(buf, used, &scratch[..new], outline, list)
 }
 
 // An edit's own grounds are placed at 0.
@@ -531,10 +642,7 @@ pub fn edit_message(
 {
     let old = used.0;
     if buf.len() < old {
-        return Answer::Refused {
-            number: 1,
-            place: BitPlace(0),
-        };
+        return halted(1);
     }
     match judging::judge(&buf[..old]) {
         Judged::Faulty { number, at: fault } => Answer::Refused {
@@ -546,27 +654,20 @@ pub fn edit_message(
             at,
             octets: _,
             patterns,
-            table: entries,
+            table: _,
             list: _,
             mark: _,
             unicode: _,
         } => {
-            match plan_edit(
-                &buf[..old],
-                at,
-                patterns as usize,
-                entries as usize,
-                edit,
-                pattern,
-                instruction,
-            ) {
+            match plan_edit(&buf[..old], at, patterns, edit, pattern, instruction) {
                 Plan::Halt(number) => halted(number),
                 Plan::Go {
                     header,
                     cell,
                     spot,
                     piece,
-                } => carry_out(buf, used, header, cell, spot, piece, list),
+                    outline,
+                } => carry_out(buf, used, header, cell, spot, piece, outline, list),
             }
         }
     }

@@ -41,7 +41,7 @@ table-one : (t : ℕ) (p : Pattern) (ps : List Pattern) → t + entries (p ∷ p
 table-one t p ps = rw (length-append (p .body) (cells ps)) (omega arith)
 
 -- one pattern
-resumed-one : (t : ℕ) (c : Count) (bodies : List Remembered) (p : Pattern) (ps : List Pattern)
+pub resumed-one : (t : ℕ) (c : Count) (bodies : List Remembered) (p : Pattern) (ps : List Pattern)
     → resumed t c bodies (p ∷ ps) ≡ resumed (t + (1 + length (p .body))) (counted c (notes (bodyOf bodies p)) (p .loop)) (remember bodies p) ps
 unfolding counted
 resumed-one t c bodies p ps = rw (table-one t p ps) (go (c .ended) (eqb (p .loop) 15))
@@ -80,13 +80,13 @@ tally-step k t c bodies seen l p {h} {q} {b} {r} e f =
 
 -- ---- the notes of the four bodies
 
-abbrev notesOf : Remembered → ℕ
+abbrev pub notesOf : Remembered → ℕ
 notesOf r = notes (recalled r)
 
-abbrev allNotes : List Remembered → List ℕ
+abbrev pub allNotes : List Remembered → List ℕ
 allNotes = map notesOf
 
-set-notes : (bodies : List Remembered) (i : ℕ) (r : Remembered) → set (allNotes bodies) i (notesOf r) ≡ allNotes (set bodies i r)
+pub set-notes : (bodies : List Remembered) (i : ℕ) (r : Remembered) → set (allNotes bodies) i (notesOf r) ≡ allNotes (set bodies i r)
 set-notes [] i r = refl
 set-notes (x ∷ bodies) zero r = refl
 set-notes (x ∷ bodies) (suc i) r = ap (λ (l : List ℕ). notesOf x ∷ l) (set-notes bodies i r)
@@ -126,7 +126,7 @@ module _ (c : Count) (k v : ℕ) {r : ℕ} (h : c .ended ≡ false) (l : (r ≡ 
 
 pub ruleset counts = (count-ended, count-last, count-more)
 
-counted-most : (c : Count) (k v : ℕ) → k ≤ 255 → v ≤ 15 → counted c k v .entries ≤ c .entries + 3825
+pub counted-most : (c : Count) (k v : ℕ) → k ≤ 255 → v ≤ 15 → counted c k v .entries ≤ c .entries + 3825
 unfolding counted
 counted-most c k v h l =
     let m = notes-times k (passesOf v) h (passes-most v (omega arith)) in
@@ -134,17 +134,17 @@ counted-most c k v h l =
     pick-elim (λ (d : Count). d .entries ≤ c .entries + 3825) (eqb v 15) (λ _. omega arith) (λ _. omega arith))
 
 -- while listing goes on there is no mark
-abbrev Unmarked : Count → Type 0
+abbrev pub Unmarked : Count → Type 0
 Unmarked c = c .ended ≡ false → c .mark ≡ noMark
 
-counted-unmarked : (c : Count) (k v : ℕ) → Unmarked c → Unmarked (counted c k v)
+pub counted-unmarked : (c : Count) (k v : ℕ) → Unmarked c → Unmarked (counted c k v)
 unfolding counted
 counted-unmarked c k v h = pick-elim Unmarked (c .ended) (λ _. h) (λ e. pick-elim Unmarked (eqb v 15) (λ _ z. absurd (true-false z)) (λ _ _. h e))
   where
     true-false : true ≡ false → ⊥
     true-false z = let y : _≡_ {A = ℕ} 0 1 = cc in omega arith
 
-resumed-none : (t : ℕ) (c : Count) (bodies : List Remembered) → Unmarked c → resumed t c bodies [] ≡ record { table = t; list = c .entries; mark = c .mark }
+pub resumed-none : (t : ℕ) (c : Count) (bodies : List Remembered) → Unmarked c → resumed t c bodies [] ≡ record { table = t; list = c .entries; mark = c .mark }
 resumed-none t c bodies h =
     pick-elim (λ (v : Total). v ≡ record { table = t; list = c .entries; mark = c .mark }) (c .ended)
     (λ _. λ i. record { table = add-zero t i; list = c .entries; mark = c .mark })

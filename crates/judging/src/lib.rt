@@ -111,7 +111,7 @@ fn mark_of(n: u32, notes: u32) -> u32
 
 impl Count {
     // Nothing is counted.
-    fn none() -> Count
+    pub fn none() -> Count
         ensures { λ r. ⌜ r ≡ noCount ⌝ }
     {
         Count {
@@ -122,7 +122,7 @@ impl Count {
     }
 
     // One pattern more, of so many notes and this loop value.
-    fn with(self, notes: u32, value: u32) -> Count
+    pub fn with(self, notes: u32, value: u32) -> Count
         requires { ⌜ (self .entries ≤ 971550) × (notes ≤ 255) × (value ≤ 15) ⌝ }
         ensures { λ r. ⌜ r ≡ countedOf self notes value ⌝ }
     {
@@ -146,7 +146,7 @@ impl Count {
 }
 
 // The notes of the body that a header sounds: its own, or those of the part recalled.
-fn sounding(recalled: u32, header: u32, own: u32) -> u32
+pub fn sounding(recalled: u32, header: u32, own: u32) -> u32
     ensures { λ r. ⌜ r ≡ pick (eqb (specifier header) 0) recalled own ⌝ }
 {
     if header % 256 == 0 { recalled } else { own }
