@@ -170,14 +170,6 @@ fn over_few(msg: &[u8], from: Gone, n: u32) -> Gone
     gone
 }
 
-// How many of the instructions to come one sight is for.
-fn turn(left: u32) -> u32
-    requires { ⌜ 0 < left ⌝ }
-    ensures { λ r. ⌜ (0 < r) × (r ≤ 4) × (r ≤ left) ⌝ }
-{
-    if left < 4 { left } else { 4 }
-}
-
 // Goes over the `n` instructions that stand at a place.
 fn go_over(msg: &[u8], at: BitPlace, n: u32) -> Gone
     requires { ⌜ BodyAt (now msg) (at .0) n (bodyIn (now msg) (at .0) n) (behindIn (now msg) (at .0) n) ⌝ }
@@ -186,7 +178,7 @@ fn go_over(msg: &[u8], at: BitPlace, n: u32) -> Gone
     let mut gone = Gone { at, notes: 0 };
     let mut left = n;
     while 0 < left {
-        let k = turn(left);
+        let k = reading::turn(left);
         gone = over_few(msg, gone, k);
         left -= k;
     }
@@ -232,20 +224,13 @@ fn hear(msg: &[u8], from: Heard, n: u32, notes: &mut [u32]) -> Heard
     Heard { place, count }
 }
 
-// 1 for a note or pause, 0 for any other instruction.
-fn note_in(cell: u32) -> u32
-    ensures { λ r. ⌜ (r ≡ noteIn cell) × (r ≤ 1) ⌝ }
-{
-    if cell / 65536 == 1 { 1 } else { 0 }
-}
-
 // How many notes or pauses an edit puts.
 fn carried_notes(edit: Edit) -> u32
     ensures { λ r. ⌜ (r ≡ notesOf (carried edit)) × (r ≤ 1) ⌝ }
 {
     match edit {
-        Edit::Replace(cell) => note_in(cell),
-        Edit::Insert(cell) => note_in(cell),
+        Edit::Replace(cell) => reading::note_in(cell),
+        Edit::Insert(cell) => reading::note_in(cell),
         Edit::Delete => 0,
     }
 }

@@ -135,14 +135,6 @@ fn fill_few(msg: &[u8], n: u32, list: &mut [u32], lasts: &mut [u32], w: Walk) ->
     walk
 }
 
-// How many of the instructions to come one sight is for.
-fn turn(left: u32) -> u32
-    requires { ⌜ 0 < left ⌝ }
-    ensures { λ r. ⌜ (0 < r) × (r ≤ 4) × (r ≤ left) ⌝ }
-{
-    if left < 4 { left } else { 4 }
-}
-
 // Fills in one pass of the `n` instructions that stand at a place.
 fn fill_pass(
     msg: &[u8],
@@ -161,7 +153,7 @@ fn fill_pass(
     walk.at = from;
     let mut left = n;
     while 0 < left {
-        let k = turn(left);
+        let k = reading::turn(left);
         walk = fill_few(msg, k, list, lasts, walk);
         left -= k;
     }

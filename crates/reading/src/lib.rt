@@ -211,7 +211,7 @@ pub fn header(msg: &[u8], at: BitPlace, known: [bool; 4]) -> Step
 // ---- the patterns
 
 // 1 for a note or pause, 0 for any other instruction.
-fn note_in(cell: u32) -> u32
+pub fn note_in(cell: u32) -> u32
     ensures { λ r. ⌜ (r ≡ noteIn cell) × (r ≤ 1) ⌝ }
 {
     if cell / 65536 == 1 { 1 } else { 0 }
@@ -318,7 +318,7 @@ fn singly(msg: &[u8], at: BitPlace, n: u32, c: u32) -> Step
 }
 
 // How many of the instructions to come one sight holds.
-fn turn(more: u32) -> u32
+pub fn turn(more: u32) -> u32
     requires { ⌜ 0 < more ⌝ }
     ensures { λ r. ⌜ (1 ≤ r) × (r ≤ more) × (r ≤ 4) ⌝ }
 {
