@@ -23,7 +23,8 @@ use Rattle.reading.specs.Answers.{Within, noteIn, notes}
 use Rattle.reading.proofs.Standing.{onward-from, room}
 use Rattle.judging.proofs.Bodies.{notes-most}
 use Rattle.playing.specs.Filling.{bodyIn, behindIn, BodyAt, entrySeen}
-use Rattle.playing.proofs.Seeing.{seen-is, seen-kind, width-nine}
+use Rattle.reading.proofs.Seeing.{instruction-width}
+use Rattle.playing.proofs.Seeing.{seen-is, seen-kind}
 use Rattle.editing.specs.declared.Gone.{Gone}
 use Rattle.editing.proofs.Bodies.{instructions-take, instructions-drop}
 
@@ -214,7 +215,7 @@ module _ {m b : List ℕ} {at c : ℕ} {g : Gone} {left : ℕ} (f : FewWalk m b 
   bits = stands .here ∙ append-assoc (entryBits (first .0)) (tableBits (first .1)) (stands .behind)
 
   short : width (kind (first .0)) ≤ 9
-  short = width-nine (kind (first .0)) (stands .each .0 .some)
+  short = instruction-width (kind (first .0)) (stands .each .0 .some)
 
   module _ {x : ℕ} (sight : Sight 57 (drop at (bitsOf m)) x) where
     -- the sight from the place reached on

@@ -34,17 +34,6 @@ pub seen-note : (x : ℕ) → x / 2 ^ 61 ≡ 1 → payload (entrySeen x) ≡ x /
 unfolding width
 seen-note x h = seen-parts x .1 ∙ ap (λ (k : ℕ). x / 2 ^ (61 - width k) % 2 ^ width k) h
 
--- an instruction has at most nine bits behind its kind
-pub width-nine : (k : ℕ) → 1 ≤ k → width k ≤ 9
-unfolding width
-width-nine zero h = omega arith
-width-nine (suc zero) h = omega arith
-width-nine (suc (suc zero)) h = omega arith
-width-nine (suc (suc (suc zero))) h = omega arith
-width-nine (suc (suc (suc (suc zero)))) h = omega arith
-width-nine (suc (suc (suc (suc (suc zero))))) h = omega arith
-width-nine (suc (suc (suc (suc (suc (suc k)))))) h = omega arith
-
 -- each kind has some
 pub width-some : (k : ℕ) → k ≤ 5 → 1 ≤ width k
 unfolding width

@@ -26,7 +26,9 @@ use Rattle.playing.specs.Filling.{bodyIn, behindIn, BodyAt, entrySeen, R
 use Rattle.sounding.proofs.Packing.{length-numbers, numbers-append}
 use Rattle.sounding.proofs.Counts.{pass-count, passes-count}
 use Rattle.playing.proofs.Stepping.{ready-same}
-use Rattle.playing.proofs.Seeing.{seen-is, width-nine}
+use Rattle.reading.proofs.Seeing.{instruction-width}
+use Rattle.reading.proofs.Walks.{notes-more}
+use Rattle.playing.proofs.Seeing.{seen-is}
 
 -- ---- one thing after another
 
@@ -137,10 +139,6 @@ pass-append s (e ∷ a) b =
     let d = step s e in
     ap (ahead (d .entries)) (pass-append (d .after) a b) ∙ ahead-twice (d .entries) (pass (d .after) a .entries) (pass (pass (d .after) a .after) b)
 
-notes-append : (a b : List ℕ) → notes (a ++ b) ≡ notes a + notes b
-notes-append [] b = omega arith
-notes-append (e ∷ a) b = omega (arith, notes-append a b)
-
 -- ---- one pass
 
 -- with `left` instructions to come at the walk's place, of the body b that began behind the first i cells with the settings s
@@ -204,7 +202,7 @@ module _ {m : List ℕ} {s : Settings} {b : List ℕ} {i q : ℕ} {old new lasts
     pass-few = record { within = v .stands .within; short = omega (arith, h .1); reads = rw (split .first) refl }
 
     pub pass-fits : w .cells + 2 * notes (bodyIn m (w .at .0) k) ≤ length new
-    pass-fits = omega (arith, left-room, ap notes (split .body) ∙ notes-append (split .front) (split .others), ap notes front)
+    pass-fits = omega (arith, left-room, ap notes (split .body) ∙ notes-more (split .front) (split .others), ap notes front)
 
     pub pass-on : {new′ lasts′ : List ℕ} {w′ : Walk} → Advanced (w .cells) (pass (w .settings) (bodyIn m (w .at .0) k)) (behindIn m (w .at .0) k) new new′ lasts′ w′
         → PassWalk m s b i q old new′ lasts′ w′ (left - k)
@@ -261,7 +259,7 @@ module _ {m : List ℕ} {s : Settings} {b : List ℕ} {at i q : ℕ} {old new la
     taken = instruction-exact .sound (bitsOf m) (w .at .0) (rw (length-bitsOf m) (f .walked .stands .within .inside)) (head .first)
 
     short : width (kind (head .entry)) ≤ 9
-    short = width-nine (kind (head .entry)) (taken .good .some)
+    short = instruction-width (kind (head .entry)) (taken .good .some)
 
     module _ {x : ℕ} (sight : Sight 57 (drop at (bitsOf m)) x) where
       -- the sight from the walk's place on

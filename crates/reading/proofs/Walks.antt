@@ -197,7 +197,7 @@ body-more (suc j) k l p = let e : suc j + k ≡ suc (j + k) = omega arith in rw 
     first h (bad n q f) = refl
 
 -- the notes of two bodies in a row
-notes-more : (a b : List ℕ) → notes (a ++ b) ≡ notes a + notes b
+pub notes-more : (a b : List ℕ) → notes (a ++ b) ≡ notes a + notes b
 notes-more [] b = sym (zero-add (notes b))
 notes-more (e ∷ a) b = rw (notes-more a b) (sym (add-assoc (noteIn e) (notes a) (notes b)))
 
