@@ -5,8 +5,6 @@ pub mod Overs
 pub mod Hearings
 pub mod Cuts
 pub mod Recounts
-pub mod Copies
-pub mod Builds
 pub mod Rebuilt
 pub mod Changes
 pub mod Planning

@@ -15,7 +15,8 @@ use Rattle.tone.proofs.Rows.{length-entryBits, tableBits-append, header-small}
 use Rattle.reader.proofs.Told.{Told}
 use Rattle.editing.specs.declared.Edit.{Edit}
 use Rattle.editing.specs.Change.{carried, removed, bodyAfter, withBody, patternAt, changed, headerPlace}
-use Rattle.editing.specs.Places.{Puts, joined}
+use Rattle.building.specs.Anew.{joined}
+use Rattle.editing.specs.Places.{Puts}
 use Rattle.editing.proofs.Bodies.{sound-at, front-same}
 use Rattle.editing.proofs.Demand3.{cells-append}
 

@@ -18,7 +18,8 @@ use Rattle.editing.specs.declared.Plan.{Plan}
 use Rattle.editing.specs.declared.Plan.the-variants.{Halt, Go}
 use Rattle.editing.specs.Change.{inBody, empties, overfills, changed}
 use Rattle.editing.specs.Editing.{editTone}
-use Rattle.editing.specs.Places.{toneOf, Accepted, joined}
+use Rattle.building.specs.Anew.{joined}
+use Rattle.editing.specs.Places.{toneOf, Accepted}
 
 -- deleting a part's only instruction is 13, inserting into a part of 255 is 14, and anything else 0
 abbrev pub overdoneOf : Edit → ℕ → ℕ

@@ -1,12 +1,12 @@
-use Rattle.editing.proofs.copy_bits.Statement.{statement}
-use Rattle.editing.proofs.copy_bits.Tie as tie
+use Rattle.building.proofs.copy_bits.Statement.{statement}
+use Rattle.building.proofs.copy_bits.Tie as tie
 use borrow.Author.Needs.{needs}
 use Prim.Native.Nat.{_+_, _*_}
 use Rattle.bits.specs.Sink.{written}
-use Rattle.editing.proofs.Copies.{BitCopy, bits}
-use Rattle.editing.proofs.Copies.{bits-step}
+use Rattle.building.proofs.Copies.{BitCopy, bits}
+use Rattle.building.proofs.Copies.{bits-step}
 
--- `editing::copy_bits` meets its contract. Each turn copies 24 bits.
+-- `building::copy_bits` meets its contract. Each turn copies 24 bits.
 
 abbrev Inv-loop : tie.InvT-loop
 Inv-loop msg n out₀ s₀ place₀ left₀ out s place left = BitCopy msg place₀ n (written out₀ (s₀ .octets .0) (s₀ .n) (s₀ .acc)) (8 * s₀ .octets .0 + s₀ .n) out₀ place left out (s .octets .0) (s .n) (s .acc)

@@ -1,11 +1,11 @@
 use borrow.Author.Needs.{needs}
-use Rattle.editing.proofs.build.Statement.{statement}
-use Rattle.editing.proofs.build.Tie as tie
+use Rattle.building.proofs.build.Statement.{statement}
+use Rattle.building.proofs.build.Tie as tie
 use native.Mathlib.Omega.{arith}
 use Prim.Native.Nat.{_-_}
-use Rattle.editing.proofs.Builds.{begun-copy, begun-seal, length-pieced, length-joined}
+use Rattle.building.proofs.Builds.{begun-copy, begun-seal, length-pieced, length-joined}
 
--- `editing::build` meets its contract.
+-- `building::build` meets its contract.
 
 put-piece-requires : tie.Need-put-piece-requires
 put-piece-requires c κs = search needs

@@ -1,9 +1,9 @@
--- `editing::put_piece` meets its contract.
+-- `building::put_piece` meets its contract.
 use borrow.Author.Needs.{needs}
-use Rattle.editing.proofs.put_piece.Statement.{statement}
-use Rattle.editing.proofs.put_piece.Tie as tie
+use Rattle.building.proofs.put_piece.Statement.{statement}
+use Rattle.building.proofs.put_piece.Tie as tie
 use native.Mathlib.Omega.{arith}
-use Rattle.editing.proofs.Builds.{begun-put, length-reached}
+use Rattle.building.proofs.Builds.{begun-put, length-reached}
 
 put-ahead-requires : tie.Need-put-ahead-requires
 put-ahead-requires c κs = search needs

@@ -14,7 +14,7 @@ use Rattle.bits.specs.Sink.{written, InHand, Put, Sealed}
 use Rattle.bits.proofs.Numbers.{length-bits}
 use Rattle.bits.proofs.Octets.{length-bitsOf, bitsOf-append, octets-of, octets-take}
 use Rattle.tone.specs.Writing.{endBits}
-use Rattle.editing.specs.Places.{Begun, Built, headed, reached, pieced, joined}
+use Rattle.building.specs.Anew.{Begun, Built, headed, reached, pieced, joined}
 
 -- ---- the front
 

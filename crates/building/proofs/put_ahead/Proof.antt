@@ -1,11 +1,11 @@
 use borrow.Author.Needs.{needs}
-use Rattle.editing.proofs.put_ahead.Statement.{statement}
-use Rattle.editing.proofs.put_ahead.Tie as tie
+use Rattle.building.proofs.put_ahead.Statement.{statement}
+use Rattle.building.proofs.put_ahead.Tie as tie
 use native.Mathlib.Omega.{arith}
-use Rattle.editing.proofs.Builds.{begun-copy, length-headed}
+use Rattle.building.proofs.Builds.{begun-copy, length-headed}
 use Prim.Native.Nat.{_+_, _-_}
 
--- `editing::put_ahead` meets its contract.
+-- `building::put_ahead` meets its contract.
 
 put-header-requires : tie.Need-put-header-requires
 put-header-requires c κs = search needs

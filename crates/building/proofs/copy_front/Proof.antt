@@ -1,8 +1,8 @@
--- `editing::copy_front` meets its contract.
+-- `building::copy_front` meets its contract.
 use borrow.Author.Needs.{needs}
-use Rattle.editing.proofs.copy_front.Statement.{statement}
-use Rattle.editing.proofs.copy_front.Tie as tie
-use Rattle.editing.proofs.Builds.{front-is}
+use Rattle.building.proofs.copy_front.Statement.{statement}
+use Rattle.building.proofs.copy_front.Tie as tie
+use Rattle.building.proofs.Builds.{front-is}
 
 octets-before-requires : tie.Need-octets-before-requires
 octets-before-requires c κs = search needs

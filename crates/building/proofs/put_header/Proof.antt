@@ -1,9 +1,9 @@
--- `editing::put_header` meets its contract.
+-- `building::put_header` meets its contract.
 use borrow.Author.Needs.{needs}
-use Rattle.editing.proofs.put_header.Statement.{statement}
-use Rattle.editing.proofs.put_header.Tie as tie
+use Rattle.building.proofs.put_header.Statement.{statement}
+use Rattle.building.proofs.put_header.Tie as tie
 use native.Mathlib.Omega.{arith}
-use Rattle.editing.proofs.Builds.{begun-put, length-front}
+use Rattle.building.proofs.Builds.{begun-put, length-front}
 
 copy-front-requires : tie.Need-copy-front-requires
 copy-front-requires c κs = search needs

@@ -1,10 +1,10 @@
-use Rattle.editing.proofs.copy_octets.Statement.{statement}
-use Rattle.editing.proofs.copy_octets.Tie as tie
+use Rattle.building.proofs.copy_octets.Statement.{statement}
+use Rattle.building.proofs.copy_octets.Tie as tie
 use borrow.Author.Needs.{needs}
 use Prim.Native.Nat.{_-_}
-use Rattle.editing.proofs.Copies.{OctetCopy, octets}
+use Rattle.building.proofs.Copies.{OctetCopy, octets}
 
--- `editing::copy_octets` meets its contract. Each turn copies one octet.
+-- `building::copy_octets` meets its contract. Each turn copies one octet.
 
 abbrev Inv-loop : tie.InvT-loop
 Inv-loop from to₀ n i₀ to i = OctetCopy from n to₀ to i
