@@ -34,7 +34,7 @@ use Rattle.sounding.proofs.Bounds.{none-too-long}
 use Rattle.playing.proofs.Outcomes.{patterns-there, patterns-within}
 use Rattle.judging.specs.Bodies.{noBodies}
 use Rattle.judging.specs.Counting.{entryCount}
-use Rattle.editing.specs.declared.Edit.{Edit}
+use Rattle.changing.specs.declared.Edit.{Edit}
 use Rattle.editing.specs.declared.Answer.{Answer}
 use Rattle.editing.specs.declared.Answer.the-variants.{Edited as Made, Refused}
 use Rattle.building.specs.declared.Spot.{Spot}
@@ -42,7 +42,7 @@ use Rattle.building.specs.declared.Piece.{Piece}
 use Rattle.editing.specs.declared.Outline.{Outline}
 use Rattle.editing.specs.declared.Plan.{Plan}
 use Rattle.editing.specs.declared.Plan.the-variants.{Halt, Go}
-use Rattle.editing.specs.Change.{changed}
+use Rattle.changing.specs.Change.{changed}
 use Rattle.editing.specs.Editing.{Edited, editTone, inBuffer, beside, withList, andThen, editMessage, cleared, bufferAfter, listAfter}
 use Rattle.building.specs.Anew.{Built, joined}
 use Rattle.editing.specs.Places.{toneIn, toneOf}

@@ -1,6 +1,4 @@
-pub mod Bodies
 pub mod Demand3
-pub mod Pieces
 pub mod Overs
 pub mod Hearings
 pub mod Cuts

@@ -25,7 +25,7 @@ use Rattle.judging.proofs.Bodies.{notes-most}
 use Rattle.playing.specs.Filling.{bodyIn, behindIn, BodyAt, entrySeen}
 use Rattle.playing.proofs.Seeing.{seen-is, seen-kind, width-nine}
 use Rattle.editing.specs.declared.Gone.{Gone}
-use Rattle.editing.proofs.Bodies.{instructions-take, instructions-drop}
+use Rattle.changing.proofs.Bodies.{instructions-take, instructions-drop}
 
 -- ---- one instruction
 

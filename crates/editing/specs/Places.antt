@@ -1,20 +1,13 @@
--- What the code of an edit is told of places and pieces.
-use Prim.Native.Nat.{ℕ, _^_, _≤_, _<_}
+-- What the code of an edit is told of a message that is accepted.
+use Prim.Native.Nat.{ℕ}
 use mathlib.Core.Path.{_≡_}
 use mathlib.Core.Bool.{false}
 use mathlib.Core.List.{List, []}
 use lib.ListN.{length}
-use Rattle.bits.specs.Bits.{bitsN}
 use Rattle.bits.specs.Outcome.{Outcome, accepted, refused}
 use Rattle.tone.specs.Tone.{Tone, frontOf}
-use Rattle.tone.specs.Writing.{tableBits, frontBits}
+use Rattle.tone.specs.Writing.{frontBits}
 use Rattle.tone.specs.Reading.{readTone}
-
--- the entries t, in w bits that spell v
-pub record Puts (t : List ℕ) (w v : ℕ) : Type 0 where
-  pub short : w ≤ 17
-  pub small : v < 2 ^ w
-  pub bits : tableBits t ≡ bitsN w v
 
 -- the tone of a message that is accepted
 abbrev pub toneIn : Outcome Tone → Tone

@@ -1,16 +1,11 @@
 ghost use mathlib.Core.Path.{_≡_};
-ghost use mathlib.Core.Bool.{true, false};
-ghost use mathlib.Core.List.{[], _∷_};
 ghost use Prim.Native.Nat.{_+_, _-_, _%_, _^_, _≤_, _<_};
-ghost use lib.ListN.{length, take, drop};
-ghost use Rattle.bits.specs.Bits.{bitsOf, placeAfter, octetsTo};
-ghost use Rattle.bits.specs.Lent.{over};
-ghost use Rattle.bits.specs.Sink.{written, InHand, Put};
+ghost use lib.ListN.{length, take};
+ghost use Rattle.bits.specs.Bits.{bitsOf};
 ghost use Rattle.reading.specs.Answers.{Within, place};
-ghost use Rattle.editing.specs.Change.{isNew as isNewOf, carriesNew, carried, removed as removedOf, inBody};
+ghost use Rattle.changing.specs.Change.{carried, removed as removedOf};
 ghost use Rattle.tone.specs.Tone.{Tone};
 ghost use Rattle.building.specs.Anew.{joined};
-ghost use Rattle.editing.specs.Places.{Puts};
 ghost use lib.IntN.{pos, _-ℤ_};
 ghost use Rattle.bits.specs.Outcome.{accepted};
 ghost use Rattle.tone.specs.Tone.{Formed};
@@ -18,7 +13,7 @@ ghost use Rattle.tone.specs.Writing.{songBits, toneOctets, WellFormed};
 ghost use Rattle.editing.specs.Editing.{cleared, inBuffer, withList};
 ghost use Rattle.editing.specs.Promise.{Leaves, EditPromise};
 ghost use Rattle.editing.specs.declared.Answer.the-variants.{Refused};
-ghost use Rattle.editing.specs.Plan.{overdoneOf, groundOf, Known, CanBuild, Written, Spelt, Plans};
+ghost use Rattle.editing.specs.Plan.{Known, CanBuild, Written, Spelt, Plans};
 ghost use Rattle.tone.specs.Table.{Instruction};
 ghost use Rattle.tone.specs.Writing.{entryBits};
 ghost use Rattle.reading.specs.Answers.{noteIn, notes as notesOf};
@@ -29,15 +24,9 @@ use bits::BitPlace;
 use bits::OctetCount;
 use building::Piece;
 use building::Spot;
+use changing::Edit;
 use judging::Count;
 use judging::Judged;
-
-// What an edit does at an instruction: replace it, insert before it, or delete it. The new instruction is one table entry.
-pub enum Edit {
-    Replace(u32),
-    Insert(u32),
-    Delete,
-}
 
 // What an edit answers: the new length, the entries of the new list, its return mark and the change in octets; or the refusal.
 pub enum Answer {
@@ -51,73 +40,6 @@ pub enum Answer {
         number: u32,
         place: BitPlace,
     },
-}
-
-// ---- the new instruction
-
-// Is the entry an instruction of kind 1 to 5 whose code is in the table?
-fn is_new(cell: u32) -> bool
-    ensures { λ r. ⌜ r ≡ isNewOf cell ⌝ }
-{
-    let kind = cell / 65536;
-    let payload = cell % 65536;
-    if kind < 1 {
-        return false;
-    }
-    if 5 < kind {
-        return false;
-    }
-    if payload < 1u32 << reading::width(kind) {
-        return reading::allowed(kind, payload);
-    }
-    false
-}
-
-// Does the edit carry such an instruction, where it carries one?
-fn carries_new(edit: Edit) -> bool
-    ensures { λ r. ⌜ r ≡ carriesNew edit ⌝ }
-{
-    match edit {
-        Edit::Replace(cell) => is_new(cell),
-        Edit::Insert(cell) => is_new(cell),
-        Edit::Delete => true,
-    }
-}
-
-// The bits of an instruction.
-fn piece_of(cell: u32) -> Piece
-    requires { ⌜ isNewOf cell ≡ true ⌝ }
-    ensures { λ r. ⌜ Puts (cell ∷ []) (r .width) (r .value) ⌝ }
-{
-    let kind = cell / 65536;
-    let w = reading::width(kind);
-    Piece {
-        width: 3 + w,
-        value: (kind << w) + cell % 65536,
-    }
-}
-
-// The bits that an edit puts: those of its instruction, or none.
-fn carried_piece(edit: Edit) -> Piece
-    requires { ⌜ carriesNew edit ≡ true ⌝ }
-    ensures { λ r. ⌜ Puts (carried edit) (r .width) (r .value) ⌝ }
-{
-    match edit {
-        Edit::Replace(cell) => piece_of(cell),
-        Edit::Insert(cell) => piece_of(cell),
-        Edit::Delete => Piece { width: 0, value: 0 },
-    }
-}
-
-// How many instructions an edit takes away.
-fn removed(edit: Edit) -> u32
-    ensures { λ r. ⌜ (r ≡ removedOf edit) × (r ≤ 1) ⌝ }
-{
-    match edit {
-        Edit::Replace(_) => 1,
-        Edit::Insert(_) => 0,
-        Edit::Delete => 1,
-    }
 }
 
 // ---- going over a message
@@ -220,17 +142,6 @@ fn hear(msg: &[u8], from: Heard, n: u32, notes: &mut [u32]) -> Heard
     Heard { place, count }
 }
 
-// How many notes or pauses an edit puts.
-fn carried_notes(edit: Edit) -> u32
-    ensures { λ r. ⌜ (r ≡ notesOf (carried edit)) × (r ≤ 1) ⌝ }
-{
-    match edit {
-        Edit::Replace(cell) => reading::note_in(cell),
-        Edit::Insert(cell) => reading::note_in(cell),
-        Edit::Delete => 0,
-    }
-}
-
 // A part as an edit changes it: where the instruction named stands, where what is left behind it does, and what is heard
 // up to the part's end.
 pub struct Cut {
@@ -245,7 +156,7 @@ fn hear_edited(msg: &[u8], from: Heard, cell: u32, edit: Edit, i: u32, notes: &m
     requires { ⌜ (i + removedOf edit ≤ cell % 256) × (cell % 256 - removedOf edit + length (carried edit) ≤ 255) × (from .count .entries ≤ 971550) × (length (now notes) ≡ 4) ⌝ }
     ensures { λ r. ⌜ CutOf (bodyIn (now (msg .entry)) (from .place .0) (cell % 256)) edit cell i from (now (notes .entry)) (now (notes .exit)) r ⌝ }
 {
-    let r = removed(edit);
+    let r = changing::removed(edit);
     let place = from.place;
     let count = from.count;
     let ahead = go_over(msg, place, i);
@@ -253,7 +164,7 @@ fn hear_edited(msg: &[u8], from: Heard, cell: u32, edit: Edit, i: u32, notes: &m
     let taken = go_over(msg, at, r);
     let behind = taken.at;
     let rest = go_over(msg, behind, cell % 256 - i - r);
-    let own = ahead.notes + carried_notes(edit) + rest.notes;
+    let own = ahead.notes + changing::carried_notes(edit) + rest.notes;
     notes[(cell / 4096 % 4) as usize] = own;
     let end = rest.at;
     let heard = Heard {
@@ -264,62 +175,6 @@ fn hear_edited(msg: &[u8], from: Heard, cell: u32, edit: Edit, i: u32, notes: &m
 }
 
 // ---- the plan
-
-// How many instructions an edit puts.
-fn added(edit: Edit) -> u32
-    ensures { λ r. ⌜ (r ≡ length (carried edit)) × (r ≤ 1) ⌝ }
-{
-    match edit {
-        Edit::Replace(_) => 1,
-        Edit::Insert(_) => 1,
-        Edit::Delete => 0,
-    }
-}
-
-// Is the position that of one of `n` instructions? Insert at the count appends.
-fn in_body(edit: Edit, i: usize, n: usize) -> bool
-    ensures { λ r. ⌜ r ≡ inBody edit i n ⌝ }
-{
-    match edit {
-        Edit::Replace(_) => i < n,
-        Edit::Insert(_) => i <= n,
-        Edit::Delete => i < n,
-    }
-}
-
-// Deleting a part's only instruction is 13, inserting into a part of 255 is 14.
-fn overdone(edit: Edit, n: usize) -> u32
-    ensures { λ r. ⌜ r ≡ overdoneOf edit n ⌝ }
-{
-    match edit {
-        Edit::Replace(_) => 0,
-        Edit::Insert(_) => {
-            if n == 255 {
-                return 14;
-            }
-            0
-        }
-        Edit::Delete => {
-            if n == 1 {
-                return 13;
-            }
-            0
-        }
-    }
-}
-
-// The ground against an edit at position `i` of `n` instructions, 0 for none. A recall has none of its own.
-fn ground(edit: Edit, i: usize, n: usize) -> u32
-    ensures { λ r. ⌜ r ≡ groundOf edit i n ⌝ }
-{
-    if n < 1 {
-        return 12;
-    }
-    if in_body(edit, i, n) {
-        return overdone(edit, n);
-    }
-    12
-}
 
 // What is known of a changed message before it is built: the place of its first pattern, how many there are, and the
 // entries of their list and its return mark.
@@ -360,7 +215,7 @@ fn plan_edit(msg: &[u8], first: BitPlace, patterns: u32, edit: Edit, k: usize, i
     requires { ⌜ Known (now msg) (first .0) patterns ⌝ }
     ensures { λ r. ⌜ Plans (now (msg .entry)) edit k i r ⌝ }
 {
-    if !carries_new(edit) {
+    if !changing::carries_new(edit) {
         return Plan::Halt(6);
     }
     if patterns as usize <= k {
@@ -371,7 +226,7 @@ fn plan_edit(msg: &[u8], first: BitPlace, patterns: u32, edit: Edit, k: usize, i
     let header = before.place;
     let head = reading::entry_at(msg, header);
     let cell = head.cell;
-    let fault = ground(edit, i, (cell % 256) as usize);
+    let fault = changing::ground(edit, i, (cell % 256) as usize);
     if fault != 0 {
         return Plan::Halt(fault);
     }
@@ -387,9 +242,9 @@ fn plan_edit(msg: &[u8], first: BitPlace, patterns: u32, edit: Edit, k: usize, i
     let total = after.count;
     Plan::Go {
         header,
-        cell: cell + added(edit) - removed(edit),
+        cell: cell + changing::added(edit) - changing::removed(edit),
         spot: Spot { at, behind, end },
-        piece: carried_piece(edit),
+        piece: changing::carried_piece(edit),
         outline: outlined(first, patterns, total),
     }
 }

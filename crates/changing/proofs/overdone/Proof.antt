@@ -1,8 +1,8 @@
--- `editing::overdone` meets its contract.
+-- `changing::overdone` meets its contract.
 use borrow.Author.Needs.{needs}
-use Rattle.editing.proofs.overdone.Statement.{statement}
-use Rattle.editing.proofs.overdone.Tie as tie
-use Rattle.editing.proofs.Planning.{kinds}
+use Rattle.changing.proofs.overdone.Statement.{statement}
+use Rattle.changing.proofs.overdone.Tie as tie
+use Rattle.changing.proofs.Grounds.{kinds}
 
 enum-told : tie.Need-enum-told
 enum-told c = search needs

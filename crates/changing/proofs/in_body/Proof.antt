@@ -1,8 +1,8 @@
--- `editing::in_body` meets its contract.
+-- `changing::in_body` meets its contract.
 use borrow.Author.Needs.{needs}
-use Rattle.editing.proofs.in_body.Statement.{statement}
-use Rattle.editing.proofs.in_body.Tie as tie
-use Rattle.editing.proofs.Planning.{kinds}
+use Rattle.changing.proofs.in_body.Statement.{statement}
+use Rattle.changing.proofs.in_body.Tie as tie
+use Rattle.changing.proofs.Grounds.{kinds}
 
 enum-told : tie.Need-enum-told
 enum-told c = search needs

@@ -1,8 +1,8 @@
--- `editing::carried_notes` meets its contract.
+-- `changing::carried_notes` meets its contract.
 use borrow.Author.Needs.{needs}
-use Rattle.editing.proofs.carried_notes.Statement.{statement}
-use Rattle.editing.proofs.carried_notes.Tie as tie
-use Rattle.editing.proofs.Cuts.{noteds}
+use Rattle.changing.proofs.carried_notes.Statement.{statement}
+use Rattle.changing.proofs.carried_notes.Tie as tie
+use Rattle.changing.proofs.Pieces.{noteds}
 
 enum-known-edit : tie.Need-enum-known-edit
 enum-known-edit c = search needs

@@ -1,8 +1,8 @@
--- `editing::piece_of` meets its contract.
+-- `changing::piece_of` meets its contract.
 use borrow.Author.Needs.{needs}
-use Rattle.editing.proofs.piece_of.Statement.{statement}
-use Rattle.editing.proofs.piece_of.Tie as tie
-use Rattle.editing.proofs.Pieces.{pieces}
+use Rattle.changing.proofs.piece_of.Statement.{statement}
+use Rattle.changing.proofs.piece_of.Tie as tie
+use Rattle.changing.proofs.Pieces.{pieces}
 
 width-requires : tie.Need-width-requires
 width-requires c κs = search (pieces, needs)

@@ -1,4 +1,4 @@
--- The instruction that an edit carries: judged, and as bits.
+-- The instruction that an edit carries: judged, as bits, and its notes.
 use Prim.Native.Nat.{ℕ, zero, suc, _+_, _-_, _*_, _/_, _%_, _^_, _≤_, _<_}
 use native.Mathlib.Omega.{arith}
 use native.Mathlib.Nat.{lt-of-lt-of-le}
@@ -14,11 +14,12 @@ use Rattle.bits.specs.Bits.{bitsN}
 use Rattle.bits.proofs.Numbers.{bits-append, join-lt, shl-one}
 use Rattle.tone.specs.Table.{kind, payload, width, allowed, Instruction}
 use Rattle.tone.specs.Writing.{entryBits, tableBits}
-use Rattle.editing.specs.declared.Edit.{Edit}
-use Rattle.editing.specs.declared.Edit.the-variants.{Replace, Insert, Delete}
-use Rattle.editing.specs.Change.{isNew, carriesNew, carried}
-use Rattle.editing.specs.Places.{Puts}
-use Rattle.editing.proofs.Bodies.{new-instruction}
+use Rattle.reading.specs.Answers.{noteIn, notes}
+use Rattle.changing.specs.declared.Edit.{Edit}
+use Rattle.changing.specs.declared.Edit.the-variants.{Replace, Insert, Delete}
+use Rattle.changing.specs.Change.{isNew, carriesNew, carried}
+use Rattle.changing.specs.Answers.{Puts}
+use Rattle.changing.proofs.Bodies.{new-instruction}
 
 -- ---- what each return of `is_new` shows
 
@@ -100,3 +101,16 @@ module _ (e : ℕ) (h : isNew e ≡ true) where
         }
 
 pub ruleset pieces = (piece-kind, piece-fits, piece-is)
+
+-- ---- the notes that an edit puts
+
+pub notes-replace : (ed : Edit) {e n : ℕ} → ed ≡ Replace e → n ≡ noteIn e → n ≡ notes (carried ed)
+notes-replace ed g h = rw g (omega (arith, h))
+
+pub notes-insert : (ed : Edit) {e n : ℕ} → ed ≡ Insert e → n ≡ noteIn e → n ≡ notes (carried ed)
+notes-insert ed g h = rw g (omega (arith, h))
+
+pub notes-delete : (ed : Edit) → ed ≡ Delete → _≡_ {A = ℕ} 0 (notes (carried ed))
+notes-delete ed g = rw g refl
+
+pub ruleset noteds = (notes-replace, notes-insert, notes-delete)

@@ -14,9 +14,9 @@ use Rattle.bits.specs.Choice.{pick}
 use Rattle.tone.specs.Table.{kind, payload, width, allowed, isInstruction, InTable, Instruction}
 use Rattle.tone.specs.Tone.{Pattern, Tone, Front, frontOf, specifier, partOf, header, recallable, learn, noneKnown, Instructions, Sound, Sequence, Formed}
 use Rattle.tone.proofs.Rows.{and-true, is-instruction, header-small}
-use Rattle.editing.specs.declared.Edit.{Edit}
-use Rattle.editing.specs.declared.Edit.the-variants.{Replace, Insert, Delete}
-use Rattle.editing.specs.Change.{carried, removed, bodyAfter, withBody, patternAt, patternsAfter, changed, isNew, carriesNew, inBody, isThere, empties, overfills}
+use Rattle.changing.specs.declared.Edit.{Edit}
+use Rattle.changing.specs.declared.Edit.the-variants.{Replace, Insert, Delete}
+use Rattle.changing.specs.Change.{carried, removed, bodyAfter, withBody, patternAt, patternsAfter, changed, isNew, carriesNew, inBody, isThere, empties, overfills}
 
 -- ---- instructions
 

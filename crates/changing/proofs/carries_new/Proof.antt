@@ -1,8 +1,8 @@
--- `editing::carries_new` meets its contract.
+-- `changing::carries_new` meets its contract.
 use borrow.Author.Needs.{needs}
-use Rattle.editing.proofs.carries_new.Statement.{statement}
-use Rattle.editing.proofs.carries_new.Tie as tie
-use Rattle.editing.proofs.Pieces.{carries}
+use Rattle.changing.proofs.carries_new.Statement.{statement}
+use Rattle.changing.proofs.carries_new.Tie as tie
+use Rattle.changing.proofs.Pieces.{carries}
 
 enum-known-edit : tie.Need-enum-known-edit
 enum-known-edit c = search needs

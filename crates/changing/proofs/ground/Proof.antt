@@ -1,8 +1,8 @@
--- `editing::ground` meets its contract.
+-- `changing::ground` meets its contract.
 use borrow.Author.Needs.{needs}
-use Rattle.editing.proofs.ground.Statement.{statement}
-use Rattle.editing.proofs.ground.Tie as tie
-use Rattle.editing.proofs.Planning.{grounds}
+use Rattle.changing.proofs.ground.Statement.{statement}
+use Rattle.changing.proofs.ground.Tie as tie
+use Rattle.changing.proofs.Grounds.{grounds}
 
 returns : tie.Need-returns
 returns c = search (grounds, needs)

@@ -7,8 +7,8 @@ use lib.Dec.{leb, ltb, eqb}
 use Rattle.tone.specs.Table.{kind, payload, width, allowed, isInstruction}
 use Rattle.tone.specs.Tone.{Pattern, Tone, frontOf, cells}
 use Rattle.tone.specs.Writing.{tableBits, frontBits}
-use Rattle.editing.specs.declared.Edit.{Edit}
-use Rattle.editing.specs.declared.Edit.the-variants.{Replace, Insert, Delete}
+use Rattle.changing.specs.declared.Edit.{Edit}
+use Rattle.changing.specs.declared.Edit.the-variants.{Replace, Insert, Delete}
 
 -- the instruction that an edit puts: replace and insert carry one, delete none
 abbrev pub carried : Edit → List ℕ

@@ -1,8 +1,8 @@
--- `editing::is_new` meets its contract.
+-- `changing::is_new` meets its contract.
 use borrow.Author.Needs.{needs}
-use Rattle.editing.proofs.is_new.Statement.{statement}
-use Rattle.editing.proofs.is_new.Tie as tie
-use Rattle.editing.proofs.Pieces.{news}
+use Rattle.changing.proofs.is_new.Statement.{statement}
+use Rattle.changing.proofs.is_new.Tie as tie
+use Rattle.changing.proofs.Pieces.{news}
 
 returns : tie.Need-returns
 returns c = search (news, needs)

@@ -1,8 +1,8 @@
--- `editing::carried_piece` meets its contract.
+-- `changing::carried_piece` meets its contract.
 use borrow.Author.Needs.{needs}
-use Rattle.editing.proofs.carried_piece.Statement.{statement}
-use Rattle.editing.proofs.carried_piece.Tie as tie
-use Rattle.editing.proofs.Pieces.{puts}
+use Rattle.changing.proofs.carried_piece.Statement.{statement}
+use Rattle.changing.proofs.carried_piece.Tie as tie
+use Rattle.changing.proofs.Pieces.{puts}
 
 enum-known-edit : tie.Need-enum-known-edit
 enum-known-edit c = search needs
