@@ -25,10 +25,10 @@ use Rattle.playing.specs.Promise.{listAnswer, cellsAfter, ListPromise}
 use Rattle.sounding.proofs.Bounds.{none-too-long}
 use Rattle.sounding.proofs.Packing.{length-numbers}
 use borrow.Author.Tests.{le-leb}
-use Rattle.editing.specs.declared.Edit.{Edit}
+use Rattle.changing.specs.declared.Edit.{Edit}
 use Rattle.editing.specs.declared.Answer.{Answer}
 use Rattle.editing.specs.declared.Answer.the-variants.{Edited as Made, Refused}
-use Rattle.editing.specs.Change.{patternAt, changed, headerPlace, instructionPlace}
+use Rattle.changing.specs.Change.{patternAt, changed, headerPlace, instructionPlace}
 use Rattle.editing.specs.Editing.{Edited, bodyLength, editMessage, bufferAfter, listAfter}
 use Rattle.editing.specs.Promise.{Numbers, numbersOf, editNumbers, editAnswer, EditPromise}
 use Rattle.editing.proofs.Demand3.{unchanged, edit-formed, edit-reads-again}

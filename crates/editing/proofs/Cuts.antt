@@ -7,32 +7,18 @@ use lib.ListN.{length, take, drop, set, length-drop}
 use lib.Seq.{length-take-le, drop-drop}
 use Rattle.tone.specs.Tone.{loopOf, partOf}
 use Rattle.tone.specs.Writing.{tableBits}
-use Rattle.reading.specs.Answers.{noteIn, notes}
+use Rattle.reading.specs.Answers.{notes}
 use Rattle.judging.specs.declared.Count.{Count}
 use Rattle.judging.specs.Counting.{counted}
 use Rattle.judging.proofs.Bodies.{notes-most}
 use Rattle.playing.specs.Filling.{bodyIn, behindIn, BodyAt}
-use Rattle.editing.specs.declared.Edit.{Edit}
-use Rattle.editing.specs.declared.Edit.the-variants.{Replace, Insert, Delete}
+use Rattle.changing.specs.declared.Edit.{Edit}
 use Rattle.editing.specs.declared.Gone.{Gone}
 use Rattle.editing.specs.declared.Heard.{Heard}
-use Rattle.editing.specs.Change.{carried, removed, bodyAfter}
+use Rattle.changing.specs.Change.{carried, removed, bodyAfter}
 use Rattle.editing.specs.Hearing.{CutOf}
-use Rattle.editing.proofs.Bodies.{length-after}
+use Rattle.changing.proofs.Bodies.{length-after}
 use Rattle.editing.proofs.Overs.{Standing, known-of, read-of, body-of, take-stands, drop-stands, bits-cut, notes-append}
-
--- ---- the notes that an edit puts
-
-pub notes-replace : (ed : Edit) {e n : ℕ} → ed ≡ Replace e → n ≡ noteIn e → n ≡ notes (carried ed)
-notes-replace ed g h = rw g (omega (arith, h))
-
-pub notes-insert : (ed : Edit) {e n : ℕ} → ed ≡ Insert e → n ≡ noteIn e → n ≡ notes (carried ed)
-notes-insert ed g h = rw g (omega (arith, h))
-
-pub notes-delete : (ed : Edit) → ed ≡ Delete → _≡_ {A = ℕ} 0 (notes (carried ed))
-notes-delete ed g = rw g refl
-
-pub ruleset noteds = (notes-replace, notes-insert, notes-delete)
 
 -- ---- a stretch of a body
 

@@ -22,11 +22,11 @@ use Rattle.tone.specs.Writing.{entryBits, tableBits, frontBits, songBits, endBi
 use Rattle.tone.specs.Reading.{readTone}
 use Rattle.tone.proofs.Rows.{and-true, tableBits-append, header-small}
 use Rattle.tone.proofs.Demand2.{written-is-accepted}
-use Rattle.editing.specs.declared.Edit.{Edit}
-use Rattle.editing.specs.declared.Edit.the-variants.{Replace, Insert, Delete}
-use Rattle.editing.specs.Change.{carried, removed, bodyAfter, withBody, patternAt, patternsAfter, changed, isNew, carriesNew, inBody, isThere, empties, overfills, headerPlace, instructionPlace}
+use Rattle.changing.specs.declared.Edit.{Edit}
+use Rattle.changing.specs.declared.Edit.the-variants.{Replace, Insert, Delete}
+use Rattle.changing.specs.Change.{carried, removed, bodyAfter, withBody, patternAt, patternsAfter, changed, isNew, carriesNew, inBody, isThere, empties, overfills, headerPlace, instructionPlace}
 use Rattle.editing.specs.Editing.{bodyLength, editTone}
-use Rattle.editing.proofs.Bodies.{Fits, fits, carried-instructions, changed-formed, sound-at, front-same}
+use Rattle.changing.proofs.Bodies.{Fits, fits, carried-instructions, changed-formed, sound-at, front-same}
 
 -- ---- the bits ahead of the edited instruction
 

@@ -19,8 +19,8 @@ use Rattle.tone.proofs.Demand2.{Says, read-says, core-reads}
 use Rattle.sounding.specs.Playing.{Listing, playingList}
 use Rattle.sounding.specs.Listing.{anyTooLong, fitsNumbers}
 use Rattle.sounding.proofs.Bounds.{none-too-long}
-use Rattle.editing.specs.declared.Edit.{Edit}
-use Rattle.editing.specs.Change.{changed}
+use Rattle.changing.specs.declared.Edit.{Edit}
+use Rattle.changing.specs.Change.{changed}
 use Rattle.editing.specs.Editing.{Edited, editTone, inBuffer, beside, withList, andThen, editMessage}
 use Rattle.editing.proofs.Demand3.{Grounds, edit-accepts, edit-grounds, edit-formed}
 

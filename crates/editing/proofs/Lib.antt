@@ -1,12 +1,8 @@
-pub mod Bodies
 pub mod Demand3
-pub mod Pieces
 pub mod Overs
 pub mod Hearings
 pub mod Cuts
 pub mod Recounts
-pub mod Copies
-pub mod Builds
 pub mod Rebuilt
 pub mod Changes
 pub mod Planning

@@ -1,17 +1,16 @@
 -- Where two grounds against an edit meet, which of them is given.
 use Prim.Native.Nat.{ℕ, _≤_, _<_}
 use mathlib.Core.Path.{_≡_, refl}
-use mathlib.Core.Bool.{Bool, true, false, _&&_}
-use mathlib.Core.List.{List, []}
+use mathlib.Core.Bool.{true, false}
+use mathlib.Core.List.{List}
 use lib.ListN.{length, take}
-use lib.Dec.{ltb}
 use borrow.Author.Tests.{le-leb, lt-leb}
-use Rattle.bits.specs.Outcome.{Outcome, accepted, refused}
-use Rattle.tone.specs.Tone.{Pattern, Tone}
+use Rattle.bits.specs.Outcome.{refused}
+use Rattle.tone.specs.Tone.{Tone}
 use Rattle.tone.specs.Writing.{toneLength, mostOctets}
 use Rattle.tone.specs.Reading.{readTone}
-use Rattle.editing.specs.declared.Edit.{Edit}
-use Rattle.editing.specs.Change.{patternAt, carriesNew, isThere, empties, overfills}
+use Rattle.changing.specs.declared.Edit.{Edit}
+use Rattle.changing.specs.Change.{carriesNew, isThere, empties, overfills}
 use Rattle.editing.specs.Editing.{bodyLength, editTone, inBuffer, editMessage}
 
 -- ---- the message
@@ -46,14 +45,6 @@ module _ (ed : Edit) (k i : ℕ) (t : Tone) where
 
       pub full-fourth : empties ed (bodyLength k t) ≡ false → overfills ed (bodyLength k t) ≡ true → editTone ed k i t ≡ refused 14 0
       full-fourth e f = rw (c, h, e, f) refl
-
--- a recall has no instruction of its own: no position is there, not even 0 for an insert
-pub recall-has-none : (ed : Edit) (k i : ℕ) (ps : List Pattern) → patternAt ps k .body ≡ [] → isThere ed k i ps ≡ false
-recall-has-none ed k i ps e = rw e (go (ltb k (length ps)))
-  where
-    go : (b : Bool) → (b && false) ≡ false
-    go true = refl
-    go false = refl
 
 -- ---- the room
 

@@ -26,7 +26,7 @@ use Rattle.playing.specs.Filling.{bodyIn, behindIn, BodyAt, entrySeen}
 use Rattle.reading.proofs.Seeing.{instruction-width}
 use Rattle.playing.proofs.Seeing.{seen-is, seen-kind}
 use Rattle.editing.specs.declared.Gone.{Gone}
-use Rattle.editing.proofs.Bodies.{instructions-take, instructions-drop}
+use Rattle.changing.proofs.Bodies.{instructions-take, instructions-drop}
 
 -- ---- one instruction
 

@@ -6,8 +6,8 @@ use mathlib.Core.Bool.{Bool, true, false, not, _&&_}
 use mathlib.Core.List.{List, [], _∷_, _++_}
 use lib.ListN.{length, getD, take, drop, set, replicate, length-drop, length-set}
 use lib.Seq.{split-at, drop-drop, length-take-le}
-use lib.Dec.{leb, ltb}
-use borrow.Author.Tests.{lt-leb, le-leb, le-ltb, lt-ltb, eq-eqb, ne-eqb, not-true, not-false, leb-true}
+use lib.Dec.{leb}
+use borrow.Author.Tests.{le-ltb, lt-ltb, not-true, not-false, leb-true}
 use mir.Val.{Fits}
 use mir.Syntax.{w32}
 use Rattle.bits.specs.Choice.{pick}
@@ -23,63 +23,21 @@ use Rattle.reader.proofs.Told.{Told, told, table-there}
 use Rattle.judging.specs.declared.Count.{Count}
 use Rattle.judging.specs.Counting.{noCount, counted}
 use Rattle.playing.specs.Filling.{bodyIn, behindIn, BodyAt}
-use Rattle.editing.specs.declared.Edit.{Edit}
-use Rattle.editing.specs.declared.Edit.the-variants.{Replace, Insert, Delete}
+use Rattle.changing.specs.declared.Edit.{Edit}
 use Rattle.editing.specs.declared.Heard.{Heard}
 use Rattle.editing.specs.declared.Cut.{Cut}
 use Rattle.editing.specs.declared.Outline.{Outline}
-use Rattle.editing.specs.Change.{carried, removed, bodyAfter, withBody, patternAt, changed, carriesNew, inBody, empties, overfills, headerPlace}
+use Rattle.changing.specs.Change.{carried, removed, bodyAfter, withBody, patternAt, changed, carriesNew, inBody, empties, overfills, headerPlace}
+use Rattle.changing.specs.Answers.{Puts, groundOf}
 use Rattle.editing.specs.Editing.{bodyLength, editTone}
-use Rattle.editing.specs.Places.{Puts, toneOf}
-use Rattle.editing.specs.Plan.{overdoneOf, groundOf, Known, Going}
+use Rattle.editing.specs.Places.{toneOf}
+use Rattle.editing.specs.Plan.{Known, Going}
 use Rattle.editing.specs.Hearing.{patternsHere, endHere, Here, notesHeard, notesAfter, countAfter, Countable, Hears, CutOf}
-use Rattle.editing.proofs.Bodies.{Fits as FitsEdit, fits, length-after, body-instructions, changed-formed, front-same, sound-at}
+use Rattle.changing.proofs.Bodies.{Fits as FitsEdit, fits, length-after, body-instructions, changed-formed, front-same, sound-at}
 use Rattle.editing.proofs.Overs.{Standing, read-of, body-of, bits-cut}
 use Rattle.editing.proofs.Hearings.{AllSound, all-sound, sound-take, sound-drop, Row, patterns-of, here-of, front-row, rest-row, header-there, passed, body-stands, others-stand, codes, countable-on}
 use Rattle.editing.proofs.Recounts.{entries-counted, mark-counted, own-heard, count-set}
 use Rattle.editing.proofs.Rebuilt.{header-wide, joined-is}
-
--- ---- by the kind of edit
-
-pub in-replace : (ed : Edit) (i n : ℕ) {e : ℕ} → ed ≡ Replace e → ltb i n ≡ inBody ed i n
-in-replace ed i n g = rw g refl
-
-pub in-insert : (ed : Edit) (i n : ℕ) {e : ℕ} → ed ≡ Insert e → leb i n ≡ inBody ed i n
-in-insert ed i n g = rw g refl
-
-pub in-delete : (ed : Edit) (i n : ℕ) → ed ≡ Delete → ltb i n ≡ inBody ed i n
-in-delete ed i n g = rw g refl
-
-pub over-replace : (ed : Edit) (n : ℕ) {e : ℕ} → ed ≡ Replace e → _≡_ {A = ℕ} 0 (overdoneOf ed n)
-over-replace ed n g = rw g refl
-
-module _ (ed : Edit) (n : ℕ) {e : ℕ} (g : ed ≡ Insert e) where
-  pub over-full : n ≡ 255 → _≡_ {A = ℕ} 14 (overdoneOf ed n)
-  over-full h = rw (g, eq-eqb n 255 h) refl
-
-  pub over-insert : (n ≡ 255 → ⊥) → _≡_ {A = ℕ} 0 (overdoneOf ed n)
-  over-insert h = rw (g, ne-eqb n 255 h) refl
-
-module _ (ed : Edit) (n : ℕ) (g : ed ≡ Delete) where
-  pub over-only : n ≡ 1 → _≡_ {A = ℕ} 13 (overdoneOf ed n)
-  over-only h = rw (g, eq-eqb n 1 h) refl
-
-  pub over-delete : (n ≡ 1 → ⊥) → _≡_ {A = ℕ} 0 (overdoneOf ed n)
-  over-delete h = rw (g, ne-eqb n 1 h) refl
-
-pub ruleset kinds = (in-replace, in-insert, in-delete, over-replace, over-full, over-insert, over-only, over-delete)
-
-pub ground-recall : (ed : Edit) (i n : ℕ) → n < 1 → _≡_ {A = ℕ} 12 (groundOf ed i n)
-ground-recall ed i n h = rw (lt-leb 1 n h) refl
-
-module _ (ed : Edit) (i n : ℕ) {b : Bool} (h : 1 ≤ n) (e : b ≡ inBody ed i n) where
-  pub ground-there : {r : ℕ} → b ≡ true → r ≡ overdoneOf ed n → r ≡ groundOf ed i n
-  ground-there g q = rw (le-leb 1 n h, sym e ∙ g) q
-
-  pub ground-none : b ≡ false → _≡_ {A = ℕ} 12 (groundOf ed i n)
-  ground-none g = rw (le-leb 1 n h, sym e ∙ g) refl
-
-pub ruleset grounds = (ground-recall, ground-there, ground-none)
 
 -- ---- a ground, and the edit's refusal
 

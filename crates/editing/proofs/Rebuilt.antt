@@ -13,10 +13,11 @@ use Rattle.tone.specs.Tone.{Pattern, Tone, frontOf, header, cells, noneKnown, S
 use Rattle.tone.specs.Writing.{entryBits, tableBits, frontBits, songBits}
 use Rattle.tone.proofs.Rows.{length-entryBits, tableBits-append, header-small}
 use Rattle.reader.proofs.Told.{Told}
-use Rattle.editing.specs.declared.Edit.{Edit}
-use Rattle.editing.specs.Change.{carried, removed, bodyAfter, withBody, patternAt, changed, headerPlace}
-use Rattle.editing.specs.Places.{Puts, joined}
-use Rattle.editing.proofs.Bodies.{sound-at, front-same}
+use Rattle.changing.specs.declared.Edit.{Edit}
+use Rattle.changing.specs.Change.{carried, removed, bodyAfter, withBody, patternAt, changed, headerPlace}
+use Rattle.changing.specs.Answers.{Puts}
+use Rattle.building.specs.Anew.{joined}
+use Rattle.changing.proofs.Bodies.{sound-at, front-same}
 use Rattle.editing.proofs.Demand3.{cells-append}
 
 -- ---- cutting a row of bits

@@ -2,7 +2,7 @@
 use Prim.Native.Nat.{ℕ}
 use mathlib.Core.Path.{_≡_, sym, _∙_}
 use mathlib.Core.List.{List}
-use Rattle.editing.specs.declared.Edit.{Edit}
+use Rattle.changing.specs.declared.Edit.{Edit}
 use Rattle.editing.specs.declared.Answer.{Answer}
 use Rattle.editing.specs.Promise.{numbersOf, EditPromise}
 

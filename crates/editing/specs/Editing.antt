@@ -13,8 +13,8 @@ use Rattle.tone.specs.Reading.{readTone}
 use Rattle.sounding.specs.Sounding.{numbers}
 use Rattle.sounding.specs.Playing.{Listing, playingList}
 use Rattle.sounding.specs.Listing.{fitted, fitsNumbers}
-use Rattle.editing.specs.declared.Edit.{Edit}
-use Rattle.editing.specs.Change.{patternAt, changed, carriesNew, isThere, empties, overfills}
+use Rattle.changing.specs.declared.Edit.{Edit}
+use Rattle.changing.specs.Change.{patternAt, changed, carriesNew, isThere, empties, overfills}
 
 -- the length of the body named
 abbrev pub bodyLength : ℕ → Tone → ℕ

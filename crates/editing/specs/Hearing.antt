@@ -14,10 +14,10 @@ use Rattle.judging.specs.declared.Count.{Count}
 use Rattle.judging.specs.Bodies.{isRecall}
 use Rattle.judging.specs.Counting.{counted}
 use Rattle.playing.specs.Filling.{valueOr, behindOr}
-use Rattle.editing.specs.declared.Edit.{Edit}
+use Rattle.changing.specs.declared.Edit.{Edit}
 use Rattle.editing.specs.declared.Heard.{Heard}
 use Rattle.editing.specs.declared.Cut.{Cut}
-use Rattle.editing.specs.Change.{removed, bodyAfter}
+use Rattle.changing.specs.Change.{removed, bodyAfter}
 
 -- ---- the patterns that stand at a place
 

@@ -1,4 +1,3 @@
-pub mod Change
 pub mod Editing
 pub mod Hearing
 pub mod Places

@@ -1,32 +1,23 @@
 -- The plan of an edit: why it is refused, or what is put where.
 use Prim.Native.Nat.{ℕ, _+_, _^_, _≤_, _<_}
 use mathlib.Core.Path.{_≡_}
-use mathlib.Core.Bool.{Bool, _&&_}
+use mathlib.Core.Bool.{Bool}
 use mathlib.Core.List.{List}
 use lib.ListN.{length}
-use lib.Dec.{leb}
-use Rattle.bits.specs.Choice.{pick}
 use Rattle.bits.specs.Bits.{bitsOf, placeAfter}
 use Rattle.bits.specs.Outcome.{accepted, refused}
 use Rattle.tone.specs.Tone.{Tone, frontOf, Formed}
 use Rattle.tone.specs.Writing.{frontBits, songBits, toneOctets, mostOctets, WellFormed}
 use Rattle.judging.specs.Bodies.{noBodies}
 use Rattle.judging.specs.Counting.{entryCount, markFrom}
-use Rattle.editing.specs.declared.Edit.{Edit}
+use Rattle.changing.specs.declared.Edit.{Edit}
 use Rattle.editing.specs.declared.Outline.{Outline}
 use Rattle.editing.specs.declared.Plan.{Plan}
 use Rattle.editing.specs.declared.Plan.the-variants.{Halt, Go}
-use Rattle.editing.specs.Change.{inBody, empties, overfills, changed}
+use Rattle.changing.specs.Change.{changed}
 use Rattle.editing.specs.Editing.{editTone}
-use Rattle.editing.specs.Places.{toneOf, Accepted, joined}
-
--- deleting a part's only instruction is 13, inserting into a part of 255 is 14, and anything else 0
-abbrev pub overdoneOf : Edit → ℕ → ℕ
-overdoneOf ed n = pick (empties ed n) 13 (pick (overfills ed n) 14 0)
-
--- the ground against an edit at i of n instructions: 12, 13, 14, or 0 for none
-abbrev pub groundOf : Edit → ℕ → ℕ → ℕ
-groundOf ed i n = pick (leb 1 n && inBody ed i n) (overdoneOf ed n) 12
+use Rattle.building.specs.Anew.{joined}
+use Rattle.editing.specs.Places.{toneOf, Accepted}
 
 -- an accepted message, the place of its first pattern, and its patterns
 pub record Known (m : List ℕ) (first p : ℕ) : Type 0 where

@@ -1,15 +1,11 @@
 ghost use mathlib.Core.Path.{_≡_};
-ghost use mathlib.Core.Bool.{true, false};
-ghost use mathlib.Core.List.{[], _∷_};
 ghost use Prim.Native.Nat.{_+_, _-_, _%_, _^_, _≤_, _<_};
-ghost use lib.ListN.{length, take, drop};
-ghost use Rattle.bits.specs.Bits.{bitsOf, placeAfter, octetsTo};
-ghost use Rattle.bits.specs.Lent.{over};
-ghost use Rattle.bits.specs.Sink.{written, InHand, Put};
+ghost use lib.ListN.{length, take};
+ghost use Rattle.bits.specs.Bits.{bitsOf};
 ghost use Rattle.reading.specs.Answers.{Within, place};
-ghost use Rattle.editing.specs.Change.{isNew as isNewOf, carriesNew, carried, removed as removedOf, inBody};
+ghost use Rattle.changing.specs.Change.{carried, removed as removedOf};
 ghost use Rattle.tone.specs.Tone.{Tone};
-ghost use Rattle.editing.specs.Places.{Puts, Begun, Built, headed, reached, pieced, joined};
+ghost use Rattle.building.specs.Anew.{joined};
 ghost use lib.IntN.{pos, _-ℤ_};
 ghost use Rattle.bits.specs.Outcome.{accepted};
 ghost use Rattle.tone.specs.Tone.{Formed};
@@ -17,7 +13,7 @@ ghost use Rattle.tone.specs.Writing.{songBits, toneOctets, WellFormed};
 ghost use Rattle.editing.specs.Editing.{cleared, inBuffer, withList};
 ghost use Rattle.editing.specs.Promise.{Leaves, EditPromise};
 ghost use Rattle.editing.specs.declared.Answer.the-variants.{Refused};
-ghost use Rattle.editing.specs.Plan.{overdoneOf, groundOf, Known, CanBuild, Written, Spelt, Plans};
+ghost use Rattle.editing.specs.Plan.{Known, CanBuild, Written, Spelt, Plans};
 ghost use Rattle.tone.specs.Table.{Instruction};
 ghost use Rattle.tone.specs.Writing.{entryBits};
 ghost use Rattle.reading.specs.Answers.{noteIn, notes as notesOf};
@@ -26,16 +22,11 @@ ghost use Rattle.editing.specs.Hearing.{patternsHere, endHere, Here, Cou
 ghost use Rattle.judging.specs.Counting.{noCount};
 use bits::BitPlace;
 use bits::OctetCount;
-use bits::Sink;
+use building::Piece;
+use building::Spot;
+use changing::Edit;
 use judging::Count;
 use judging::Judged;
-
-// What an edit does at an instruction: replace it, insert before it, or delete it. The new instruction is one table entry.
-pub enum Edit {
-    Replace(u32),
-    Insert(u32),
-    Delete,
-}
 
 // What an edit answers: the new length, the entries of the new list, its return mark and the change in octets; or the refusal.
 pub enum Answer {
@@ -49,79 +40,6 @@ pub enum Answer {
         number: u32,
         place: BitPlace,
     },
-}
-
-// ---- the new instruction
-
-// Is the entry an instruction of kind 1 to 5 whose code is in the table?
-fn is_new(cell: u32) -> bool
-    ensures { λ r. ⌜ r ≡ isNewOf cell ⌝ }
-{
-    let kind = cell / 65536;
-    let payload = cell % 65536;
-    if kind < 1 {
-        return false;
-    }
-    if 5 < kind {
-        return false;
-    }
-    if payload < 1u32 << reading::width(kind) {
-        return reading::allowed(kind, payload);
-    }
-    false
-}
-
-// Does the edit carry such an instruction, where it carries one?
-fn carries_new(edit: Edit) -> bool
-    ensures { λ r. ⌜ r ≡ carriesNew edit ⌝ }
-{
-    match edit {
-        Edit::Replace(cell) => is_new(cell),
-        Edit::Insert(cell) => is_new(cell),
-        Edit::Delete => true,
-    }
-}
-
-// The bits that an edit puts: how many, and the number that they spell.
-pub struct Piece {
-    pub width: u32,
-    pub value: u32,
-}
-
-// The bits of an instruction.
-fn piece_of(cell: u32) -> Piece
-    requires { ⌜ isNewOf cell ≡ true ⌝ }
-    ensures { λ r. ⌜ Puts (cell ∷ []) (r .width) (r .value) ⌝ }
-{
-    let kind = cell / 65536;
-    let w = reading::width(kind);
-    Piece {
-        width: 3 + w,
-        value: (kind << w) + cell % 65536,
-    }
-}
-
-// The bits that an edit puts: those of its instruction, or none.
-fn carried_piece(edit: Edit) -> Piece
-    requires { ⌜ carriesNew edit ≡ true ⌝ }
-    ensures { λ r. ⌜ Puts (carried edit) (r .width) (r .value) ⌝ }
-{
-    match edit {
-        Edit::Replace(cell) => piece_of(cell),
-        Edit::Insert(cell) => piece_of(cell),
-        Edit::Delete => Piece { width: 0, value: 0 },
-    }
-}
-
-// How many instructions an edit takes away.
-fn removed(edit: Edit) -> u32
-    ensures { λ r. ⌜ (r ≡ removedOf edit) × (r ≤ 1) ⌝ }
-{
-    match edit {
-        Edit::Replace(_) => 1,
-        Edit::Insert(_) => 0,
-        Edit::Delete => 1,
-    }
 }
 
 // ---- going over a message
@@ -224,17 +142,6 @@ fn hear(msg: &[u8], from: Heard, n: u32, notes: &mut [u32]) -> Heard
     Heard { place, count }
 }
 
-// How many notes or pauses an edit puts.
-fn carried_notes(edit: Edit) -> u32
-    ensures { λ r. ⌜ (r ≡ notesOf (carried edit)) × (r ≤ 1) ⌝ }
-{
-    match edit {
-        Edit::Replace(cell) => reading::note_in(cell),
-        Edit::Insert(cell) => reading::note_in(cell),
-        Edit::Delete => 0,
-    }
-}
-
 // A part as an edit changes it: where the instruction named stands, where what is left behind it does, and what is heard
 // up to the part's end.
 pub struct Cut {
@@ -249,7 +156,7 @@ fn hear_edited(msg: &[u8], from: Heard, cell: u32, edit: Edit, i: u32, notes: &m
     requires { ⌜ (i + removedOf edit ≤ cell % 256) × (cell % 256 - removedOf edit + length (carried edit) ≤ 255) × (from .count .entries ≤ 971550) × (length (now notes) ≡ 4) ⌝ }
     ensures { λ r. ⌜ CutOf (bodyIn (now (msg .entry)) (from .place .0) (cell % 256)) edit cell i from (now (notes .entry)) (now (notes .exit)) r ⌝ }
 {
-    let r = removed(edit);
+    let r = changing::removed(edit);
     let place = from.place;
     let count = from.count;
     let ahead = go_over(msg, place, i);
@@ -257,7 +164,7 @@ fn hear_edited(msg: &[u8], from: Heard, cell: u32, edit: Edit, i: u32, notes: &m
     let taken = go_over(msg, at, r);
     let behind = taken.at;
     let rest = go_over(msg, behind, cell % 256 - i - r);
-    let own = ahead.notes + carried_notes(edit) + rest.notes;
+    let own = ahead.notes + changing::carried_notes(edit) + rest.notes;
     notes[(cell / 4096 % 4) as usize] = own;
     let end = rest.at;
     let heard = Heard {
@@ -267,182 +174,7 @@ fn hear_edited(msg: &[u8], from: Heard, cell: u32, edit: Edit, i: u32, notes: &m
     Cut { at, behind, heard }
 }
 
-// ---- copying
-
-// Copies so many octets from the front.
-fn copy_octets(from: &[u8], octets: OctetCount, to: &mut [u8])
-    requires { ⌜ (octets .0 ≤ length (now from)) × (octets .0 ≤ length (now to)) ⌝ }
-    ensures { λ _. ⌜ now (to .exit) ≡ over (take (octets .0) (now (from .entry))) (now (to .entry)) ⌝ }
-{
-    let n = octets.0;
-    let mut i: usize = 0;
-    while i < n {
-        to[i] = from[i];
-        i += 1;
-    }
-}
-
-// Puts the `n` bits that stand at a place.
-fn copy_bits(msg: &[u8], at: BitPlace, n: usize, out: &mut [u8], sink: Sink) -> Sink
-    requires { ⌜ InHand (sink .n) (sink .acc) ⌝ }
-    requires { ⌜ (at .0 + n ≤ placeAfter (length (now msg))) × (length (now msg) < 2 ^ 60) × (placeAfter (sink .octets .0) + sink .n + n ≤ placeAfter (length (now out))) ⌝ }
-    ensures { λ r. ⌜ Put (written (now (out .entry)) (sink .octets .0) (sink .n) (sink .acc)) (take n (drop (at .0) (bitsOf (now (msg .entry))))) (placeAfter (sink .octets .0) + sink .n + n) (now (out .entry)) (now (out .exit)) (r .octets .0) (r .n) (r .acc) ⌝ }
-{
-    let mut s = sink;
-    let mut place = at.0;
-    let mut left = n;
-    while 24 <= left {
-        s = bits::put(out, s, 24, bits::look(msg, BitPlace(place)));
-        place += 24;
-        left -= 24;
-    }
-    if left == 0 {
-        return s;
-    }
-    let x = bits::look(msg, BitPlace(place));
-    bits::put(out, s, left as u32, bits::part(x, 0, left as u32))
-}
-
-// Copies the bits of a message up to a place to the start of a buffer.
-fn copy_front(msg: &[u8], end: BitPlace, out: &mut [u8]) -> Sink
-    requires { ⌜ (end .0 ≤ placeAfter (length (now msg))) × (length (now msg) < 2 ^ 60) × (end .0 ≤ placeAfter (length (now out))) ⌝ }
-    ensures { λ r. ⌜ Begun (take (end .0) (bitsOf (now (msg .entry)))) (now (out .exit)) (r .octets .0) (r .n) (r .acc) ⌝ }
-{
-    let whole = bits::octets_before(end);
-    copy_octets(msg, whole, out);
-    let at = bits::place_after(whole);
-    let s = Sink {
-        octets: whole,
-        n: 0,
-        acc: 0,
-    };
-    copy_bits(msg, at, end.0 - at.0, out, s)
-}
-
-// ---- building a message anew
-
-// The bits ahead of a header, and the header.
-fn put_header(msg: &[u8], head: BitPlace, cell: u32, out: &mut [u8]) -> Sink
-    requires { ⌜ (head .0 ≤ placeAfter (length (now msg))) × (length (now msg) < 2 ^ 60) × (cell < 2 ^ 17) × (head .0 + 17 ≤ placeAfter (length (now out))) ⌝ }
-    ensures { λ r. ⌜ Begun (headed (bitsOf (now (msg .entry))) (head .0) cell) (now (out .exit)) (r .octets .0) (r .n) (r .acc) ⌝ }
-{
-    let s = copy_front(msg, head, out);
-    bits::put(out, s, 17, cell)
-}
-
-// Then the bits up to a place.
-fn put_ahead(msg: &[u8], head: BitPlace, cell: u32, at: BitPlace, out: &mut [u8]) -> Sink
-    requires { ⌜ (head .0 + 17 ≤ at .0) × (at .0 ≤ placeAfter (length (now msg))) × (length (now msg) < 2 ^ 60) × (cell < 2 ^ 17) × (at .0 ≤ placeAfter (length (now out))) ⌝ }
-    ensures { λ r. ⌜ Begun (reached (bitsOf (now (msg .entry))) (head .0) cell (at .0)) (now (out .exit)) (r .octets .0) (r .n) (r .acc) ⌝ }
-{
-    let s = put_header(msg, head, cell, out);
-    let behind = BitPlace(head.0 + 17);
-    copy_bits(msg, behind, at.0 - behind.0, out, s)
-}
-
-// Then a piece.
-fn put_piece(
-    msg: &[u8],
-    head: BitPlace,
-    cell: u32,
-    at: BitPlace,
-    piece: Piece,
-    out: &mut [u8],
-) -> Sink
-    requires { ⌜ (head .0 + 17 ≤ at .0) × (at .0 ≤ placeAfter (length (now msg))) × (length (now msg) < 2 ^ 60) × (cell < 2 ^ 17) × (at .0 + piece .width ≤ placeAfter (length (now out))) ⌝ }
-    requires { ⌜ (piece .width ≤ 17) × (piece .value < 2 ^ piece .width) ⌝ }
-    ensures { λ r. ⌜ Begun (pieced (bitsOf (now (msg .entry))) (head .0) cell (at .0) (piece .width) (piece .value)) (now (out .exit)) (r .octets .0) (r .n) (r .acc) ⌝ }
-{
-    let s = put_ahead(msg, head, cell, at, out);
-    bits::put(out, s, piece.width, piece.value)
-}
-
-// Where an instruction stands, where what is left behind it does, and where the patterns end.
-pub struct Spot {
-    pub at: BitPlace,
-    pub behind: BitPlace,
-    pub end: BitPlace,
-}
-
-// Then the bits behind it up to the patterns' end, filler and the end octet.
-fn build(
-    msg: &[u8],
-    header: BitPlace,
-    cell: u32,
-    spot: Spot,
-    piece: Piece,
-    out: &mut [u8],
-) -> OctetCount
-    requires { ⌜ (header .0 + 17 ≤ spot .at .0) × (spot .at .0 ≤ placeAfter (length (now msg))) × (length (now msg) < 2 ^ 60) × (cell < 2 ^ 17) ⌝ }
-    requires { ⌜ (piece .width ≤ 17) × (piece .value < 2 ^ piece .width) × (spot .behind .0 ≤ spot .end .0) × (spot .end .0 ≤ placeAfter (length (now msg))) ⌝ }
-    requires { ⌜ octetsTo (spot .at .0 + piece .width + (spot .end .0 - spot .behind .0)) + 1 ≤ length (now out) ⌝ }
-    ensures { λ r. ⌜ Built (joined (bitsOf (now (msg .entry))) (header .0) cell (spot .at .0) (piece .width) (piece .value) (spot .behind .0) (spot .end .0)) (now (out .exit)) (r .0) ⌝ }
-{
-    let at = spot.at;
-    let behind = spot.behind;
-    let s = put_piece(msg, header, cell, at, piece, out);
-    let n = spot.end.0 - behind.0;
-    let t = copy_bits(msg, behind, n, out, s);
-    bits::seal(out, t)
-}
-
 // ---- the plan
-
-// How many instructions an edit puts.
-fn added(edit: Edit) -> u32
-    ensures { λ r. ⌜ (r ≡ length (carried edit)) × (r ≤ 1) ⌝ }
-{
-    match edit {
-        Edit::Replace(_) => 1,
-        Edit::Insert(_) => 1,
-        Edit::Delete => 0,
-    }
-}
-
-// Is the position that of one of `n` instructions? Insert at the count appends.
-fn in_body(edit: Edit, i: usize, n: usize) -> bool
-    ensures { λ r. ⌜ r ≡ inBody edit i n ⌝ }
-{
-    match edit {
-        Edit::Replace(_) => i < n,
-        Edit::Insert(_) => i <= n,
-        Edit::Delete => i < n,
-    }
-}
-
-// Deleting a part's only instruction is 13, inserting into a part of 255 is 14.
-fn overdone(edit: Edit, n: usize) -> u32
-    ensures { λ r. ⌜ r ≡ overdoneOf edit n ⌝ }
-{
-    match edit {
-        Edit::Replace(_) => 0,
-        Edit::Insert(_) => {
-            if n == 255 {
-                return 14;
-            }
-            0
-        }
-        Edit::Delete => {
-            if n == 1 {
-                return 13;
-            }
-            0
-        }
-    }
-}
-
-// The ground against an edit at position `i` of `n` instructions, 0 for none. A recall has none of its own.
-fn ground(edit: Edit, i: usize, n: usize) -> u32
-    ensures { λ r. ⌜ r ≡ groundOf edit i n ⌝ }
-{
-    if n < 1 {
-        return 12;
-    }
-    if in_body(edit, i, n) {
-        return overdone(edit, n);
-    }
-    12
-}
 
 // What is known of a changed message before it is built: the place of its first pattern, how many there are, and the
 // entries of their list and its return mark.
@@ -483,7 +215,7 @@ fn plan_edit(msg: &[u8], first: BitPlace, patterns: u32, edit: Edit, k: usize, i
     requires { ⌜ Known (now msg) (first .0) patterns ⌝ }
     ensures { λ r. ⌜ Plans (now (msg .entry)) edit k i r ⌝ }
 {
-    if !carries_new(edit) {
+    if !changing::carries_new(edit) {
         return Plan::Halt(6);
     }
     if patterns as usize <= k {
@@ -494,7 +226,7 @@ fn plan_edit(msg: &[u8], first: BitPlace, patterns: u32, edit: Edit, k: usize, i
     let header = before.place;
     let head = reading::entry_at(msg, header);
     let cell = head.cell;
-    let fault = ground(edit, i, (cell % 256) as usize);
+    let fault = changing::ground(edit, i, (cell % 256) as usize);
     if fault != 0 {
         return Plan::Halt(fault);
     }
@@ -510,9 +242,9 @@ fn plan_edit(msg: &[u8], first: BitPlace, patterns: u32, edit: Edit, k: usize, i
     let total = after.count;
     Plan::Go {
         header,
-        cell: cell + added(edit) - removed(edit),
+        cell: cell + changing::added(edit) - changing::removed(edit),
         spot: Spot { at, behind, end },
-        piece: carried_piece(edit),
+        piece: changing::carried_piece(edit),
         outline: outlined(first, patterns, total),
     }
 }
@@ -564,7 +296,7 @@ fn finish(
     }
     playing::fill_list(new, first, outline.patterns, list);
     let length = OctetCount(new.len());
-    copy_octets(new, length, buf);
+    building::copy_octets(new, length, buf);
     clear(buf, length, used);
     Answer::Edited {
         length,
@@ -599,7 +331,7 @@ fn carry_out(
     }
     let mut scratch = [0u8; 4096];
     let old = used.0;
-    let n = build(&buf[..old], header, cell, spot, piece, &mut scratch);
+    let n = building::build(&buf[..old], header, cell, spot, piece, &mut scratch);
     let new = n.0;
     finish(buf, used, &scratch[..new], outline, list)
 }

@@ -23,8 +23,8 @@
 ghost use Prim.Native.Nat.{_≤_};
 ghost use lib.ListN.{length};
 use bits::OctetCount;
+use changing::Edit;
 use editing::Answer;
-use editing::Edit;
 use playing::Listed;
 
 // The used length, and how many octets of the buffer and cells of each list are lent.

@@ -29,7 +29,7 @@ use Rattle.playing.specs.declared.Listed.{Listed}
 use Rattle.playing.specs.declared.Listed.the-variants.{Made, Refused as Unlisted}
 use Rattle.sounding.specs.Listing.{fitsNumbers}
 use Rattle.playing.specs.Promise.{numbersOf as listedNumbers, ListPromise, RowsPromise}
-use Rattle.editing.specs.declared.Edit.{Edit}
+use Rattle.changing.specs.declared.Edit.{Edit}
 use Rattle.editing.specs.declared.Answer.{Answer}
 use Rattle.editing.specs.declared.Answer.the-variants.{Edited, Refused as Unedited}
 use Rattle.editing.specs.Promise.{numbersOf as editNumbers, EditPromise}

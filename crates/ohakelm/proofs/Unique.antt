@@ -4,7 +4,7 @@ use mathlib.Core.Path.{_≡_, sym, _∙_}
 use mathlib.Core.Bool.{Bool}
 use mathlib.Core.List.{List}
 use Rattle.sounding.specs.declared.Entry.{Entry}
-use Rattle.editing.specs.declared.Edit.{Edit}
+use Rattle.changing.specs.declared.Edit.{Edit}
 use Rattle.ohakelm.specs.declared.ToneAnswer.{ToneAnswer}
 use Rattle.ohakelm.specs.declared.WrittenAnswer.{WrittenAnswer}
 use Rattle.ohakelm.specs.declared.LabelAnswer.{LabelAnswer}

@@ -12,7 +12,7 @@ use Rattle.sounding.specs.declared.Entry.{Entry}
 use Rattle.sounding.specs.Duration.{beats, units, microseconds}
 use Rattle.sounding.specs.Playing.{Listing, playingList}
 use Rattle.judging.specs.Bodies.{noMark}
-use Rattle.editing.specs.declared.Edit.the-variants.{Insert, Delete}
+use Rattle.changing.specs.declared.Edit.the-variants.{Insert, Delete}
 use Rattle.editing.specs.Editing.{Edited, editMessage, bufferAfter}
 use Rattle.editing.specs.Promise.{Numbers, editNumbers}
 use Rattle.bitmap.specs.Samples.{P11, P12}

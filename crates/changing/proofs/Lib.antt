@@ -1,0 +1,3 @@
+pub mod Bodies
+pub mod Pieces
+pub mod Grounds
