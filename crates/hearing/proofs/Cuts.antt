@@ -13,12 +13,12 @@ use Rattle.judging.specs.Counting.{counted}
 use Rattle.judging.proofs.Bodies.{notes-most}
 use Rattle.playing.specs.Filling.{bodyIn, behindIn, BodyAt}
 use Rattle.changing.specs.declared.Edit.{Edit}
-use Rattle.editing.specs.declared.Gone.{Gone}
-use Rattle.editing.specs.declared.Heard.{Heard}
+use Rattle.hearing.specs.declared.Gone.{Gone}
+use Rattle.hearing.specs.declared.Heard.{Heard}
 use Rattle.changing.specs.Change.{carried, removed, bodyAfter}
-use Rattle.editing.specs.Hearing.{CutOf}
+use Rattle.hearing.specs.Hearing.{CutOf}
 use Rattle.changing.proofs.Bodies.{length-after}
-use Rattle.editing.proofs.Overs.{Standing, known-of, read-of, body-of, take-stands, drop-stands, bits-cut, notes-append}
+use Rattle.hearing.proofs.Overs.{Standing, known-of, read-of, body-of, take-stands, drop-stands, bits-cut, notes-append}
 
 -- ---- a stretch of a body
 
