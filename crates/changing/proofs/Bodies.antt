@@ -12,7 +12,7 @@ use lib.Dec.{leb, ltb, eqb}
 use borrow.Author.Tests.{ltb-true, leb-true, eqb-false, ne-eqb}
 use Rattle.bits.specs.Choice.{pick}
 use Rattle.tone.specs.Table.{kind, payload, width, allowed, isInstruction, InTable, Instruction}
-use Rattle.tone.specs.Tone.{Pattern, Tone, Front, frontOf, specifier, partOf, header, recallable, learn, noneKnown, Instructions, Sound, Sequence, Formed}
+use Rattle.tone.specs.Tone.{Pattern, Tone, Front, frontOf, specifier, partOf, header, cells, recallable, learn, noneKnown, Instructions, Sound, Sequence, Formed}
 use Rattle.tone.proofs.Rows.{and-true, is-instruction, header-small}
 use Rattle.changing.specs.declared.Edit.{Edit}
 use Rattle.changing.specs.declared.Edit.the-variants.{Replace, Insert, Delete}
@@ -71,6 +71,10 @@ length-after ed i b h =
     ∙ omega arith
 
 -- ---- the row of patterns
+
+pub cells-append : (ps qs : List Pattern) → cells (ps ++ qs) ≡ cells ps ++ cells qs
+cells-append [] qs = refl
+cells-append (p ∷ ps) qs = ap (λ (x : List ℕ). header p ∷ x) (ap (λ (x : List ℕ). p .body ++ x) (cells-append ps qs) ∙ sym (append-assoc (p .body) (cells ps) (cells qs)))
 
 pub part-is : (p : Pattern) → Sound p → (partOf (header p) ≡ p .id) × (specifier (header p) ≡ length (p .body))
 part-is p s = let a = s .id in let b = s .loop in let c = s .long in (omega arith, omega arith)

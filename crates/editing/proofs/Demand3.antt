@@ -26,13 +26,9 @@ use Rattle.changing.specs.declared.Edit.{Edit}
 use Rattle.changing.specs.declared.Edit.the-variants.{Replace, Insert, Delete}
 use Rattle.changing.specs.Change.{carried, removed, bodyAfter, withBody, patternAt, patternsAfter, changed, isNew, carriesNew, inBody, isThere, empties, overfills, headerPlace, instructionPlace}
 use Rattle.editing.specs.Editing.{bodyLength, editTone}
-use Rattle.changing.proofs.Bodies.{Fits, fits, carried-instructions, changed-formed, sound-at, front-same}
+use Rattle.changing.proofs.Bodies.{cells-append, Fits, fits, carried-instructions, changed-formed, sound-at, front-same}
 
 -- ---- the bits ahead of the edited instruction
-
-pub cells-append : (ps qs : List Pattern) → cells (ps ++ qs) ≡ cells ps ++ cells qs
-cells-append [] qs = refl
-cells-append (p ∷ ps) qs = ap (λ (x : List ℕ). header p ∷ x) (ap (λ (x : List ℕ). p .body ++ x) (cells-append ps qs) ∙ sym (append-assoc (p .body) (cells ps) (cells qs)))
 
 -- a header as bits: its id, pattern and loop, and then the part's length
 pub header-bits : (p : Pattern) → Sound p → entryBits (header p) ≡ (bitsN 3 0 ++ bitsN 6 (p .id * 16 + p .loop)) ++ bitsN 8 (length (p .body))

@@ -1,8 +1,4 @@
 pub mod Demand3
-pub mod Overs
-pub mod Hearings
-pub mod Cuts
-pub mod Recounts
 pub mod Rebuilt
 pub mod Changes
 pub mod Planning

@@ -17,8 +17,7 @@ use Rattle.changing.specs.declared.Edit.{Edit}
 use Rattle.changing.specs.Change.{carried, removed, bodyAfter, withBody, patternAt, changed, headerPlace}
 use Rattle.changing.specs.Answers.{Puts}
 use Rattle.building.specs.Anew.{joined}
-use Rattle.changing.proofs.Bodies.{sound-at, front-same}
-use Rattle.editing.proofs.Demand3.{cells-append}
+use Rattle.changing.proofs.Bodies.{cells-append, sound-at, front-same}
 
 -- ---- cutting a row of bits
 

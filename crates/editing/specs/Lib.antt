@@ -1,5 +1,4 @@
 pub mod Editing
-pub mod Hearing
 pub mod Places
 pub mod Plan
 pub mod Promise

@@ -1,9 +1,9 @@
--- `editing::hear_edited` meets its contract.
+-- `hearing::hear_edited` meets its contract.
 use borrow.Author.Needs.{needs}
 use native.Mathlib.Omega.{arith}
-use Rattle.editing.proofs.Cuts.{cut-ahead, cut-taken, cut-behind, cut-notes, cut-done}
-use Rattle.editing.proofs.hear_edited.Statement.{statement}
-use Rattle.editing.proofs.hear_edited.Tie as tie
+use Rattle.hearing.proofs.Cuts.{cut-ahead, cut-taken, cut-behind, cut-notes, cut-done}
+use Rattle.hearing.proofs.hear_edited.Statement.{statement}
+use Rattle.hearing.proofs.hear_edited.Tie as tie
 
 removed-requires : tie.Need-removed-requires
 removed-requires c κs = search needs

@@ -1,8 +1,8 @@
--- `editing::Gone::past` meets its contract.
+-- `hearing::Gone::past` meets its contract.
 use borrow.Author.Needs.{needs}
-use Rattle.editing.proofs.Gone.past.Statement.{statement}
-use Rattle.editing.proofs.Gone.past.Tie as tie
-use Rattle.editing.proofs.Overs.{pasts}
+use Rattle.hearing.proofs.Gone.past.Statement.{statement}
+use Rattle.hearing.proofs.Gone.past.Tie as tie
+use Rattle.hearing.proofs.Overs.{pasts}
 
 add-t6 : tie.Need-add-t6
 add-t6 c = search needs

@@ -1,10 +1,10 @@
--- `editing::hear` meets its contract.
-use Rattle.editing.proofs.hear.Statement.{statement}
-use Rattle.editing.proofs.hear.Tie as tie
+-- `hearing::hear` meets its contract.
+use Rattle.hearing.proofs.hear.Statement.{statement}
+use Rattle.hearing.proofs.hear.Tie as tie
 use borrow.Author.Needs.{needs}
 use native.Mathlib.Omega.{arith}
-use Rattle.editing.specs.Hearing.{patternsHere}
-use Rattle.editing.proofs.Hearings.{HearWalk, hear-entries, hear-notes, hear-on, hears}
+use Rattle.hearing.specs.Hearing.{patternsHere}
+use Rattle.hearing.proofs.Hearings.{HearWalk, hear-entries, hear-notes, hear-on, hears}
 
 abbrev Inv-loop : tie.InvT-loop
 Inv-loop msg n notes₀ place₀ count₀ left₀ notes place count left = HearWalk msg (patternsHere msg (place₀ .0) n) (place₀ .0) n notes₀ count₀ notes (place .0) count left

@@ -1,9 +1,9 @@
--- `editing::go_over` meets its contract.
-use Rattle.editing.proofs.go_over.Statement.{statement}
-use Rattle.editing.proofs.go_over.Tie as tie
+-- `hearing::go_over` meets its contract.
+use Rattle.hearing.proofs.go_over.Statement.{statement}
+use Rattle.hearing.proofs.go_over.Tie as tie
 use borrow.Author.Needs.{needs}
 use Rattle.playing.specs.Filling.{bodyIn}
-use Rattle.editing.proofs.Overs.{OverWalk, goings}
+use Rattle.hearing.proofs.Overs.{OverWalk, goings}
 
 abbrev Inv-loop : tie.InvT-loop
 Inv-loop msg n gone₀ left₀ gone left = OverWalk msg (bodyIn msg (gone₀ .at .0) n) (gone₀ .at .0) 0 gone left

@@ -13,12 +13,13 @@ use Rattle.judging.specs.Counting.{counted}
 use Rattle.judging.proofs.Bodies.{notes-most}
 use Rattle.playing.specs.Filling.{bodyIn, behindIn, BodyAt}
 use Rattle.changing.specs.declared.Edit.{Edit}
-use Rattle.editing.specs.declared.Gone.{Gone}
-use Rattle.editing.specs.declared.Heard.{Heard}
+use Rattle.hearing.specs.declared.Gone.{Gone}
+use Rattle.hearing.specs.declared.Heard.{Heard}
 use Rattle.changing.specs.Change.{carried, removed, bodyAfter}
-use Rattle.editing.specs.Hearing.{CutOf}
+use Rattle.hearing.specs.Hearing.{CutOf}
 use Rattle.changing.proofs.Bodies.{length-after}
-use Rattle.editing.proofs.Overs.{Standing, known-of, read-of, body-of, take-stands, drop-stands, bits-cut, notes-append}
+use Rattle.reading.proofs.Walks.{notes-more}
+use Rattle.hearing.proofs.Overs.{Standing, known-of, read-of, body-of, take-stands, drop-stands, bits-cut}
 
 -- ---- a stretch of a body
 
@@ -81,7 +82,7 @@ module _ (from : Heard) (cell : ℕ) (ns : List ℕ) (ed : Edit) (i : ℕ) {m b 
 
         -- the notes of the changed body
         own : g₁ .notes + c + g₃ .notes ≡ notes (bodyAfter ed i b)
-        own = omega (arith, went-notes i whole far o₁, heard, hc .0, notes-append (take i b) (carried ed ++ drop (i + removed ed) b), notes-append (carried ed) (drop (i + removed ed) b))
+        own = omega (arith, went-notes i whole far o₁, heard, hc .0, notes-more (take i b) (carried ed ++ drop (i + removed ed) b), notes-more (carried ed) (drop (i + removed ed) b))
 
         pub cut-notes : g₁ .notes + c + g₃ .notes ≤ 255
         cut-notes = omega (arith, own, notes-most (bodyAfter ed i b), length-after ed i b (omega (arith, size, h .0)), size, h .1)

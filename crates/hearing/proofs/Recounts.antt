@@ -15,7 +15,7 @@ use Rattle.judging.specs.declared.Count.{Count}
 use Rattle.judging.specs.Bodies.{Remembered, unknown, known, recalled, noBodies, isRecall, bodyOf, remember}
 use Rattle.judging.specs.Counting.{entryCount, markFrom, Total, noCount, counted}
 use Rattle.judging.proofs.Tallies.{resumed, resumed-one, resumed-none, notesOf, allNotes, set-notes, Unmarked, counted-unmarked}
-use Rattle.editing.specs.Hearing.{notesHeard, notesAfter, countAfter}
+use Rattle.hearing.specs.Hearing.{notesHeard, notesAfter, countAfter}
 
 -- ---- the notes of the four parts are those of the bodies that are remembered
 

@@ -24,8 +24,9 @@ use Rattle.reading.proofs.Standing.{onward-from, room}
 use Rattle.judging.proofs.Bodies.{notes-most}
 use Rattle.playing.specs.Filling.{bodyIn, behindIn, BodyAt, entrySeen}
 use Rattle.reading.proofs.Seeing.{instruction-width}
+use Rattle.reading.proofs.Walks.{notes-more}
 use Rattle.playing.proofs.Seeing.{seen-is, seen-kind}
-use Rattle.editing.specs.declared.Gone.{Gone}
+use Rattle.hearing.specs.declared.Gone.{Gone}
 use Rattle.changing.proofs.Bodies.{instructions-take, instructions-drop}
 
 -- ---- one instruction
@@ -109,12 +110,8 @@ module _ {m : List ℕ} {at : ℕ} {b : List ℕ} (k : ℕ) (s : Standing m at b
 pub bits-cut : (k : ℕ) (b : List ℕ) → length (tableBits b) ≡ length (tableBits (take k b)) + length (tableBits (drop k b))
 bits-cut k b = ap (λ (y : List ℕ). length (tableBits y)) (sym (take-append-drop k b)) ∙ ap length (tableBits-append (take k b) (drop k b)) ∙ length-append (tableBits (take k b)) (tableBits (drop k b))
 
-pub notes-append : (a b : List ℕ) → notes (a ++ b) ≡ notes a + notes b
-notes-append [] b = omega arith
-notes-append (e ∷ a) b = omega (arith, notes-append a b)
-
 notes-cut : (k : ℕ) (b : List ℕ) → notes b ≡ notes (take k b) + notes (drop k b)
-notes-cut k b = ap notes (sym (take-append-drop k b)) ∙ notes-append (take k b) (drop k b)
+notes-cut k b = ap notes (sym (take-append-drop k b)) ∙ notes-more (take k b) (drop k b)
 
 -- ---- the walks
 

@@ -1,9 +1,9 @@
--- `editing::over_few` meets its contract.
-use Rattle.editing.proofs.over_few.Statement.{statement}
-use Rattle.editing.proofs.over_few.Tie as tie
+-- `hearing::over_few` meets its contract.
+use Rattle.hearing.proofs.over_few.Statement.{statement}
+use Rattle.hearing.proofs.over_few.Tie as tie
 use borrow.Author.Needs.{needs}
 use Rattle.playing.specs.Filling.{bodyIn}
-use Rattle.editing.proofs.Overs.{FewWalk, fews}
+use Rattle.hearing.proofs.Overs.{FewWalk, fews}
 
 abbrev Inv-loop : tie.InvT-loop
 Inv-loop msg n at s gone₀ left₀ gone left = FewWalk msg (bodyIn msg (at .0) n) (at .0) (gone₀ .notes) gone left

@@ -1,0 +1,4 @@
+pub mod Overs
+pub mod Hearings
+pub mod Cuts
+pub mod Recounts
