@@ -24,8 +24,8 @@ use Rattle.reading.proofs.Standing.{onward-from, room}
 use Rattle.judging.proofs.Bodies.{notes-most}
 use Rattle.playing.specs.Filling.{bodyIn, behindIn, BodyAt, entrySeen}
 use Rattle.playing.proofs.Seeing.{seen-is, seen-kind, width-nine}
-use Rattle.hearing.specs.declared.Gone.{Gone}
 use Rattle.changing.proofs.Bodies.{instructions-take, instructions-drop}
+use Rattle.hearing.specs.declared.Gone.{Gone}
 
 -- ---- one instruction
 
