@@ -25,8 +25,8 @@ use Rattle.tone.proofs.Demand2.{written-is-accepted}
 use Rattle.changing.specs.declared.Edit.{Edit}
 use Rattle.changing.specs.declared.Edit.the-variants.{Replace, Insert, Delete}
 use Rattle.changing.specs.Change.{carried, removed, bodyAfter, withBody, patternAt, patternsAfter, changed, isNew, carriesNew, inBody, isThere, empties, overfills, headerPlace, instructionPlace}
-use Rattle.editing.specs.Editing.{bodyLength, editTone}
 use Rattle.changing.proofs.Bodies.{cells-append, Fits, fits, carried-instructions, changed-formed, sound-at, front-same}
+use Rattle.editing.specs.Editing.{bodyLength, editTone}
 
 -- ---- the bits ahead of the edited instruction
 

@@ -34,22 +34,22 @@ use Rattle.sounding.proofs.Bounds.{none-too-long}
 use Rattle.playing.proofs.Outcomes.{patterns-there, patterns-within}
 use Rattle.judging.specs.Bodies.{noBodies}
 use Rattle.judging.specs.Counting.{entryCount}
-use Rattle.changing.specs.declared.Edit.{Edit}
-use Rattle.editing.specs.declared.Answer.{Answer}
-use Rattle.editing.specs.declared.Answer.the-variants.{Edited as Made, Refused}
 use Rattle.building.specs.declared.Spot.{Spot}
 use Rattle.building.specs.declared.Piece.{Piece}
+use Rattle.building.specs.Anew.{Built, joined}
+use Rattle.building.proofs.Builds.{length-joined}
+use Rattle.changing.specs.declared.Edit.{Edit}
+use Rattle.changing.specs.Change.{changed}
+use Rattle.editing.specs.declared.Answer.{Answer}
+use Rattle.editing.specs.declared.Answer.the-variants.{Edited as Made, Refused}
 use Rattle.editing.specs.declared.Outline.{Outline}
 use Rattle.editing.specs.declared.Plan.{Plan}
 use Rattle.editing.specs.declared.Plan.the-variants.{Halt, Go}
-use Rattle.changing.specs.Change.{changed}
 use Rattle.editing.specs.Editing.{Edited, editTone, inBuffer, beside, withList, andThen, editMessage, cleared, bufferAfter, listAfter}
-use Rattle.building.specs.Anew.{Built, joined}
 use Rattle.editing.specs.Places.{toneIn, toneOf}
 use Rattle.editing.specs.Plan.{Known, CanBuild, Written, Spelt, Going, Plans}
 use Rattle.editing.specs.Promise.{numbersOf, editNumbers, editAnswer, Leaves, EditPromise}
 use Rattle.editing.proofs.Changes.{cleared-over}
-use Rattle.building.proofs.Builds.{length-joined}
 
 -- the numbers of an answer are those that the rules ask for
 numbers-are : (used : ℕ) (o : Outcome Edited) → numbersOf (editAnswer used o) ≡ editNumbers used o

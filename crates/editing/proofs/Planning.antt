@@ -24,19 +24,19 @@ use Rattle.judging.specs.declared.Count.{Count}
 use Rattle.judging.specs.Counting.{noCount, counted}
 use Rattle.playing.specs.Filling.{bodyIn, behindIn, BodyAt}
 use Rattle.changing.specs.declared.Edit.{Edit}
-use Rattle.hearing.specs.declared.Heard.{Heard}
-use Rattle.hearing.specs.declared.Cut.{Cut}
-use Rattle.editing.specs.declared.Outline.{Outline}
 use Rattle.changing.specs.Change.{carried, removed, bodyAfter, withBody, patternAt, changed, carriesNew, inBody, empties, overfills, headerPlace}
 use Rattle.changing.specs.Answers.{Puts, groundOf}
-use Rattle.editing.specs.Editing.{bodyLength, editTone}
-use Rattle.editing.specs.Places.{toneOf}
-use Rattle.editing.specs.Plan.{Known, Going}
-use Rattle.hearing.specs.Hearing.{patternsHere, endHere, Here, notesHeard, notesAfter, countAfter, Countable, Hears, CutOf}
 use Rattle.changing.proofs.Bodies.{Fits as FitsEdit, fits, length-after, body-instructions, changed-formed, front-same, sound-at}
+use Rattle.hearing.specs.declared.Heard.{Heard}
+use Rattle.hearing.specs.declared.Cut.{Cut}
+use Rattle.hearing.specs.Hearing.{patternsHere, endHere, Here, notesHeard, notesAfter, countAfter, Countable, Hears, CutOf}
 use Rattle.hearing.proofs.Overs.{Standing, read-of, body-of, bits-cut}
 use Rattle.hearing.proofs.Hearings.{AllSound, all-sound, sound-take, sound-drop, Row, patterns-of, here-of, front-row, rest-row, header-there, passed, body-stands, others-stand, codes, countable-on}
 use Rattle.hearing.proofs.Recounts.{entries-counted, mark-counted, own-heard, count-set}
+use Rattle.editing.specs.declared.Outline.{Outline}
+use Rattle.editing.specs.Editing.{bodyLength, editTone}
+use Rattle.editing.specs.Places.{toneOf}
+use Rattle.editing.specs.Plan.{Known, Going}
 use Rattle.editing.proofs.Rebuilt.{header-wide, joined-is}
 
 -- ---- a ground, and the edit's refusal

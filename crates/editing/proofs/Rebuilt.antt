@@ -13,10 +13,10 @@ use Rattle.tone.specs.Tone.{Pattern, Tone, frontOf, header, cells, noneKnown, S
 use Rattle.tone.specs.Writing.{entryBits, tableBits, frontBits, songBits}
 use Rattle.tone.proofs.Rows.{length-entryBits, tableBits-append, header-small}
 use Rattle.reader.proofs.Told.{Told}
+use Rattle.building.specs.Anew.{joined}
 use Rattle.changing.specs.declared.Edit.{Edit}
 use Rattle.changing.specs.Change.{carried, removed, bodyAfter, withBody, patternAt, changed, headerPlace}
 use Rattle.changing.specs.Answers.{Puts}
-use Rattle.building.specs.Anew.{joined}
 use Rattle.changing.proofs.Bodies.{cells-append, sound-at, front-same}
 
 -- ---- cutting a row of bits

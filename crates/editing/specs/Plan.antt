@@ -10,13 +10,13 @@ use Rattle.tone.specs.Tone.{Tone, frontOf, Formed}
 use Rattle.tone.specs.Writing.{frontBits, songBits, toneOctets, mostOctets, WellFormed}
 use Rattle.judging.specs.Bodies.{noBodies}
 use Rattle.judging.specs.Counting.{entryCount, markFrom}
+use Rattle.building.specs.Anew.{joined}
 use Rattle.changing.specs.declared.Edit.{Edit}
+use Rattle.changing.specs.Change.{changed}
 use Rattle.editing.specs.declared.Outline.{Outline}
 use Rattle.editing.specs.declared.Plan.{Plan}
 use Rattle.editing.specs.declared.Plan.the-variants.{Halt, Go}
-use Rattle.changing.specs.Change.{changed}
 use Rattle.editing.specs.Editing.{editTone}
-use Rattle.building.specs.Anew.{joined}
 use Rattle.editing.specs.Places.{toneOf, Accepted}
 
 -- an accepted message, the place of its first pattern, and its patterns

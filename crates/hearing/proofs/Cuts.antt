@@ -13,11 +13,11 @@ use Rattle.judging.specs.Counting.{counted}
 use Rattle.judging.proofs.Bodies.{notes-most}
 use Rattle.playing.specs.Filling.{bodyIn, behindIn, BodyAt}
 use Rattle.changing.specs.declared.Edit.{Edit}
+use Rattle.changing.specs.Change.{carried, removed, bodyAfter}
+use Rattle.changing.proofs.Bodies.{length-after}
 use Rattle.hearing.specs.declared.Gone.{Gone}
 use Rattle.hearing.specs.declared.Heard.{Heard}
-use Rattle.changing.specs.Change.{carried, removed, bodyAfter}
 use Rattle.hearing.specs.Hearing.{CutOf}
-use Rattle.changing.proofs.Bodies.{length-after}
 use Rattle.reading.proofs.Walks.{notes-more}
 use Rattle.hearing.proofs.Overs.{Standing, known-of, read-of, body-of, take-stands, drop-stands, bits-cut}
 

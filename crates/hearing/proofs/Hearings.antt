@@ -24,9 +24,9 @@ use Rattle.judging.specs.Counting.{counted}
 use Rattle.judging.proofs.Bodies.{notes-most}
 use Rattle.judging.proofs.Tallies.{counted-most}
 use Rattle.playing.specs.Filling.{bodyIn, behindIn, BodyAt}
+use Rattle.changing.proofs.Bodies.{cells-append}
 use Rattle.hearing.specs.declared.Gone.{Gone}
 use Rattle.hearing.specs.Hearing.{allKnown, patternsHere, endHere, Here, notesHeard, notesAfter, countAfter, Countable, Hears}
-use Rattle.changing.proofs.Bodies.{cells-append}
 use Rattle.hearing.proofs.Overs.{Standing, read-of, body-of}
 
 -- ---- patterns that stand at a place

@@ -26,8 +26,8 @@ use Rattle.playing.specs.Filling.{bodyIn, behindIn, BodyAt, entrySeen}
 use Rattle.reading.proofs.Seeing.{instruction-width}
 use Rattle.reading.proofs.Walks.{notes-more}
 use Rattle.playing.proofs.Seeing.{seen-is, seen-kind}
-use Rattle.hearing.specs.declared.Gone.{Gone}
 use Rattle.changing.proofs.Bodies.{instructions-take, instructions-drop}
+use Rattle.hearing.specs.declared.Gone.{Gone}
 
 -- ---- one instruction
 

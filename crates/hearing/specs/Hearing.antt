@@ -15,9 +15,9 @@ use Rattle.judging.specs.Bodies.{isRecall}
 use Rattle.judging.specs.Counting.{counted}
 use Rattle.playing.specs.Filling.{valueOr, behindOr}
 use Rattle.changing.specs.declared.Edit.{Edit}
+use Rattle.changing.specs.Change.{removed, bodyAfter}
 use Rattle.hearing.specs.declared.Heard.{Heard}
 use Rattle.hearing.specs.declared.Cut.{Cut}
-use Rattle.changing.specs.Change.{removed, bodyAfter}
 
 -- ---- the patterns that stand at a place
 
