@@ -1,7 +1,7 @@
 //! The program `play`, driven through a pipe. What it prints is compared with
 //! text made from the obvious implementation.
 //!
-//! The program stands in `../target/bin/play`. `OHAKELM_PLAY` names another.
+//! `../examples/play` starts it. `OHAKELM_PLAY` names another program.
 
 mod support;
 
@@ -25,7 +25,7 @@ const ROOM: usize = 4096;
 fn program() -> PathBuf {
     match env::var_os("OHAKELM_PLAY") {
         Some(path) => PathBuf::from(path),
-        None => Path::new(env!("CARGO_MANIFEST_DIR")).join("../target/bin/play"),
+        None => Path::new(env!("CARGO_MANIFEST_DIR")).join("../examples/play"),
     }
 }
 

@@ -1,5 +1,6 @@
 //! The implementations under one roof. Each answers in the same form.
 
+#[cfg(linked)]
 use ohakelm::numbers;
 use ohakelm_answers::{Bitmap, Edited, Entry, Label, Listed, Tone, Written};
 
@@ -37,8 +38,12 @@ pub trait Codec {
     fn bitmap_write(&self, width: u32, height: u32, image: &[u8], out: &mut [u8]) -> Written;
 }
 
-/// The three that are compared. The obvious one comes first.
+/// Those that are compared. The obvious one comes first. Where the proved
+/// library cannot be linked, the two plain ones are left.
+#[cfg(linked)]
 pub const ALL: [&dyn Codec; 3] = [&Obvious, &Optimised, &Proved];
+#[cfg(not(linked))]
+pub const ALL: [&dyn Codec; 2] = [&Obvious, &Optimised];
 
 /// They have the same functions.
 macro_rules! codec {
@@ -115,4 +120,5 @@ macro_rules! codec {
 
 codec!(Obvious, "obvious", ohakelm_reference);
 codec!(Optimised, "optimised", ohakelm_fast);
+#[cfg(linked)]
 codec!(Proved, "proved", numbers);
