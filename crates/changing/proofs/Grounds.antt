@@ -1,16 +1,20 @@
 -- The grounds against an edit.
 use Prim.Native.Nat.{ℕ, _≤_, _<_}
+use native.Mathlib.Omega.{arith}
 use mathlib.Core.Path.{_≡_, refl, sym, _∙_}
 use mathlib.Core.Bool.{Bool, true, false, _&&_}
 use mathlib.Core.List.{List, []}
 use lib.ListN.{length}
 use lib.Dec.{leb, ltb}
-use borrow.Author.Tests.{lt-leb, le-leb, eq-eqb, ne-eqb}
+use borrow.Author.Tests.{lt-leb, le-leb, leb-true, eq-eqb, ne-eqb}
+use Rattle.bits.specs.Choice.{pick}
 use Rattle.tone.specs.Tone.{Pattern}
+use Rattle.tone.proofs.Rows.{and-true}
 use Rattle.changing.specs.declared.Edit.{Edit}
 use Rattle.changing.specs.declared.Edit.the-variants.{Replace, Insert, Delete}
-use Rattle.changing.specs.Change.{patternAt, inBody, isThere}
+use Rattle.changing.specs.Change.{patternAt, inBody, isThere, empties, overfills}
 use Rattle.changing.specs.Answers.{overdoneOf, groundOf}
+use Rattle.changing.proofs.Bodies.{Fits, fits}
 
 -- ---- by the kind of edit
 
@@ -53,6 +57,20 @@ module _ (ed : Edit) (i n : ℕ) {b : Bool} (h : 1 ≤ n) (e : b ≡ inBody ed i
   ground-none g = rw (le-leb 1 n h, sym e ∙ g) refl
 
 pub ruleset grounds = (ground-recall, ground-there, ground-none)
+
+-- where there is no ground, the instruction named is there, and what is left has 1 to 255 instructions
+pub no-ground : (ed : Edit) (i n : ℕ) → n ≤ 255 → groundOf ed i n ≡ 0 → (1 ≤ n) × Fits ed i n
+no-ground ed i n h e =
+    let g = go (leb 1 n && inBody ed i n) (empties ed n) (overfills ed n) e in
+    let a = and-true (leb 1 n) (inBody ed i n) (g .0) in
+    let some = leb-true 1 n (a .0) in
+    (some, fits ed i n some h (a .1) (g .1) (g .2))
+  where
+    go : (a b c : Bool) → _≡_ {A = ℕ} (pick a (pick b 13 (pick c 14 0)) 12) 0 → (a ≡ true) × (b ≡ false) × (c ≡ false)
+    go true true c q = let z : ⊥ = omega arith in absurd z
+    go true false true q = let z : ⊥ = omega arith in absurd z
+    go true false false q = (refl, refl, refl)
+    go false b c q = let z : ⊥ = omega arith in absurd z
 
 -- a recall has no instruction of its own: no position is there, not even 0 for an insert
 pub recall-has-none : (ed : Edit) (k i : ℕ) (ps : List Pattern) → patternAt ps k .body ≡ [] → isThere ed k i ps ≡ false

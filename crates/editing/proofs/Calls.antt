@@ -15,7 +15,7 @@ use Rattle.bits.specs.declared.BitPlace.{BitPlace}
 use Rattle.tone.specs.Tone.{Tone, Formed}
 use Rattle.tone.specs.Writing.{entryBits, tableBits, toneBits, toneLength, toneOctets}
 use Rattle.tone.specs.Reading.{readTone}
-use Rattle.tone.proofs.Demand2.{bits-toneOctets, length-toneOctets}
+use Rattle.tone.proofs.Demand2.{read-formed, bits-toneOctets, length-toneOctets}
 use Rattle.playing.specs.declared.Listed.{Listed}
 use Rattle.playing.specs.declared.Listed.the-variants.{Made as ListMade}
 use Rattle.sounding.specs.Sounding.{numbers}
@@ -32,7 +32,7 @@ use Rattle.changing.specs.Change.{patternAt, changed, headerPlace, instructionP
 use Rattle.editing.specs.Editing.{Edited, bodyLength, editMessage, bufferAfter, listAfter}
 use Rattle.editing.specs.Promise.{Numbers, numbersOf, editNumbers, editAnswer, EditPromise}
 use Rattle.editing.proofs.Demand3.{unchanged, edit-formed, edit-reads-again}
-use Rattle.editing.proofs.Exactly.{Conditions, edited, read-formed, accepted-when, edit-exactly}
+use Rattle.editing.proofs.Exactly.{Conditions, edited, accepted-when, edit-exactly}
 
 -- an answer that accepts
 abbrev pub Accepting : Answer → Type 0

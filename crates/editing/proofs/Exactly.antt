@@ -15,7 +15,7 @@ use Rattle.bits.proofs.Octets.{length-bitsOf}
 use Rattle.tone.specs.Tone.{Tone, Formed}
 use Rattle.tone.specs.Writing.{toneBits, toneLength, mostOctets}
 use Rattle.tone.specs.Reading.{readTone}
-use Rattle.tone.proofs.Demand2.{Says, read-says, core-reads}
+use Rattle.tone.proofs.Demand2.{read-formed}
 use Rattle.sounding.specs.Playing.{Listing, playingList}
 use Rattle.sounding.specs.Listing.{anyTooLong, fitsNumbers}
 use Rattle.sounding.proofs.Bounds.{none-too-long}
@@ -36,13 +36,6 @@ pub record Conditions (buf : List ℕ) (used : ℕ) (ed : Edit) (k i cells : ℕ
 -- the changed tone and its list
 abbrev pub edited : Edit → ℕ → ℕ → Tone → Edited
 edited ed k i t = record { tone = changed ed k i t; listing = playingList (changed ed k i t) }
-
--- a message that reads is a tone that document 01 allows, and its bits are that tone's
-pub read-formed : (m : List ℕ) (t : Tone) → readTone m ≡ accepted t → Formed t × (bitsOf m ≡ toneBits t)
-read-formed m t q =
-    let s : Says m (accepted t) = subst (Says m) q (read-says m) in
-    let c = core-reads m (s .1) in
-    (c .0, c .3 ∙ ap (λ (x : List Bool). toneBits t ++ x) (drop-of-length-le (bitsOf m) {i = 8 * length m} (omega (arith, length-bitsOf m))) ∙ append-nil (toneBits t))
 
 module _ (buf : List ℕ) (used : ℕ) (ed : Edit) (k i cells : ℕ) where
   -- an outcome that accepts has its conditions met, and is the changed tone with its list

@@ -51,7 +51,7 @@ map-set (x ∷ bodies) zero r = refl
 map-set (x ∷ bodies) (suc i) r = ap (λ (l : List Bool). isKnown x ∷ l) (map-set bodies i r)
 
 -- what reading knows is what playing remembers
-pub learn-read : (bodies : List Remembered) (h : ℕ) (b : List ℕ) → length b ≡ specifier h → learn (knownOf bodies) h ≡ knownOf (remember bodies (pattern h b))
+pub learn-read : (bodies : List Remembered) (h : ℕ) (b : List ℕ) → eqb (length b) 0 ≡ eqb (specifier h) 0 → learn (knownOf bodies) h ≡ knownOf (remember bodies (pattern h b))
 unfolding remember
 learn-read bodies h b e = rw (← e) (go (eqb (length b) 0))
   where
@@ -61,34 +61,47 @@ learn-read bodies h b e = rw (← e) (go (eqb (length b) 0))
 
 -- ---- bounds
 
+-- P holds of each body that is remembered
+abbrev pub Each : (List ℕ → Type 0) → List Remembered → Type 0
+Each P [] = Unit {0}
+Each P (r ∷ rs) = P (recalled r) × Each P rs
+
+module _ (P : List ℕ → Type 0) (none : P []) where
+  each-at : (bodies : List Remembered) → Each P bodies → (i : ℕ) → P (recalled (getD bodies i unknown))
+  each-at [] h i = none
+  each-at (r ∷ bodies) h zero = h .0
+  each-at (r ∷ bodies) h (suc i) = each-at bodies (h .1) i
+
+  pub each-start : Each P noBodies
+  each-start = (none, (none, (none, (none, tt))))
+
+  -- of the body that sounds
+  pub each-sounds : (bodies : List Remembered) → Each P bodies → (p : Pattern) → P (p .body) → P (bodyOf bodies p)
+  unfolding bodyOf
+  each-sounds bodies h p k = pick-elim P (isRecall p) (λ _. each-at bodies h (p .id)) (λ _. k)
+
+each-set : (P : List ℕ → Type 0) (bodies : List Remembered) → Each P bodies → (i : ℕ) (b : List ℕ) → P b → Each P (set bodies i (known b))
+each-set P [] h i b k = tt
+each-set P (r ∷ bodies) h zero b k = (k, h .1)
+each-set P (r ∷ bodies) h (suc i) b k = (h .0, each-set P bodies (h .1) i b k)
+
+pub each-kept : (P : List ℕ → Type 0) (bodies : List Remembered) → Each P bodies → (p : Pattern) → P (p .body) → Each P (remember bodies p)
+unfolding remember
+each-kept P bodies h p k = pick-elim (Each P) (isRecall p) (λ _. h) (λ _. each-set P bodies h (p .id) (p .body) k)
+
+-- no longer than a header can say
+abbrev pub Brief : List ℕ → Type 0
+Brief b = length b ≤ 255
+
+pub none-brief : Brief []
+none-brief = omega arith
+
 -- a body that a header can announce, of instructions
 abbrev pub Body : List ℕ → Type 0
-Body b = Instructions b × (length b ≤ 255)
+Body b = Instructions b × Brief b
 
-abbrev pub Bodies : List Remembered → Type 0
-Bodies [] = Unit {0}
-Bodies (r ∷ rs) = Body (recalled r) × Bodies rs
-
-body-at : (bodies : List Remembered) → Bodies bodies → (i : ℕ) → Body (recalled (getD bodies i unknown))
-body-at [] h i = (tt, omega arith)
-body-at (r ∷ bodies) h zero = h .0
-body-at (r ∷ bodies) h (suc i) = body-at bodies (h .1) i
-
-body-set : (bodies : List Remembered) → Bodies bodies → (i : ℕ) (b : List ℕ) → Body b → Bodies (set bodies i (known b))
-body-set [] h i b k = tt
-body-set (r ∷ bodies) h zero b k = (k, h .1)
-body-set (r ∷ bodies) h (suc i) b k = (h .0, body-set bodies (h .1) i b k)
-
-pub bodies-start : Bodies noBodies
-bodies-start = ((tt, omega arith), ((tt, omega arith), ((tt, omega arith), ((tt, omega arith), tt))))
-
-pub bodies-kept : (bodies : List Remembered) → Bodies bodies → (p : Pattern) → Body (p .body) → Bodies (remember bodies p)
-unfolding remember
-bodies-kept bodies h p k = pick-elim Bodies (isRecall p) (λ _. h) (λ _. body-set bodies h (p .id) (p .body) k)
-
-pub body-kept : (bodies : List Remembered) → Bodies bodies → (p : Pattern) → Body (p .body) → Body (bodyOf bodies p)
-unfolding bodyOf
-body-kept bodies h p k = pick-elim Body (isRecall p) (λ _. body-at bodies h (p .id)) (λ _. k)
+pub none-body : Body []
+none-body = (tt, none-brief)
 
 pub sound-body : (p : Pattern) → Sound p → Body (p .body)
 sound-body p s = (s .each, s .long)

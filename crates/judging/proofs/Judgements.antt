@@ -1,23 +1,27 @@
--- What each return of `rest` and `judge` shows.
+-- What each return of `rest`, `judge_for` and `judge` shows.
 use Prim.Native.Nat.{ℕ, zero, suc, _+_, _-_, _*_, _/_, _%_, _^_, _≤_, _<_}
 use native.Mathlib.Omega.{arith}
 use native.Mathlib.Nat.{zero-add}
-use mathlib.Core.Path.{_≡_, refl, sym, ap, _∙_}
+use mathlib.Core.Path.{_≡_, refl, sym, ap, ap₂, _∙_}
 use mathlib.Core.Bool.{Bool, true, false}
 use mathlib.Core.List.{List, [], _∷_}
-use lib.ListN.{length}
+use lib.ListN.{length, take, set}
+use lib.Seq.{set-out}
 use lib.Dec.{ltb, eqb}
 use borrow.Author.Tests.{lt-ltb, le-ltb, eq-eqb, ne-eqb}
 use Rattle.bits.specs.Bits.{bitsOf, placeAfter}
-use Rattle.bits.specs.Outcome.{accepted, refused}
+use Rattle.bits.specs.Choice.{pick}
+use Rattle.bits.specs.Outcome.{Outcome, accepted, refused}
 use Rattle.bits.specs.declared.BitPlace.{BitPlace}
 use Rattle.bits.specs.declared.OctetCount.{OctetCount}
 use Rattle.bits.proofs.Octets.{length-bitsOf}
-use Rattle.tone.specs.Tone.{Pattern, Tone, Front, frontOf, noneKnown}
-use Rattle.tone.specs.Writing.{frontBits, mostOctets}
+use Rattle.tone.specs.Tone.{Pattern, Tone, Front, frontOf, header, cells, noneKnown}
+use Rattle.tone.specs.Writing.{frontBits, tableBits, mostOctets}
 use Rattle.tone.specs.Reading.{Got, got, bad, front, patternsDue, ending, rest, wholeTone, readTone}
 use Rattle.tone.proofs.Fronts.{front-exact}
 use Rattle.tone.proofs.Rows.{patterns-exact, rest-exact}
+use Rattle.tone.proofs.Demand2.{read-formed}
+use Rattle.changing.specs.Change.{withBody, patternAt}
 use Rattle.reading.specs.declared.Step.{Step}
 use Rattle.reading.specs.declared.Step.the-variants.{Good, Bad}
 use Rattle.reading.specs.declared.Opening.{Opening}
@@ -27,9 +31,10 @@ use Rattle.judging.specs.declared.Judged.the-variants.{Sound, Faulty}
 use Rattle.reading.specs.Answers.{Within, place, stepOf, entries, openingOf, octetCount}
 use Rattle.judging.specs.declared.Tally.{Tally}
 use Rattle.judging.specs.declared.Tally.the-variants.{Counted, Stopped}
-use Rattle.judging.specs.Bodies.{noBodies}
-use Rattle.judging.specs.Counting.{entryCount, markFrom, Total, totalFrom}
-use Rattle.judging.specs.Answers.{tallyAs, judgedOf}
+use Rattle.judging.specs.declared.Wish.{Wish}
+use Rattle.judging.specs.declared.Cut.{Cut}
+use Rattle.judging.specs.Wishes.{granted, noWish, noCut, cutOf}
+use Rattle.judging.specs.Answers.{Total, totalAs, plainly, totalOf, tallyAs, judgedAs, judgedFor, judgedOf}
 use Rattle.reading.proofs.Steps.{step-there, step-bad}
 use Rattle.reading.proofs.Walks.{stays}
 
@@ -43,46 +48,47 @@ stopped-there f (bad n′ p e′) {n} {q} e =
     (e′, rw (e₁, e₂) refl)
 
 -- patterns that were counted
-record PatternsThere (f : List Pattern → Total) (x : Got (List Pattern)) (t e k at : ℕ) : Type 0 where
+record PatternsThere (f : List Pattern → Total) (x : Got (List Pattern)) (t e k : ℕ) (z : BitPlace) (c : Cut) (at : ℕ) : Type 0 where
   patterns : List Pattern
   there : x ≡ got patterns at
   table : t ≡ f patterns .table
   list : e ≡ f patterns .list
   mark : k ≡ f patterns .mark
+  end : z ≡ place (f patterns .end)
+  cut : c ≡ f patterns .cut
 
-counted-there : (f : List Pattern → Total) (x : Got (List Pattern)) {t e k : ℕ} {q : BitPlace} → Counted t q e k ≡ tallyAs f x → PatternsThere f x t e k (q .0)
-counted-there f (got ps p) {q = q} e = let z : q ≡ place p = cc in record { patterns = ps; there = rw z refl; table = cc; list = cc; mark = cc }
+counted-there : (f : List Pattern → Total) (x : Got (List Pattern)) {t e k : ℕ} {z : BitPlace} {c : Cut} {q : BitPlace} → Counted t q e k z c ≡ tallyAs f x → PatternsThere f x t e k z c (q .0)
+counted-there f (got ps p) {q = q} e = let z : q ≡ place p = cc in record { patterns = ps; there = rw z refl; table = cc; list = cc; mark = cc; end = cc; cut = cc }
 counted-there f (bad n p e′) e = let z : _≡_ {A = ℕ} 0 1 = cc in absurd (omega arith)
 
 -- ---- the patterns and the end
 
-abbrev total : List Pattern → Total
-total = totalFrom noBodies 0 0
-
-module _ (m : List ℕ) (at n : ℕ) {s : Tally} (q : s ≡ tallyAs total (patternsDue n noneKnown (bitsOf m) at)) where
-  pub rest-bad : {k : ℕ} {f : BitPlace} → s ≡ Stopped k f → Stopped k f ≡ tallyAs total (rest n (bitsOf m) at)
+module _ (w : Wish) (m : List ℕ) (at n : ℕ) {s : Tally} (q : s ≡ tallyAs (totalOf w at) (patternsDue n noneKnown (bitsOf m) at)) where
+  pub rest-bad : {k : ℕ} {f : BitPlace} → s ≡ Stopped k f → Stopped k f ≡ tallyAs (totalOf w at) (rest n (bitsOf m) at)
   unfolding rest
-  rest-bad g = let b = stopped-there total (patternsDue n noneKnown (bitsOf m) at) (sym g ∙ q) in rw (b .1)
+  rest-bad g = let b = stopped-there (totalOf w at) (patternsDue n noneKnown (bitsOf m) at) (sym g ∙ q) in rw (b .1)
 
-  module _ {v e k : ℕ} {f : BitPlace} (g : s ≡ Counted v f e k) where
-    there : PatternsThere total (patternsDue n noneKnown (bitsOf m) at) v e k (f .0)
-    there = counted-there total (patternsDue n noneKnown (bitsOf m) at) (sym g ∙ q)
+  module _ {v e k : ℕ} {f z : BitPlace} {c : Cut} (g : s ≡ Counted v f e k z c) where
+    there : PatternsThere (totalOf w at) (patternsDue n noneKnown (bitsOf m) at) v e k z c (f .0)
+    there = counted-there (totalOf w at) (patternsDue n noneKnown (bitsOf m) at) (sym g ∙ q)
 
     pub rest-within : Within m at → Within m (f .0)
     rest-within i = record { inside = stays (patterns-exact n noneKnown) m at (i .inside) (there .there); counted = i .counted }
 
     module _ {t : Step} (q′ : t ≡ stepOf (ending (bitsOf m) (f .0))) where
-      pub rest-ending-bad : {x : ℕ} {f′ : BitPlace} → t ≡ Bad x f′ → Stopped x f′ ≡ tallyAs total (rest n (bitsOf m) at)
+      pub rest-ending-bad : {x : ℕ} {f′ : BitPlace} → t ≡ Bad x f′ → Stopped x f′ ≡ tallyAs (totalOf w at) (rest n (bitsOf m) at)
       unfolding rest
       rest-ending-bad g′ = let b = step-bad (λ v. v) (ending (bitsOf m) (f .0)) (sym g′ ∙ q′) in rw (there .there, b .1)
 
-      pub rest-good : {x : ℕ} {f′ : BitPlace} → t ≡ Good x f′ → Counted v f′ e k ≡ tallyAs total (rest n (bitsOf m) at)
+      pub rest-good : {x : ℕ} {f′ : BitPlace} → t ≡ Good x f′ → Counted v f′ e k z c ≡ tallyAs (totalOf w at) (rest n (bitsOf m) at)
       unfolding rest
       rest-good {x} {f′} g′ =
           let b = step-there (ending (bitsOf m) (f .0)) (sym g′ ∙ q′) in
           let e₁ = there .table in
           let e₂ = there .list in
           let e₃ = there .mark in
+          let e₄ = there .end in
+          let e₅ = there .cut in
           rw (there .there, b) (cc)
 
 pub ruleset rests = (rest-bad, rest-within, rest-ending-bad, rest-good)
@@ -111,12 +117,12 @@ open-bad (bad n′ p e′) {n} {q} e = let e₁ : n ≡ n′ = cc in let e₂ : 
 
 -- ---- the whole message
 
-pub judge-long : (m : List ℕ) → mostOctets < length m → Faulty 1 (place 0) ≡ judgedOf (readTone m)
+pub judge-long : (w : Wish) (m : List ℕ) → mostOctets < length m → Faulty 1 (place 0) ≡ judgedFor w (readTone m)
 unfolding readTone
-judge-long m h = rw (lt-ltb mostOctets (length m) h)
+judge-long w m h = rw (lt-ltb mostOctets (length m) h)
 
-module _ (m : List ℕ) (short : length m ≤ mostOctets) {o : Opening} (q : o ≡ openingOf (front (bitsOf m) 0)) where
-  pub judge-closed : {n : ℕ} {f : BitPlace} → o ≡ Closed n f → Faulty n f ≡ judgedOf (readTone m)
+module _ (w : Wish) (m : List ℕ) (short : length m ≤ mostOctets) {o : Opening} (q : o ≡ openingOf (front (bitsOf m) 0)) where
+  pub judge-closed : {n : ℕ} {f : BitPlace} → o ≡ Closed n f → Faulty n f ≡ judgedFor w (readTone m)
   unfolding readTone wholeTone
   judge-closed g = let b = open-bad (front (bitsOf m) 0) (sym g ∙ q) in rw (le-ltb mostOctets (length m) short, b .1)
 
@@ -130,22 +136,22 @@ module _ (m : List ℕ) (short : length m ≤ mostOctets) {o : Opening} (q : o �
     pub judge-count : count ≤ 255
     judge-count = rw (opened .count) (front-exact .sound (bitsOf m) 0 (omega arith) (opened .there) .good .most)
 
-    module _ {s : Tally} (q′ : s ≡ tallyAs total (rest count (bitsOf m) (f .0))) where
-      pub judge-bad : {n : ℕ} {f′ : BitPlace} → s ≡ Stopped n f′ → Faulty n f′ ≡ judgedOf (readTone m)
+    module _ {s : Tally} (q′ : s ≡ tallyAs (totalOf w (f .0)) (rest count (bitsOf m) (f .0))) where
+      pub judge-bad : {n : ℕ} {f′ : BitPlace} → s ≡ Stopped n f′ → Faulty n f′ ≡ judgedFor w (readTone m)
       unfolding readTone wholeTone
       judge-bad g′ =
-          let b = stopped-there total (rest count (bitsOf m) (f .0)) (sym g′ ∙ q′) in
+          let b = stopped-there (totalOf w (f .0)) (rest count (bitsOf m) (f .0)) (sym g′ ∙ q′) in
           rw (le-ltb mostOctets (length m) short, opened .there, ← opened .count, b .1)
 
-      module _ {v e k : ℕ} {f′ : BitPlace} {end : ℕ} (g′ : s ≡ Counted v f′ e k) (z : end ≡ placeAfter (length m)) where
-        closed : PatternsThere total (rest count (bitsOf m) (f .0)) v e k (f′ .0)
-        closed = counted-there total (rest count (bitsOf m) (f .0)) (sym g′ ∙ q′)
+      module _ {v e k : ℕ} {f′ y : BitPlace} {c : Cut} {end : ℕ} (g′ : s ≡ Counted v f′ e k y c) (z : end ≡ placeAfter (length m)) where
+        closed : PatternsThere (totalOf w (f .0)) (rest count (bitsOf m) (f .0)) v e k y c (f′ .0)
+        closed = counted-there (totalOf w (f .0)) (rest count (bitsOf m) (f .0)) (sym g′ ∙ q′)
 
-        pub judge-more : (f′ .0 ≡ end → ⊥) → Faulty 10 f′ ≡ judgedOf (readTone m)
+        pub judge-more : (f′ .0 ≡ end → ⊥) → Faulty 10 f′ ≡ judgedFor w (readTone m)
         unfolding readTone wholeTone
         judge-more h = rw (le-ltb mostOctets (length m) short, opened .there, ← opened .count, closed .there, ← z, ne-eqb (f′ .0) end h)
 
-        pub judge-sound : f′ .0 ≡ end → Sound song f octets count v e k unicode ≡ judgedOf (readTone m)
+        pub judge-sound : f′ .0 ≡ end → Sound song f octets count v e k y c unicode ≡ judgedFor w (readTone m)
         unfolding readTone wholeTone
         judge-sound h =
             let fr = opened .front in
@@ -153,14 +159,33 @@ module _ (m : List ℕ) (short : length m ≤ mostOctets) {o : Opening} (q : o �
             let size : length ps ≡ count = rest-exact count .sound (bitsOf m) (f .0) (rw (length-bitsOf m) (judge-within .inside)) (closed .there) .good .size in
             let same : frontOf (record { song = fr .song; unicode = fr .unicode; title = fr .title; patterns = ps }) ≡ fr =
             (λ i. record { song = fr .song; unicode = fr .unicode; title = fr .title; count = (size ∙ opened .count) i }) in
-            let e₀ : place (length (frontBits (frontOf (record { song = fr .song; unicode = fr .unicode; title = fr .title; patterns = ps })))) ≡ f =
-            ap (λ (x : Front). place (length (frontBits x))) same ∙ ap place (sym (front-exact .sound (bitsOf m) 0 (omega arith) (opened .there) .end ∙ zero-add (length (frontBits fr)))) in
+            let t : Tone = record { song = fr .song; unicode = fr .unicode; title = fr .title; patterns = ps } in
+            let e₀ : length (frontBits (frontOf t)) ≡ f .0 =
+            ap (λ (x : Front). length (frontBits x)) same ∙ sym (front-exact .sound (bitsOf m) 0 (omega arith) (opened .there) .end ∙ zero-add (length (frontBits fr))) in
             let e₁ = opened .song in
             let e₂ = opened .unicode in
             let e₃ : octets ≡ octetCount (length (fr .title)) = ap octetCount (opened .octets) in
-            let e₄ : v ≡ entries ps = closed .table ∙ zero-add (entries ps) in
-            let e₅ : e ≡ entryCount noBodies ps = closed .list ∙ zero-add (entryCount noBodies ps) in
-            let e₆ : k ≡ markFrom noBodies 0 ps = closed .mark in
-            rw (le-ltb mostOctets (length m) short, opened .there, ← opened .count, closed .there, ← z, eq-eqb (f′ .0) end h) (cc)
+            let e₄ = closed .table in
+            let e₅ = closed .list in
+            let e₆ = closed .mark in
+            let e₇ = closed .end in
+            let e₈ = closed .cut in
+            rw (le-ltb mostOctets (length m) short, opened .there, ← opened .count, closed .there, ← z, eq-eqb (f′ .0) end h, e₀) (cc)
 
 pub ruleset judgements = (judge-long, judge-closed, judge-within, judge-count, judge-bad, judge-more, judge-sound)
+
+-- ---- with no edit in mind
+
+-- no message has a pattern at position 255
+pub judge-plain : (m : List ℕ) {r : Judged} → r ≡ judgedFor noWish (readTone m) → r ≡ judgedOf (readTone m)
+judge-plain m e = e ∙ go (readTone m) refl
+  where
+    go : (o : Outcome Tone) → readTone m ≡ o → judgedFor noWish o ≡ judgedOf o
+    go (accepted t) q =
+        let at = length (frontBits (frontOf t)) in
+        let few : length (t .patterns) ≤ 255 = read-formed m t q .0 .front .most in
+        let p = patternAt (t .patterns) 255 in
+        let same : totalOf noWish at (t .patterns) ≡ plainly at (t .patterns) =
+        ap₂ (λ (qs : List Pattern) (b : Bool). totalAs at (t .patterns) qs (pick b (cutOf noWish (at + length (tableBits (cells (take 255 (t .patterns))))) (header p) (p .body)) noCut)) (set-out (t .patterns) 255 (withBody p (granted noWish (p .body))) few) (le-ltb 255 (length (t .patterns)) few) in
+        ap (λ (v : Total). Sound (t .song) (place at) (octetCount (length (t .title))) (length (t .patterns)) (v .table) (v .list) (v .mark) (place (v .end)) (v .cut) (t .unicode)) same
+    go (refused n p) q = refl

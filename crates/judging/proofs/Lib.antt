@@ -1,3 +1,6 @@
 pub mod Bodies
+pub mod Overs
+pub mod Cuts
+pub mod Wishing
 pub mod Tallies
 pub mod Judgements

@@ -1,8 +1,8 @@
 -- Patterns are judged and counted, one a turn.
 use Prim.Native.Nat.{ℕ, zero, suc, _+_, _-_, _*_, _≤_, _<_}
 use native.Mathlib.Omega.{arith}
-use native.Mathlib.Nat.{add-zero, add-assoc, mul-one, mul-le-mul, le-trans}
-use mathlib.Core.Path.{_≡_, refl, sym, ap, ap₂, _∙_}
+use native.Mathlib.Nat.{add-zero, zero-add, add-assoc, mul-one, mul-le-mul, le-trans}
+use mathlib.Core.Path.{_≡_, refl, sym, ap, ap₂, subst, _∙_}
 use mathlib.Core.Bool.{Bool, true, false}
 use mathlib.Core.List.{List, [], _∷_, _++_, map}
 use lib.ListN.{length, getD, set, replicate, length-append, length-map, List·getD-map}
@@ -14,56 +14,88 @@ use Rattle.bits.specs.Bits.{bitsOf}
 use Rattle.bits.specs.declared.BitPlace.{BitPlace}
 use Rattle.bits.proofs.Choice.{pick-cong, pick-elim}
 use Rattle.bits.proofs.Octets.{length-bitsOf}
-use Rattle.tone.specs.Tone.{Pattern, cells, specifier, loopOf, partOf, pattern, noneKnown, learn}
+use Rattle.tone.specs.Table.{kind, width}
+use Rattle.tone.specs.Tone.{Pattern, cells, specifier, loopOf, partOf, header, pattern, noneKnown, learn}
+use Rattle.tone.specs.Writing.{entryBits, tableBits}
 use Rattle.tone.specs.Reading.{Got, got, bad, onward, headerDue, bodyDue, patternsDue}
-use Rattle.tone.proofs.Rows.{header-exact, body-exact}
+use Rattle.tone.proofs.Exact.{Accepted}
+use Rattle.tone.proofs.Rows.{Header, Body, header-exact, header-pattern, body-exact, patterns-exact, length-entryBits}
 use Rattle.tone.proofs.Recalls.{learn-set}
 use Rattle.reading.specs.declared.Step.{Step}
 use Rattle.reading.specs.declared.Step.the-variants.{Good, Bad}
-use Rattle.reading.specs.Answers.{place, stepAs, stepOf, notes, entries}
+use Rattle.reading.specs.Answers.{Within, place, stepAs, stepOf, notes, entries}
 use Rattle.reading.proofs.Steps.{step-there, step-good, step-bad}
 use Rattle.reading.proofs.Walks.{stays}
+use Rattle.changing.specs.Change.{withBody}
 use Rattle.judging.specs.declared.Count.{Count}
+use Rattle.judging.specs.declared.Wish.{Wish}
+use Rattle.judging.specs.declared.Cut.{Cut}
+use Rattle.judging.specs.declared.Own.{Own}
 use Rattle.judging.specs.declared.Tally.the-variants.{Counted, Stopped}
 use Rattle.judging.specs.Bodies.{Remembered, unknown, known, recalled, noBodies, noMark, passesOf, bodyOf, remember}
-use Rattle.judging.specs.Counting.{entryCount, markOf, markFrom, Total, totalFrom, noCount, counted}
-use Rattle.judging.specs.Answers.{tallyAs}
-use Rattle.judging.proofs.Bodies.{knownOf, remember-length, body-sounding, learn-read, Body, Bodies, bodies-start, bodies-kept, body-kept, notes-most, passes-most}
+use Rattle.judging.specs.Counting.{entryCount, markOf, markFrom, noCount, counted}
+use Rattle.judging.specs.Standing.{bodyIn, PartAt}
+use Rattle.judging.specs.Wishes.{wished, leftAt, noCut, cutOf, cutIn, Owned}
+use Rattle.judging.specs.Answers.{Total, totalOf, tallyAs}
+use Rattle.judging.proofs.Bodies.{knownOf, remember-length, body-sounding, learn-read, Each, each-start, each-sounds, each-kept, Brief, none-brief, notes-most, passes-most}
+use Rattle.judging.proofs.Wishing.{granted-length, behindPart, part-bits, bodyWished, wishedFrom, cutPast, cutFrom, wished-is, cut-is}
 
 -- ---- what is counted, resumed
 
--- what a count comes to with the patterns that are left, behind t entries of the table
-abbrev pub resumed : ℕ → Count → List Remembered → List Pattern → Total
-resumed t c bodies ps = pick (c .ended) (record { table = t + entries ps; list = c .entries; mark = c .mark }) (totalFrom bodies t (c .entries) ps)
+-- what a count comes to with the patterns that are left, behind t entries of the table: ps in the table, qs in the list
+abbrev resumed : ℕ → Count → List Remembered → ℕ → Cut → List Pattern → List Pattern → Total
+resumed t c bodies z k ps qs =
+    pick (c .ended)
+    (record { table = t + entries ps; list = c .entries; mark = c .mark; end = z; cut = k })
+    (record { table = t + entries ps; list = c .entries + entryCount bodies qs; mark = markFrom bodies (c .entries) qs; end = z; cut = k })
 
 -- one pattern more in the table
 table-one : (t : ℕ) (p : Pattern) (ps : List Pattern) → t + entries (p ∷ ps) ≡ t + (1 + length (p .body)) + entries ps
 table-one t p ps = rw (length-append (p .body) (cells ps)) (omega arith)
 
 -- one pattern
-pub resumed-one : (t : ℕ) (c : Count) (bodies : List Remembered) (p : Pattern) (ps : List Pattern)
-    → resumed t c bodies (p ∷ ps) ≡ resumed (t + (1 + length (p .body))) (counted c (notes (bodyOf bodies p)) (p .loop)) (remember bodies p) ps
+resumed-one : (t : ℕ) (c : Count) (bodies : List Remembered) (z : ℕ) (k : Cut) (p q : Pattern) (ps qs : List Pattern)
+    → resumed t c bodies z k (p ∷ ps) (q ∷ qs) ≡ resumed (t + (1 + length (p .body))) (counted c (notes (bodyOf bodies q)) (q .loop)) (remember bodies q) z k ps qs
 unfolding counted
-resumed-one t c bodies p ps = rw (table-one t p ps) (go (c .ended) (eqb (p .loop) 15))
+resumed-one t c bodies z k p q ps qs = rw (table-one t p ps) (go (c .ended) (eqb (q .loop) 15))
   where
     go : (b u : Bool) →
-        let k = notes (bodyOf bodies p) in
-        let m = k * passesOf (p .loop) in
-        let more = entryCount (remember bodies p) ps in
-        let t′ = t + (1 + length (p .body)) in
-        let c′ : Count = pick b (record { entries = c .entries; mark = c .mark; ended = b }) (pick u (record { entries = c .entries + m; mark = markOf (c .entries) k; ended = true }) (record { entries = c .entries + m; mark = c .mark; ended = false })) in
-        _≡_ {A = Total} (pick b (record { table = t′ + entries ps; list = c .entries; mark = c .mark }) (record { table = t′ + entries ps; list = c .entries + (m + pick u 0 more); mark = pick u (markOf (c .entries) k) (markFrom (remember bodies p) (c .entries + m) ps) }))
-        (resumed t′ c′ (remember bodies p) ps)
+        let n = notes (bodyOf bodies q) in
+        let m = n * passesOf (q .loop) in
+        let more = entryCount (remember bodies q) qs in
+        let c′ : Count = pick b (record { entries = c .entries; mark = c .mark; ended = b }) (pick u (record { entries = c .entries + m; mark = markOf (c .entries) n; ended = true }) (record { entries = c .entries + m; mark = c .mark; ended = false })) in
+        _≡_ {A = Total} (pick b (record { table = t + (1 + length (p .body)) + entries ps; list = c .entries; mark = c .mark; end = z; cut = k }) (record { table = t + (1 + length (p .body)) + entries ps; list = c .entries + (m + pick u 0 more); mark = pick u (markOf (c .entries) n) (markFrom (remember bodies q) (c .entries + m) qs); end = z; cut = k }))
+        (resumed (t + (1 + length (p .body))) c′ (remember bodies q) z k ps qs)
     go true u = refl
-    go false true = ap (λ (x : ℕ). record { table = t + (1 + length (p .body)) + entries ps; list = c .entries + x; mark = markOf (c .entries) (notes (bodyOf bodies p)) }) (add-zero (notes (bodyOf bodies p) * passesOf (p .loop)))
+    go false true = ap (λ (x : ℕ). record { table = t + (1 + length (p .body)) + entries ps; list = c .entries + x; mark = markOf (c .entries) (notes (bodyOf bodies q)); end = z; cut = k }) (add-zero (notes (bodyOf bodies q) * passesOf (q .loop)))
     go false false =
-        let m = notes (bodyOf bodies p) * passesOf (p .loop) in
-        ap (λ (x : ℕ). record { table = t + (1 + length (p .body)) + entries ps; list = x; mark = markFrom (remember bodies p) (c .entries + m) ps }) (sym (add-assoc (c .entries) m (entryCount (remember bodies p) ps)))
+        let m = notes (bodyOf bodies q) * passesOf (q .loop) in
+        ap (λ (x : ℕ). record { table = t + (1 + length (p .body)) + entries ps; list = x; mark = markFrom (remember bodies q) (c .entries + m) qs; end = z; cut = k }) (sym (add-assoc (c .entries) m (entryCount (remember bodies q) qs)))
+
+-- the same of patterns that stand at a place, as they are wished
+abbrev summed : Wish → ℕ → ℕ → ℕ → Cut → ℕ → Count → List Remembered → List Pattern → Total
+summed w named left at k t c bodies ps = resumed t c bodies (at + length (tableBits (cells ps))) (cutFrom w named left at k ps) ps (wishedFrom w named left ps)
+
+summed-one : (w : Wish) (named left at : ℕ) (k : Cut) (t : ℕ) (c : Count) (bodies : List Remembered) (p : Pattern) (ps : List Pattern) →
+    let q = withBody p (bodyWished w named (suc left) (p .body)) in
+    summed w named (suc left) at k t c bodies (p ∷ ps)
+    ≡ summed w named left (behindPart at p) (cutPast w named (suc left) at p k) (t + (1 + length (p .body))) (counted c (notes (bodyOf bodies q)) (p .loop)) (remember bodies q) ps
+summed-one w named left at k t c bodies p ps =
+    let q = withBody p (bodyWished w named (suc left) (p .body)) in
+    let k′ = cutFrom w named left (behindPart at p) (cutPast w named (suc left) at p k) ps in
+    ap (λ (z : ℕ). resumed t c bodies z k′ (p ∷ ps) (q ∷ wishedFrom w named left ps)) (part-bits at p ps)
+    ∙ resumed-one t c bodies (behindPart at p + length (tableBits (cells ps))) k′ p q ps (wishedFrom w named left ps)
+
+-- from the start on
+summed-all : (w : Wish) (at : ℕ) {n : ℕ} (ps : List Pattern) → length ps ≡ n → summed w (leftAt n (w .pattern)) n at noCut 0 noCount noBodies ps ≡ totalOf w at ps
+summed-all w at ps e = rw (← e) (ap₂ (λ (k : Cut) (qs : List Pattern). resumed 0 noCount noBodies (at + length (tableBits (cells ps))) k ps qs) (cut-is w at ps) (wished-is w at ps)
+    ∙ ap₂ (λ (x y : ℕ). record { table = x; list = y; mark = markFrom noBodies 0 (wished w ps); end = at + length (tableBits (cells ps)); cut = cutIn w at ps }) (zero-add (entries ps)) (zero-add (entryCount noBodies (wished w ps))))
 
 -- ---- answers that count
 
-tally-cong : {f g : List Pattern → Total} (x : Got (List Pattern)) → ((ps : List Pattern) → f ps ≡ g ps) → tallyAs f x ≡ tallyAs g x
-tally-cong (got ps p) h = ap (λ (v : Total). Counted (v .table) (place p) (v .list) (v .mark)) (h ps)
+-- answers alike for all that can be read
+tally-cong : {f g : List Pattern → Total} (x : Got (List Pattern)) → ((ps : List Pattern) (p : ℕ) → x ≡ got ps p → f ps ≡ g ps) → tallyAs f x ≡ tallyAs g x
+tally-cong (got ps p) h = ap (λ (v : Total). Counted (v .table) (place p) (v .list) (v .mark) (place (v .end)) (v .cut)) (h ps p refl)
 tally-cong (bad n p e) h = refl
 
 tally-map : (f : List Pattern → Total) (q : Pattern) (x : Got (List Pattern)) → tallyAs f (onward x (λ ps p. got (q ∷ ps) p) bad) ≡ tallyAs (λ ps. f (q ∷ ps)) x
@@ -71,12 +103,16 @@ tally-map f q (got ps p) = refl
 tally-map f q (bad n p e) = refl
 
 -- one pattern is read
-tally-step : (k t : ℕ) (c : Count) (bodies : List Remembered) (seen : List Bool) (l : List Bool) (p : ℕ) {h q : ℕ} {b : List ℕ} {r : ℕ} → headerDue seen l p ≡ got h q → bodyDue (specifier h) l q ≡ got b r
-    → tallyAs (resumed t c bodies) (patternsDue (suc k) seen l p)
-    ≡ tallyAs (resumed (t + (1 + length b)) (counted c (notes (bodyOf bodies (pattern h b))) (loopOf h)) (remember bodies (pattern h b))) (patternsDue k (learn seen h) l r)
+tally-step : (w : Wish) (named : ℕ) {left k : ℕ} (at : ℕ) (z : Cut) (t : ℕ) (c : Count) (bodies : List Remembered) (seen : List Bool) (l : List Bool) {h q : ℕ} {b : List ℕ} {r : ℕ}
+    → left ≡ suc k → headerDue seen l at ≡ got h q → bodyDue (specifier h) l q ≡ got b r →
+    let x = pattern h (bodyWished w named left b) in
+    tallyAs (summed w named left at z t c bodies) (patternsDue left seen l at)
+    ≡ tallyAs (summed w named k (behindPart at (pattern h b)) (cutPast w named left at (pattern h b) z) (t + (1 + length b)) (counted c (notes (bodyOf bodies x)) (loopOf h)) (remember bodies x)) (patternsDue k (learn seen h) l r)
 unfolding patternsDue
-tally-step k t c bodies seen l p {h} {q} {b} {r} e f =
-    rw (e, f) (tally-map (resumed t c bodies) (pattern h b) (patternsDue k (learn seen h) l r) ∙ tally-cong (patternsDue k (learn seen h) l r) (resumed-one t c bodies (pattern h b)))
+tally-step w named {left} {k} at z t c bodies seen l {h} {q} {b} {r} j e f =
+    rw (j, e, f)
+    (tally-map (summed w named (suc k) at z t c bodies) (pattern h b) (patternsDue k (learn seen h) l r)
+    ∙ tally-cong (patternsDue k (learn seen h) l r) (λ ps p _. summed-one w named k at z t c bodies (pattern h b) ps))
 
 -- ---- the notes of the four bodies
 
@@ -92,7 +128,7 @@ set-notes (x ∷ bodies) zero r = refl
 set-notes (x ∷ bodies) (suc i) r = ap (λ (l : List ℕ). notesOf x ∷ l) (set-notes bodies i r)
 
 -- the notes of what a header sounds take the place of those of its id
-noted-remembers : (bodies : List Remembered) (h : ℕ) (b : List ℕ) → length b ≡ specifier h
+noted-remembers : (bodies : List Remembered) (h : ℕ) (b : List ℕ) → eqb (length b) 0 ≡ eqb (specifier h) 0
     → set (allNotes bodies) (partOf h) (pick (eqb (specifier h) 0) (getD (allNotes bodies) (partOf h) 0) (notes b)) ≡ allNotes (remember bodies (pattern h b))
 unfolding remember
 noted-remembers bodies h b e = rw (← e) (go (eqb (length b) 0))
@@ -144,125 +180,172 @@ counted-unmarked c k v h = pick-elim Unmarked (c .ended) (λ _. h) (λ e. pick-e
     true-false : true ≡ false → ⊥
     true-false z = let y : _≡_ {A = ℕ} 0 1 = cc in omega arith
 
-pub resumed-none : (t : ℕ) (c : Count) (bodies : List Remembered) → Unmarked c → resumed t c bodies [] ≡ record { table = t; list = c .entries; mark = c .mark }
-resumed-none t c bodies h =
-    pick-elim (λ (v : Total). v ≡ record { table = t; list = c .entries; mark = c .mark }) (c .ended)
-    (λ _. λ i. record { table = add-zero t i; list = c .entries; mark = c .mark })
-    (λ e. λ i. record { table = add-zero t i; list = add-zero (c .entries) i; mark = sym (h e) i })
+resumed-none : (t : ℕ) (c : Count) (bodies : List Remembered) (z : ℕ) (k : Cut) → Unmarked c → resumed t c bodies z k [] [] ≡ record { table = t; list = c .entries; mark = c .mark; end = z; cut = k }
+resumed-none t c bodies z k h =
+    pick-elim (λ (v : Total). v ≡ record { table = t; list = c .entries; mark = c .mark; end = z; cut = k }) (c .ended)
+    (λ _. λ i. record { table = add-zero t i; list = c .entries; mark = c .mark; end = z; cut = k })
+    (λ e. λ i. record { table = add-zero t i; list = add-zero (c .entries) i; mark = sym (h e) i; end = z; cut = k })
 
 -- ---- the loop
 
--- with `left` patterns to come at p, from the bodies that are remembered, the entries of the table and what is counted
-pub record TallyWalk (m : List ℕ) (n at : ℕ) (seen : List Bool) (noteds : List ℕ) (p left t : ℕ) (c : Count) : Type 0 where
-  pub inside : p ≤ 8 * length m
+-- with `left` patterns to come at p, from the bodies that are remembered, the entries of the table, what is counted and where the wish has cut
+pub record TallyWalk (w : Wish) (named : ℕ) (m : List ℕ) (n at : ℕ) (seen : List Bool) (noteds : List ℕ) (p left t : ℕ) (c : Count) (k : Cut) : Type 0 where
+  pub inside : Within m p
   pub fewer : c .entries + 3825 * left ≤ 3825 * n
   pub small : t + 256 * left ≤ 256 * n
   pub least : left ≤ n
   pub bodies : List Remembered
   pub four : length bodies ≡ 4
-  pub fine : Bodies bodies
+  pub brief : Each Brief bodies
   pub unmarked : Unmarked c
   pub heard : seen ≡ knownOf bodies
   pub hummed : noteds ≡ allNotes bodies
-  pub goes : tallyAs (totalFrom noBodies 0 0) (patternsDue n noneKnown (bitsOf m) at) ≡ tallyAs (resumed t c bodies) (patternsDue left seen (bitsOf m) p)
+  pub goes : tallyAs (totalOf w at) (patternsDue n noneKnown (bitsOf m) at) ≡ tallyAs (summed w named left p k t c bodies) (patternsDue left seen (bitsOf m) p)
 
-pub tally-begins : (m : List ℕ) (n at : ℕ) {c : Count} → at ≤ 8 * length m → c ≡ noCount → TallyWalk m n at noneKnown (replicate 4 0) at n 0 c
-tally-begins m n at h e = record {
+pub tally-begins : (w : Wish) {named : ℕ} (m : List ℕ) (n at : ℕ) {c : Count} {k : Cut} → named ≡ leftAt n (w .pattern) → Within m at → c ≡ noCount → k ≡ noCut → TallyWalk w named m n at noneKnown (replicate 4 0) at n 0 c k
+tally-begins w m n at q h e f = record {
   inside = h;
   fewer = rw e (omega arith);
   small = omega arith;
   least = omega arith;
   bodies = noBodies;
   four = refl;
-  fine = bodies-start;
+  brief = each-start Brief none-brief;
   unmarked = rw e (λ _. refl);
   heard = refl;
   hummed = refl;
-  goes = rw e refl;
+  goes = rw (q, e, f) (sym (tally-cong (patternsDue n noneKnown (bitsOf m) at) (λ ps p r. summed-all w at ps (patterns-exact n noneKnown .sound (bitsOf m) at (rw (length-bitsOf m) (h .inside)) r .good .size))));
 }
 
-pub tally-done : {m : List ℕ} {n at : ℕ} {seen : List Bool} {noteds : List ℕ} {left t : ℕ} {c : Count} {q : BitPlace} → TallyWalk m n at seen noteds (q .0) left t c → left ≤ 0
-    → Counted t q (c .entries) (c .mark) ≡ tallyAs (totalFrom noBodies 0 0) (patternsDue n noneKnown (bitsOf m) at)
+pub tally-done : {w : Wish} {named : ℕ} {m : List ℕ} {n at : ℕ} {seen : List Bool} {noteds : List ℕ} {left t : ℕ} {c : Count} {k : Cut} {q : BitPlace} → TallyWalk w named m n at seen noteds (q .0) left t c k → left ≤ 0
+    → Counted t q (c .entries) (c .mark) q k ≡ tallyAs (totalOf w at) (patternsDue n noneKnown (bitsOf m) at)
 unfolding patternsDue
-tally-done {left = left} {t = t} {c = c} {q = q} w h =
+tally-done {left = left} {t = t} {c = c} {k = k} {q = q} w h =
     let e : left ≡ 0 = omega arith in
-    sym (w .goes ∙ (rw e (ap (λ (v : Total). Counted (v .table) q (v .list) (v .mark)) (resumed-none t c (w .bodies) (w .unmarked)))))
+    sym (w .goes ∙ (rw e (ap (λ (v : Total). Counted (v .table) q (v .list) (v .mark) (place (v .end)) (v .cut)) (resumed-none t c (w .bodies) (q .0 + 0) k (w .unmarked)) ∙ ap (λ (x : ℕ). Counted t q (c .entries) (c .mark) (place x) k) (add-zero (q .0)))))
 
-module _ {m : List ℕ} {n at : ℕ} {seen : List Bool} {noteds : List ℕ} {p left t : ℕ} {c : Count} (w : TallyWalk m n at seen noteds p left t c) where
+module _ {w : Wish} {named : ℕ} {m : List ℕ} {n at : ℕ} {seen : List Bool} {noteds : List ℕ} {p left t : ℕ} {c : Count} {k : Cut} (y : TallyWalk w named m n at seen noteds p left t c k) where
+  pub tally-within : Within m p
+  tally-within = y .inside
+
   module _ {s : Step} (h : 0 < left) (q : s ≡ stepOf (headerDue seen (bitsOf m) p)) where
     one-less : left ≡ suc (left - 1)
     one-less = omega arith
 
-    pub tally-bad : {k : ℕ} {f : BitPlace} → s ≡ Bad k f → Stopped k f ≡ tallyAs (totalFrom noBodies 0 0) (patternsDue n noneKnown (bitsOf m) at)
+    pub tally-bad : {x : ℕ} {f : BitPlace} → s ≡ Bad x f → Stopped x f ≡ tallyAs (totalOf w at) (patternsDue n noneKnown (bitsOf m) at)
     unfolding patternsDue
     tally-bad g =
         let b = step-bad (λ v. v) (headerDue seen (bitsOf m) p) (sym g ∙ q) in
-        sym (w .goes ∙ (rw (one-less, b .1)))
+        sym (y .goes ∙ (rw (one-less, b .1)))
 
     module _ {v : ℕ} {f : BitPlace} (g : s ≡ Good v f) where
       header-there : headerDue seen (bitsOf m) p ≡ got v (f .0)
       header-there = step-there (headerDue seen (bitsOf m) p) (sym g ∙ q)
 
-      pub tally-inside : f .0 ≤ 8 * length m
-      tally-inside = stays (header-exact seen) m p (w .inside) header-there
+      header-is : Accepted (Header seen) (λ _ x. entryBits x) (bitsOf m) p v (f .0)
+      header-is = header-exact seen .sound (bitsOf m) p (rw (length-bitsOf m) (y .inside .inside)) header-there
+
+      pub tally-inside : Within m (f .0)
+      tally-inside = record { inside = stays (header-exact seen) m p (y .inside .inside) header-there; counted = y .inside .counted }
+
+      -- a header has 17 bits
+      behind-header : f .0 ≡ p + 17
+      unfolding width
+      behind-header = let o : kind v ≡ 0 = omega (arith, header-is .good .small) in header-is .end ∙ ap (λ (x : ℕ). p + x) (length-entryBits v ∙ ap (λ (x : ℕ). 3 + width x) o)
 
       module _ {s′ : Step} (q′ : s′ ≡ stepAs notes (bodyDue (specifier v) (bitsOf m) (f .0))) where
-        pub tally-body-bad : {k : ℕ} {f′ : BitPlace} → s′ ≡ Bad k f′ → Stopped k f′ ≡ tallyAs (totalFrom noBodies 0 0) (patternsDue n noneKnown (bitsOf m) at)
+        pub tally-body-bad : {x : ℕ} {f′ : BitPlace} → s′ ≡ Bad x f′ → Stopped x f′ ≡ tallyAs (totalOf w at) (patternsDue n noneKnown (bitsOf m) at)
         unfolding patternsDue
         tally-body-bad g′ =
             let b = step-bad notes (bodyDue (specifier v) (bitsOf m) (f .0)) (sym g′ ∙ q′) in
-            sym (w .goes ∙ (rw (one-less, header-there, b .1)))
+            sym (y .goes ∙ (rw (one-less, header-there, b .1)))
 
-        module _ {own heard : ℕ} {f′ : BitPlace} (g′ : s′ ≡ Good own f′) (e : heard ≡ pick (eqb (specifier v) 0) (getD noteds (partOf v) 0) own) where
+        module _ {own : ℕ} {f′ : BitPlace} (g′ : s′ ≡ Good own f′) where
           read : (b : List ℕ) × (bodyDue (specifier v) (bitsOf m) (f .0) ≡ got b (f′ .0)) × (own ≡ notes b)
           read = step-good notes (bodyDue (specifier v) (bitsOf m) (f .0)) (sym g′ ∙ q′)
 
+          body-is : Accepted (Body (specifier v)) (λ _ x. tableBits x) (bitsOf m) (f .0) (read .0) (f′ .0)
+          body-is = body-exact (specifier v) .sound (bitsOf m) (f .0) (rw (length-bitsOf m) (tally-inside .inside)) (read .1)
+
           size : length (read .0) ≡ specifier v
-          size = body-exact (specifier v) .sound (bitsOf m) (f .0) (rw (length-bitsOf m) tally-inside) (read .1) .good .size
+          size = body-is .good .size
 
-          body : Body (read .0)
-          body = (body-exact (specifier v) .sound (bitsOf m) (f .0) (rw (length-bitsOf m) tally-inside) (read .1) .good .each, omega (arith, size))
+          -- the body that was read stands behind the header
+          reads : bodyDue (specifier v) (bitsOf m) (p + 17) ≡ got (read .0) (f′ .0)
+          reads = ap (bodyDue (specifier v) (bitsOf m)) (sym behind-header) ∙ read .1
 
-          after : List Remembered
-          after = remember (w .bodies) (pattern v (read .0))
+          pub tally-part : PartAt m p v own
+          tally-part = record {
+            stands = record { within = subst (Within m) behind-header tally-inside; short = omega arith; reads = rw reads refl };
+            noted = read .2 ∙ (rw reads refl);
+          }
 
-          hummed-after : set noteds (partOf v) heard ≡ allNotes after
-          unfolding after
-          hummed-after =
-              ap (set noteds (partOf v)) e
-              ∙ ap₂ (λ (l : List ℕ) (x : ℕ). set l (partOf v) (pick (eqb (specifier v) 0) (getD l (partOf v) 0) x)) (w .hummed) (read .2) ∙ noted-remembers (w .bodies) v (read .0) size
+          module _ {o : Own} (u : Owned (eqb left named) w p v (bodyIn m (p + 17) (specifier v)) k o) {heard : ℕ} (e : heard ≡ pick (eqb (specifier v) 0) (getD noteds (partOf v) 0) (o .notes)) where
+            wish : List ℕ
+            wish = bodyWished w named left (read .0)
 
-          sounds : heard ≡ notes (bodyOf (w .bodies) (pattern v (read .0)))
-          unfolding after
-          sounds =
-              let four : length noteds ≡ 4 = ap length (w .hummed) ∙ length-map (w .bodies) notesOf ∙ w .four in
-              sym (getD-set-same noteds (partOf v) heard 0 (omega arith)) ∙ ap (λ (l : List ℕ). getD l (partOf v) 0) hummed-after ∙ notes-sounding (w .bodies) v (read .0) (w .four)
+            wish-length : (eqb (length wish) 0 ≡ eqb (specifier v) 0) × (length wish ≤ 255)
+            unfolding wish
+            wish-length =
+                let short : length (read .0) ≤ 255 = omega (arith, size) in
+                rw (← size) (pick-elim (λ (x : List ℕ). (eqb (length x) 0 ≡ eqb (length (read .0)) 0) × (length x ≤ 255)) (eqb left named) (λ _. granted-length w (read .0) short) (λ _. (refl, short)))
 
-          -- what sounds has few notes
-          pub tally-notes : heard ≤ 255
-          tally-notes = rw sounds (le-trans (notes-most (bodyOf (w .bodies) (pattern v (read .0)))) (body-kept (w .bodies) (w .fine) (pattern v (read .0)) body .1))
+            own-is : (o .notes ≡ notes wish) × (o .cut ≡ cutPast w named left p (pattern v (read .0)) k)
+            unfolding wish
+            own-is =
+                let x : bodyIn m (p + 17) (specifier v) ≡ read .0 = rw reads refl in
+                let z : header (pattern v (read .0)) ≡ v = header-pattern v (read .0) (header-is .good .small) size in (
+                  u .0 ∙ ap (λ (b : List ℕ). notes (bodyWished w named left b)) x,
+                  u .1 ∙ ap₂ (λ (b : List ℕ) (h : ℕ). pick (eqb left named) (cutOf w p h b) k) x (sym z),
+                )
 
-          pub tally-on : {c′ : Count} → c′ ≡ counted c heard (loopOf v) → TallyWalk m n at (set seen (partOf v) true) (set noteds (partOf v) heard) (f′ .0) (left - 1) (t + (1 + specifier v)) c′
-          unfolding after
-          tally-on {c′} k =
-              let l : set seen (partOf v) true ≡ learn seen v = sym (learn-set seen v (header-exact seen .sound (bitsOf m) p (rw (length-bitsOf m) (w .inside)) header-there .good .recall)) in
-              let k′ : c′ ≡ counted c (notes (bodyOf (w .bodies) (pattern v (read .0)))) (loopOf v) = k ∙ ap (λ (x : ℕ). counted c x (loopOf v)) sounds in
-              let most : c′ .entries ≤ c .entries + 3825 = rw k (counted-most c heard (loopOf v) tally-notes (omega arith)) in
-              record {
-                inside = stays (body-exact (specifier v)) m (f .0) tally-inside (read .1);
-                fewer = omega (arith, w .fewer);
-                small = omega (arith, w .small);
-                least = omega (arith, w .least);
-                bodies = after;
-                four = remember-length (w .bodies) (pattern v (read .0)) ∙ w .four;
-                fine = bodies-kept (w .bodies) (w .fine) (pattern v (read .0)) body;
-                unmarked = rw k (counted-unmarked c heard (loopOf v) (w .unmarked));
-                heard = l ∙ ap (λ (x : List Bool). learn x v) (w .heard) ∙ learn-read (w .bodies) v (read .0) size;
-                hummed = hummed-after;
-                goes = w .goes ∙ ap (λ (x : ℕ). tallyAs (resumed t c (w .bodies)) (patternsDue x seen (bitsOf m) p)) one-less
-                    ∙ tally-step (left - 1) t c (w .bodies) seen (bitsOf m) p header-there (read .1)
-                    ∙ ap (λ (x : ℕ). tallyAs (resumed (t + (1 + x)) (counted c (notes (bodyOf (w .bodies) (pattern v (read .0)))) (loopOf v)) after) (patternsDue (left - 1) (learn seen v) (bitsOf m) (f′ .0))) size
-                    ∙ ap₂ (λ (x : Count) (y : List Bool). tallyAs (resumed (t + (1 + specifier v)) x after) (patternsDue (left - 1) y (bitsOf m) (f′ .0))) (sym k′) (sym l);
-              }
+            after : List Remembered
+            after = remember (y .bodies) (pattern v wish)
 
-pub ruleset tallies = (tally-begins, tally-done, tally-bad, tally-inside, tally-body-bad, tally-notes, tally-on)
+            hummed-after : set noteds (partOf v) heard ≡ allNotes after
+            unfolding after
+            hummed-after =
+                ap (set noteds (partOf v)) e
+                ∙ ap₂ (λ (l : List ℕ) (x : ℕ). set l (partOf v) (pick (eqb (specifier v) 0) (getD l (partOf v) 0) x)) (y .hummed) (own-is .0) ∙ noted-remembers (y .bodies) v wish (wish-length .0)
+
+            sounds : heard ≡ notes (bodyOf (y .bodies) (pattern v wish))
+            unfolding after
+            sounds =
+                let four : length noteds ≡ 4 = ap length (y .hummed) ∙ length-map (y .bodies) notesOf ∙ y .four in
+                sym (getD-set-same noteds (partOf v) heard 0 (omega arith)) ∙ ap (λ (l : List ℕ). getD l (partOf v) 0) hummed-after ∙ notes-sounding (y .bodies) v wish (y .four)
+
+            -- what sounds has few notes
+            pub tally-notes : heard ≤ 255
+            tally-notes = rw sounds (le-trans (notes-most (bodyOf (y .bodies) (pattern v wish))) (each-sounds Brief none-brief (y .bodies) (y .brief) (pattern v wish) (wish-length .1)))
+
+            behind-part : behindPart p (pattern v (read .0)) ≡ f′ .0
+            behind-part =
+                let z : header (pattern v (read .0)) ≡ v = header-pattern v (read .0) (header-is .good .small) size in
+                omega (arith, ap (λ (x : ℕ). length (entryBits x)) z, header-is .end, body-is .end)
+
+            pub tally-on : {c′ : Count} → c′ ≡ counted c heard (loopOf v)
+                → TallyWalk w named m n at (set seen (partOf v) true) (set noteds (partOf v) heard) (f′ .0) (left - 1) (t + (1 + specifier v)) c′ (o .cut)
+            unfolding after wish
+            tally-on {c′} j =
+                let l : set seen (partOf v) true ≡ learn seen v = sym (learn-set seen v (header-is .good .recall)) in
+                let j′ : c′ ≡ counted c (notes (bodyOf (y .bodies) (pattern v wish))) (loopOf v) = j ∙ ap (λ (x : ℕ). counted c x (loopOf v)) sounds in
+                let most : c′ .entries ≤ c .entries + 3825 = rw j (counted-most c heard (loopOf v) tally-notes (omega arith)) in
+                record {
+                  inside = record { inside = stays (body-exact (specifier v)) m (f .0) (tally-inside .inside) (read .1); counted = y .inside .counted };
+                  fewer = omega (arith, y .fewer);
+                  small = omega (arith, y .small);
+                  least = omega (arith, y .least);
+                  bodies = after;
+                  four = remember-length (y .bodies) (pattern v wish) ∙ y .four;
+                  brief = each-kept Brief (y .bodies) (y .brief) (pattern v wish) (wish-length .1);
+                  unmarked = rw j (counted-unmarked c heard (loopOf v) (y .unmarked));
+                  heard = l ∙ ap (λ (x : List Bool). learn x v) (y .heard) ∙ learn-read (y .bodies) v wish (wish-length .0);
+                  hummed = hummed-after;
+                  goes = y .goes
+                      ∙ tally-step w named p k t c (y .bodies) seen (bitsOf m) one-less header-there (read .1)
+                      ∙ ap₂ (λ (x : ℕ) (z : Cut). tallyAs (summed w named (left - 1) x z (t + (1 + length (read .0))) (counted c (notes (bodyOf (y .bodies) (pattern v wish))) (loopOf v)) after) (patternsDue (left - 1) (learn seen v) (bitsOf m) (f′ .0))) behind-part (sym (own-is .1))
+                      ∙ ap (λ (x : ℕ). tallyAs (summed w named (left - 1) (f′ .0) (o .cut) (t + (1 + x)) (counted c (notes (bodyOf (y .bodies) (pattern v wish))) (loopOf v)) after) (patternsDue (left - 1) (learn seen v) (bitsOf m) (f′ .0))) size
+                      ∙ ap₂ (λ (x : Count) (z : List Bool). tallyAs (summed w named (left - 1) (f′ .0) (o .cut) (t + (1 + specifier v)) x after) (patternsDue (left - 1) z (bitsOf m) (f′ .0))) (sym j′) (sym l);
+                }
+
+pub ruleset tallies = (tally-begins, tally-done, tally-within, tally-bad, tally-inside, tally-body-bad, tally-part, tally-notes, tally-on)

@@ -5,7 +5,7 @@ use mathlib.Core.List.{List, [], _∷_}
 use lib.Dec.{eqb}
 use Rattle.bits.specs.Choice.{pick}
 use Rattle.tone.specs.Tone.{Pattern}
-use Rattle.reading.specs.Answers.{notes, entries}
+use Rattle.reading.specs.Answers.{notes}
 use Rattle.judging.specs.declared.Count.{Count}
 use Rattle.judging.specs.Bodies.{Remembered, passesOf, bodyOf, remember, noMark}
 
@@ -29,16 +29,6 @@ markFrom bodies n (p ∷ ps) =
     pick (eqb (p .loop) 15) (markOf n k) more
 
 -- ---- counting, a pattern at a time
-
--- what patterns come to: their entries in the tone table, those of their list, and its return mark
-pub record Total : Type 0 where
-  pub table : ℕ
-  pub list : ℕ
-  pub mark : ℕ
-
--- what patterns come to behind t entries of the table and n of the list
-abbrev pub totalFrom : List Remembered → ℕ → ℕ → List Pattern → Total
-totalFrom bodies t n ps = record { table = t + entries ps; list = n + entryCount bodies ps; mark = markFrom bodies n ps }
 
 -- nothing is counted yet
 abbrev pub noCount : Count

@@ -1,16 +1,19 @@
 ghost use mathlib.Core.Path.{_≡_};
-ghost use Prim.Native.Nat.{_+_, _≤_};
+ghost use Prim.Native.Nat.{_+_, _%_, _≤_};
 ghost use lib.Dec.{eqb};
 ghost use Rattle.bits.specs.Choice.{pick};
 ghost use Rattle.bits.specs.Bits.{bitsOf};
 ghost use Rattle.tone.specs.Tone.{specifier, noneKnown};
 ghost use Rattle.tone.specs.Reading.{readTone, front as frontDue, patternsDue, rest as restDue};
-ghost use Rattle.reading.specs.Answers.{Within, openingOf};
-ghost use Rattle.judging.specs.Bodies.{noBodies, passesOf};
-ghost use Rattle.judging.specs.Counting.{markOf, totalFrom, noCount, counted as countedOf};
-ghost use Rattle.judging.specs.Answers.{tallyAs, judgedOf};
+ghost use Rattle.reading.specs.Answers.{Within, openingOf, notes as notesOf};
+ghost use Rattle.judging.specs.Bodies.{passesOf};
+ghost use Rattle.judging.specs.Counting.{markOf, noCount, counted as countedOf};
+ghost use Rattle.judging.specs.Standing.{bodyIn, behindIn, BodyAt, PartAt};
+ghost use Rattle.judging.specs.Wishes.{noCut, leftAt, OwnOf, Owned};
+ghost use Rattle.judging.specs.Answers.{totalOf, tallyAs, judgedFor, judgedOf};
 use bits::BitPlace;
 use bits::OctetCount;
+use changing::Edit;
 use reading::Opening;
 use reading::Step;
 
@@ -27,14 +30,33 @@ pub struct Count {
     pub ended: bool,
 }
 
-// What patterns come to: their entries in the tone table, the place behind them, the entries of their list, and its return
-// mark; or the refusal. Here and below the cases of an answer have their first fields alike, so that it is copied whole.
+// An edit that a judgement has in mind, at an instruction of a pattern, both told by their positions.
+pub struct Wish {
+    pub edit: Edit,
+    pub pattern: usize,
+    pub instruction: usize,
+}
+
+// Where a wish cuts a message: the place of the part's header, that of the instruction, that of what is left behind it, and
+// the header itself.
+pub struct Cut {
+    pub header: BitPlace,
+    pub at: BitPlace,
+    pub behind: BitPlace,
+    pub cell: u32,
+}
+
+// What patterns come to: their entries in the tone table, the place behind what was read, the entries of their list and its
+// return mark, as wished, where the patterns end, and where the wish cuts them; or the refusal. Here and below the cases of
+// an answer have their first fields alike, so that it is copied whole.
 pub enum Tally {
     Counted {
         table: u32,
         next: BitPlace,
         list: u32,
         mark: u32,
+        end: BitPlace,
+        cut: Cut,
     },
     Stopped {
         number: u32,
@@ -43,7 +65,8 @@ pub enum Tally {
 }
 
 // A message that was judged: song type, the place of the first pattern, the title's octets, the patterns, the entries of
-// the tone table and of the playing list, the return mark, UNICODE or not; or the refusal.
+// the tone table, those of the playing list and the return mark, as wished, where the patterns end, where the wish cuts
+// them, UNICODE or not; or the refusal.
 pub enum Judged {
     Sound {
         song: u32,
@@ -53,6 +76,8 @@ pub enum Judged {
         table: u32,
         list: u32,
         mark: u32,
+        end: BitPlace,
+        cut: Cut,
         unicode: bool,
     },
     Faulty {
@@ -145,6 +170,20 @@ impl Count {
     }
 }
 
+impl Cut {
+    // Nothing is cut.
+    fn none() -> Cut
+        ensures { λ r. ⌜ r ≡ noCut ⌝ }
+    {
+        Cut {
+            header: BitPlace(0),
+            at: BitPlace(0),
+            behind: BitPlace(0),
+            cell: 0,
+        }
+    }
+}
+
 // The notes of the body that a header sounds: its own, or those of the part recalled.
 pub fn sounding(recalled: u32, header: u32, own: u32) -> u32
     ensures { λ r. ⌜ r ≡ pick (eqb (specifier header) 0) recalled own ⌝ }
@@ -152,20 +191,112 @@ pub fn sounding(recalled: u32, header: u32, own: u32) -> u32
     if header % 256 == 0 { recalled } else { own }
 }
 
+// ---- an edit in mind
+
+// Instructions that were gone over: the place behind them, and how many of them are notes or pauses.
+pub struct Gone {
+    pub at: BitPlace,
+    pub notes: u32,
+}
+
+// Goes over the `n` instructions that stand at a place.
+fn go_over(msg: &[u8], at: BitPlace, n: u32) -> Gone
+    requires { ⌜ BodyAt (now msg) (at .0) n (bodyIn (now msg) (at .0) n) (behindIn (now msg) (at .0) n) ⌝ }
+    ensures { λ r. ⌜ (r .at .0 ≡ behindIn (now (msg .entry)) (at .0) n) × (r .notes ≡ notesOf (bodyIn (now (msg .entry)) (at .0) n)) ⌝ }
+{
+    let mut place = at;
+    let mut left = n;
+    let mut notes: u32 = 0;
+    while 0 < left {
+        let e = reading::entry_at(msg, place);
+        notes += reading::note_in(e.cell);
+        place = e.next;
+        left -= 1;
+    }
+    Gone { at: place, notes }
+}
+
+// A part's own notes, as wished, and where the wish has cut so far.
+pub struct Own {
+    pub notes: u32,
+    pub cut: Cut,
+}
+
+// The part of a header as it is wished, where no ground is against that.
+fn cut_part(msg: &[u8], header: BitPlace, cell: u32, own: u32, wish: Wish) -> Own
+    requires { ⌜ PartAt (now msg) (header .0) cell own ⌝ }
+    ensures { λ r. ⌜ OwnOf wish (header .0) cell (bodyIn (now (msg .entry)) (header .0 + 17) (cell % 256)) r ⌝ }
+{
+    let edit = wish.edit;
+    let i = wish.instruction;
+    if changing::ground(edit, i, (cell % 256) as usize) != 0 {
+        return Own {
+            notes: own,
+            cut: Cut {
+                header,
+                at: header,
+                behind: header,
+                cell,
+            },
+        };
+    }
+    let ahead = go_over(msg, BitPlace(header.0 + 17), i as u32);
+    let at = ahead.at;
+    let taken = go_over(msg, at, changing::removed(edit));
+    let behind = taken.at;
+    Own {
+        notes: own + changing::carried_notes(edit) - taken.notes,
+        cut: Cut {
+            header,
+            at,
+            behind,
+            cell,
+        },
+    }
+}
+
+// The part of a header that was judged: where it is the one named, as wished.
+fn own_part(
+    msg: &[u8],
+    named: bool,
+    header: BitPlace,
+    cell: u32,
+    own: u32,
+    wish: Wish,
+    cut: Cut,
+) -> Own
+    requires { ⌜ PartAt (now msg) (header .0) cell own ⌝ }
+    ensures { λ r. ⌜ Owned named wish (header .0) cell (bodyIn (now (msg .entry)) (header .0 + 17) (cell % 256)) cut r ⌝ }
+{
+    if named {
+        return cut_part(msg, header, cell, own, wish);
+    }
+    Own { notes: own, cut }
+}
+
+// How many of `n` patterns are left, it among them, where the one at position `k` comes; 0 where none does.
+fn left_at(n: u32, k: usize) -> u32
+    ensures { λ r. ⌜ r ≡ leftAt n k ⌝ }
+{
+    if k < n as usize { n - k as u32 } else { 0 }
+}
+
 // ---- judging
 
 // Judges `n` patterns and counts what they come to.
-fn patterns(msg: &[u8], at: BitPlace, n: u32) -> Tally
+fn patterns(msg: &[u8], at: BitPlace, n: u32, wish: Wish) -> Tally
     requires { ⌜ Within (now msg) (at .0) ⌝ }
     requires { ⌜ n ≤ 255 ⌝ }
-    ensures { λ r. ⌜ r ≡ tallyAs (totalFrom noBodies 0 0) (patternsDue n noneKnown (bitsOf (now (msg .entry))) (at .0)) ⌝ }
+    ensures { λ r. ⌜ r ≡ tallyAs (totalOf wish (at .0)) (patternsDue n noneKnown (bitsOf (now (msg .entry))) (at .0)) ⌝ }
 {
+    let named = left_at(n, wish.pattern);
     let mut known = [false; 4];
     let mut notes = [0u32; 4];
     let mut place = at;
     let mut left = n;
     let mut table: u32 = 0;
     let mut count = Count::none();
+    let mut cut = Cut::none();
     while 0 < left {
         match reading::header(msg, place, known) {
             Step::Bad { number, at: fault } => {
@@ -179,12 +310,14 @@ fn patterns(msg: &[u8], at: BitPlace, n: u32) -> Tally
                     value: own,
                     next: behind,
                 } => {
+                    let part = own_part(msg, left == named, place, value, own, wish, cut);
                     let id = (value / 4096 % 4) as usize;
                     known[id] = true;
-                    let heard = sounding(notes[id], value, own);
+                    let heard = sounding(notes[id], value, part.notes);
                     notes[id] = heard;
                     table += 1 + value % 256;
                     count = count.with(heard, value / 256 % 16);
+                    cut = part.cut;
                     place = behind;
                     left -= 1;
                 }
@@ -196,22 +329,26 @@ fn patterns(msg: &[u8], at: BitPlace, n: u32) -> Tally
         next: place,
         list: count.entries,
         mark: count.mark,
+        end: place,
+        cut,
     }
 }
 
 // Judges patterns, filler and the end octet.
-fn rest(msg: &[u8], at: BitPlace, n: u32) -> Tally
+fn rest(msg: &[u8], at: BitPlace, n: u32, wish: Wish) -> Tally
     requires { ⌜ Within (now msg) (at .0) ⌝ }
     requires { ⌜ n ≤ 255 ⌝ }
-    ensures { λ r. ⌜ r ≡ tallyAs (totalFrom noBodies 0 0) (restDue n (bitsOf (now (msg .entry))) (at .0)) ⌝ }
+    ensures { λ r. ⌜ r ≡ tallyAs (totalOf wish (at .0)) (restDue n (bitsOf (now (msg .entry))) (at .0)) ⌝ }
 {
-    match patterns(msg, at, n) {
+    match patterns(msg, at, n, wish) {
         Tally::Stopped { number, at: fault } => Tally::Stopped { number, at: fault },
         Tally::Counted {
             table,
             next: behind,
             list,
             mark,
+            end,
+            cut,
         } => match reading::ending(msg, behind) {
             Step::Bad { number, at: fault } => Tally::Stopped { number, at: fault },
             Step::Good { value: _, next } => Tally::Counted {
@@ -219,14 +356,16 @@ fn rest(msg: &[u8], at: BitPlace, n: u32) -> Tally
                 next,
                 list,
                 mark,
+                end,
+                cut,
             },
         },
     }
 }
 
-// Judges a whole message, and changes nothing.
-pub fn judge(msg: &[u8]) -> Judged
-    ensures { λ r. ⌜ r ≡ judgedOf (readTone (now (msg .entry))) ⌝ }
+// Judges a whole message with an edit in mind, and changes nothing.
+pub fn judge_for(msg: &[u8], wish: Wish) -> Judged
+    ensures { λ r. ⌜ r ≡ judgedFor wish (readTone (now (msg .entry))) ⌝ }
 {
     if 4096 < msg.len() {
         return Judged::Faulty {
@@ -242,18 +381,20 @@ pub fn judge(msg: &[u8]) -> Judged
             octets,
             count,
             unicode,
-        } => match rest(msg, at, count) {
+        } => match rest(msg, at, count, wish) {
             Tally::Stopped { number, at: fault } => Judged::Faulty { number, at: fault },
             Tally::Counted {
                 table,
-                next: end,
+                next: behind,
                 list,
                 mark,
+                end,
+                cut,
             } => {
-                if end.0 != bits::place_after(OctetCount(msg.len())).0 {
+                if behind.0 != bits::place_after(OctetCount(msg.len())).0 {
                     return Judged::Faulty {
                         number: 10,
-                        at: end,
+                        at: behind,
                     };
                 }
                 Judged::Sound {
@@ -264,9 +405,23 @@ pub fn judge(msg: &[u8]) -> Judged
                     table,
                     list,
                     mark,
+                    end,
+                    cut,
                     unicode,
                 }
             }
         },
     }
+}
+
+// Judges a whole message with no edit in mind: no message has a pattern at position 255.
+pub fn judge(msg: &[u8]) -> Judged
+    ensures { λ r. ⌜ r ≡ judgedOf (readTone (now (msg .entry))) ⌝ }
+{
+    let wish = Wish {
+        edit: Edit::Delete,
+        pattern: 255,
+        instruction: 0,
+    };
+    judge_for(msg, wish)
 }

@@ -337,7 +337,7 @@ module _ {m : List ℕ} {ps : List Pattern} {old new lasts : List ℕ} {parts : 
                     places = places;
                     others = head .others;
                     end = v .end;
-                    reads = rw q (ap (λ (u : List Bool). patternsDue (left - 1) u (bitsOf m) (head .behind)) (sym (ap (learn (knownOf (v .bodies))) same ∙ learn-read (v .bodies) cell (head .body) size)) ∙ head .more);
+                    reads = rw q (ap (λ (u : List Bool). patternsDue (left - 1) u (bitsOf m) (head .behind)) (sym (ap (learn (knownOf (v .bodies))) same ∙ learn-read (v .bodies) cell (head .body) (ap (λ (x : ℕ). eqb x 0) size))) ∙ head .more);
                     done = v .done ++ d .entries;
                     advanced = record { settings = refl; ready = both .ready; place = refl; cells = both .cells; list = both .list };
                     goes = v .goes ∙ ap (λ (y : List Pattern). v .done ++ play (w .settings) (v .bodies) (length (v .done)) y .entries) others

@@ -19,7 +19,7 @@ use Rattle.sounding.specs.Playing.{Played, step, pass, passes, Listing, 
 use Rattle.judging.specs.Bodies.{passesOf, Remembered, unknown, known, recalled, noBodies, isRecall, bodyOf, remember}
 use Rattle.reading.specs.Answers.{notes}
 use Rattle.judging.specs.Counting.{entryCount}
-use Rattle.judging.proofs.Bodies.{Body, Bodies, bodies-start, bodies-kept, body-kept, sound-body, notes-most, passes-most}
+use Rattle.judging.proofs.Bodies.{Each, each-start, each-sounds, each-kept, Body, none-body, sound-body, notes-most, passes-most}
 use Rattle.sounding.specs.Listing.{anyTooLong}
 use Rattle.sounding.proofs.Below.{both, at-each}
 use Rattle.sounding.proofs.Durations.{duration-most}
@@ -27,19 +27,19 @@ use Rattle.sounding.proofs.Counts.{list-count}
 
 -- ---- the number of entries
 
-count-most : (bodies : List Remembered) → Bodies bodies → (seen : List Bool) (ps : List Pattern) → Sequence seen ps → entryCount bodies ps ≤ 3825 * length ps
+count-most : (bodies : List Remembered) → Each Body bodies → (seen : List Bool) (ps : List Pattern) → Sequence seen ps → entryCount bodies ps ≤ 3825 * length ps
 count-most bodies h seen [] k = omega arith
 count-most bodies h seen (p ∷ ps) k =
     let n = notes (bodyOf bodies p) in
     let one : n * passesOf (p .loop) ≤ 255 * 15 =
-    mul-le-mul (le-trans (notes-most (bodyOf bodies p)) (body-kept bodies h p (sound-body p (k .0)) .1)) (passes-most (p .loop) (k .0 .loop)) in
-    let more = count-most (remember bodies p) (bodies-kept bodies h p (sound-body p (k .0))) (learn seen (header p)) ps (k .2) in
+    mul-le-mul (le-trans (notes-most (bodyOf bodies p)) (each-sounds Body none-body bodies h p (sound-body p (k .0)) .1)) (passes-most (p .loop) (k .0 .loop)) in
+    let more = count-most (remember bodies p) (each-kept Body bodies h p (sound-body p (k .0))) (learn seen (header p)) ps (k .2) in
     pick-elim (λ (m : ℕ). n * passesOf (p .loop) + m ≤ 3825 * suc (length ps)) (eqb (p .loop) 15) (λ _. omega arith) (λ _. omega arith)
 
 -- a tone's list has at most 975,375 entries
 pub list-most : (t : Tone) → Formed t → length (playingList t .entries) ≤ 975375
 unfolding playingList
-list-most t f = let c = count-most noBodies bodies-start noneKnown (t .patterns) (f .sequence) in let m = f .front .most in rw (list-count atStart noBodies 0 (t .patterns)) (omega arith)
+list-most t f = let c = count-most noBodies each-start Body none-body noneKnown (t .patterns) (f .sequence) in let m = f .front .most in rw (list-count atStart noBodies 0 (t .patterns)) (omega arith)
 
 -- ---- the settings
 
@@ -98,23 +98,23 @@ passes-fair (suc n) s b r i =
     let g = passes-fair n (pass s b .after) b (f .1) i in
     (bounded-append (pass s b .entries) (passes n (pass s b .after) b .entries) (f .0) (g .0), g .1)
 
-pub pattern-fair : (s : Settings) (bodies : List Remembered) (p : Pattern) → InRange s → Bodies bodies → Sound p → Fair (patternPlayed s bodies p)
+pub pattern-fair : (s : Settings) (bodies : List Remembered) (p : Pattern) → InRange s → Each Body bodies → Sound p → Fair (patternPlayed s bodies p)
 unfolding patternPlayed
-pattern-fair s bodies p r h k = passes-fair (passesOf (p .loop)) s (bodyOf bodies p) r (body-kept bodies h p (sound-body p k) .0)
+pattern-fair s bodies p r h k = passes-fair (passesOf (p .loop)) s (bodyOf bodies p) r (each-sounds Body none-body bodies h p (sound-body p k) .0)
 
-pub play-bounded : (s : Settings) (bodies : List Remembered) (n : ℕ) (seen : List Bool) (ps : List Pattern) → InRange s → Bodies bodies → Sequence seen ps → AllBounded (play s bodies n ps .entries)
+pub play-bounded : (s : Settings) (bodies : List Remembered) (n : ℕ) (seen : List Bool) (ps : List Pattern) → InRange s → Each Body bodies → Sequence seen ps → AllBounded (play s bodies n ps .entries)
 play-bounded s bodies n seen [] r h k = tt
 play-bounded s bodies n seen (p ∷ ps) r h k =
     let d = patternPlayed s bodies p in
     let f = pattern-fair s bodies p r h (k .0) in
-    let more = play-bounded (d .after) (remember bodies p) (n + length (d .entries)) (learn seen (header p)) ps (f .1) (bodies-kept bodies h p (sound-body p (k .0))) (k .2) in
+    let more = play-bounded (d .after) (remember bodies p) (n + length (d .entries)) (learn seen (header p)) ps (f .1) (each-kept Body bodies h p (sound-body p (k .0))) (k .2) in
     pick-elim (λ (g : Listing). AllBounded (g .entries)) (eqb (p .loop) 15) (λ _. f .0)
     (λ _. bounded-append (d .entries) (play (d .after) (remember bodies p) (n + length (d .entries)) ps .entries) (f .0) more)
 
 -- each entry of a tone's list is within bounds
 pub list-bounded : (t : Tone) → Formed t → AllBounded (playingList t .entries)
 unfolding playingList
-list-bounded t f = play-bounded atStart noBodies 0 noneKnown (t .patterns) range-start bodies-start (f .sequence)
+list-bounded t f = play-bounded atStart noBodies 0 noneKnown (t .patterns) range-start each-start Body none-body (f .sequence)
 
 -- so no duration is above 32 bits
 short-enough : (rs : List Entry) → AllBounded rs → anyTooLong rs ≡ false

@@ -110,7 +110,7 @@ recall-is-definition before q behind h recall =
 
 learn-remembers : (bodies : List Remembered) (p : Pattern) → Sound p → learn (knownOf bodies) (header p) ≡ knownOf (remember bodies p)
 learn-remembers bodies p s =
-    learn-read bodies (header p) (p .body) (sym (header-small p s .1)) ∙ ap (λ (q : Pattern). knownOf (remember bodies q)) (pattern-header p s)
+    learn-read bodies (header p) (p .body) (ap (λ (x : ℕ). eqb x 0) (sym (header-small p s .1))) ∙ ap (λ (q : Pattern). knownOf (remember bodies q)) (pattern-header p s)
 
 -- the patterns behind others follow from what those leave
 pub sequence-behind : (bodies : List Remembered) (ps qs : List Pattern) → Sequence (knownOf bodies) (ps ++ qs) → Sequence (knownOf (bodiesAfter bodies ps)) qs

@@ -109,13 +109,19 @@ read-says m =
 
 -- ---- demand 2
 
+-- a message that reads is a tone that document 01 allows, and its bits are that tone's
+pub read-formed : (m : List ℕ) (t : Tone) → readTone m ≡ accepted t → Formed t × (bitsOf m ≡ toneBits t)
+read-formed m t q =
+    let s : Says m (accepted t) = subst (Says m) q (read-says m) in
+    let c = core-reads m (s .1) in
+    (c .0, c .3 ∙ ap (λ (x : List Bool). toneBits t ++ x) (drop-of-length-le (bitsOf m) {i = 8 * length m} (omega (arith, length-bitsOf m))) ∙ append-nil (toneBits t))
+
 -- what is accepted is a well-formed tone, and the message is its writing
 pub accepted-is-written : (m : List ℕ) (t : Tone) → Octets m → readTone m ≡ accepted t → WellFormed t × (toneOctets t ≡ m)
 accepted-is-written m t o q =
     let s : Says m (accepted t) = subst (Says m) q (read-says m) in
-    let c = core-reads m (s .1) in
-    let e : bitsOf m ≡ toneBits t = c .3 ∙ ap (λ (x : List Bool). toneBits t ++ x) (drop-of-length-le (bitsOf m) {i = 8 * length m} (omega (arith, length-bitsOf m))) ∙ append-nil (toneBits t) in
-    (record { formed = c .0; size = omega (arith, c .1, s .0) }, octets-are m t o e)
+    let f = read-formed m t q in
+    (record { formed = f .0; size = omega (arith, core-reads m (s .1) .1, s .0) }, octets-are m t o (f .1))
 
 -- the writing of a well-formed tone is accepted, as that tone
 pub written-is-accepted : (t : Tone) → WellFormed t → readTone (toneOctets t) ≡ accepted t

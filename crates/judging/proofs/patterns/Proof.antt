@@ -1,17 +1,24 @@
 -- `judging::patterns` meets its contract.
 use Rattle.judging.proofs.patterns.Statement.{statement}
 use Rattle.judging.proofs.patterns.Tie as tie
+use native.Mathlib.Omega.{arith}
+use Rattle.judging.proofs.Tallies.{TallyWalk, tally-inside, tally-notes, tallies}
 use borrow.Author.Needs.{needs}
-use Rattle.judging.proofs.Tallies.{TallyWalk, tally-inside, tallies}
 
 abbrev Inv-loop : tie.InvT-loop
-Inv-loop msg n known₀ notes₀ place₀ left₀ table₀ count₀ known notes place left table count = TallyWalk msg n (place₀ .0) known notes (place .0) left table count
+Inv-loop msg n wish named known₀ notes₀ place₀ left₀ table₀ count₀ cut₀ known notes place left table count cut = TallyWalk wish named msg n (place₀ .0) known notes (place .0) left table count cut
 
 abbrev μ-loop : tie.MeasureT-loop
-μ-loop msg n known₀ notes₀ place₀ left₀ table₀ count₀ known notes place left table count = left
+μ-loop msg n wish named known₀ notes₀ place₀ left₀ table₀ count₀ cut₀ known notes place left table count cut = left
+
+left-at-requires : tie.Need-left-at-requires Inv-loop μ-loop
+left-at-requires c κs = search (tallies, needs)
 
 none-requires : tie.Need-none-requires Inv-loop μ-loop
 none-requires c κs = search (tallies, needs)
+
+none-requires-2 : tie.Need-none-requires-2 Inv-loop μ-loop
+none-requires-2 c κs = search (tallies, needs)
 
 loop-holds : tie.Need-loop-holds Inv-loop μ-loop
 loop-holds c = search (tallies, needs)
@@ -40,6 +47,9 @@ returns-2 c = search (tallies, needs)
 enum-known-own : tie.Need-enum-known-own Inv-loop μ-loop
 enum-known-own c = search (tallies, needs)
 
+own-part-requires : tie.Need-own-part-requires Inv-loop μ-loop
+own-part-requires c κs = search (tallies, needs)
+
 cast-id : tie.Need-cast-id Inv-loop μ-loop
 cast-id c = search (tallies, needs)
 
@@ -65,10 +75,14 @@ add-table : tie.Need-add-table Inv-loop μ-loop
 add-table c = search (tallies, needs)
 
 add-table-2 : tie.Need-add-table-2 Inv-loop μ-loop
-add-table-2 c = search (tallies, needs)
+add-table-2 c =
+    let l = c .before .before .before .before .before .before .before .before .before .before .before in
+    record { fits = omega (arith, l .loop .inv .small, l .before .before .before .before .before .pre .1, c .before .before .before .before .before .before .before .before .before .before .loop-test .taken) }
 
 with-requires : tie.Need-with-requires Inv-loop μ-loop
-with-requires c κs = search (tallies, needs)
+with-requires c κs =
+    let l = c .before .before .before .before .before .before .before .before .before .before .before in
+    (omega (arith, l .loop .inv .fewer, l .before .before .before .before .before .pre .1, c .before .before .before .before .before .before .before .before .before .before .loop-test .taken), tally-notes (l .loop .inv) (c .before .before .before .before .before .before .before .before .before .before .loop-test .taken) (c .before .before .before .before .before .before .before .before .before .header .ensures) (c .before .before .before .before .before .before .before .value .given .1) (c .before .before .before .before .before .body .ensures) (c .before .before .before .own .given .1) (c .before .own-part .ensures) (c .sounding .ensures), omega arith)
 
 sub-left : tie.Need-sub-left Inv-loop μ-loop
 sub-left c = search (tallies, needs)
@@ -88,7 +102,9 @@ patterns-spec =
     (tie.spec
     Inv-loop
     μ-loop
+    left-at-requires
     none-requires
+    none-requires-2
     loop-holds
     header-requires
     enum-known-number
@@ -98,6 +114,7 @@ patterns-spec =
     enum-known-number-2
     returns-2
     enum-known-own
+    own-part-requires
     cast-id
     array-write-known
     mul-sounding

@@ -5,22 +5,22 @@ use Rattle.judging.proofs.rest.Tie as tie
 use Rattle.judging.proofs.Judgements.{rests}
 
 patterns-requires : tie.Need-patterns-requires
-patterns-requires c κs = search needs
+patterns-requires c κs = search (rests, needs)
 
 enum-known-number : tie.Need-enum-known-number
-enum-known-number c = search needs
+enum-known-number c = search (rests, needs)
 
 enum-known-table : tie.Need-enum-known-table
-enum-known-table c = search needs
+enum-known-table c = search (rests, needs)
 
 ending-requires : tie.Need-ending-requires
 ending-requires c κs = search (rests, needs)
 
 enum-known-number-2 : tie.Need-enum-known-number-2
-enum-known-number-2 c = search needs
+enum-known-number-2 c = search (rests, needs)
 
 enum-known-next : tie.Need-enum-known-next
-enum-known-next c = search needs
+enum-known-next c = search (rests, needs)
 
 returns : tie.Need-returns
 returns c = search (rests, needs)

@@ -1,4 +1,0 @@
-pub mod Overs
-pub mod Hearings
-pub mod Cuts
-pub mod Recounts
