@@ -22,7 +22,7 @@ use Rattle.reading.proofs.Standing.{room}
 use Rattle.reader.proofs.Told.{Told, told, table-there}
 use Rattle.judging.specs.declared.Count.{Count}
 use Rattle.judging.specs.Counting.{noCount, counted}
-use Rattle.playing.specs.Filling.{bodyIn, behindIn, BodyAt}
+use Rattle.judging.specs.Standing.{bodyIn, behindIn, BodyAt}
 use Rattle.changing.specs.declared.Edit.{Edit}
 use Rattle.changing.specs.Change.{carried, removed, bodyAfter, withBody, patternAt, changed, carriesNew, inBody, empties, overfills, headerPlace}
 use Rattle.changing.specs.Answers.{Puts, groundOf}

@@ -11,7 +11,7 @@ use Rattle.bits.proofs.Numbers.{bits-append}
 use Rattle.tone.specs.Table.{kind, payload, width}
 use Rattle.tone.specs.Tone.{Pattern, Tone, frontOf, header, cells, noneKnown, Sound}
 use Rattle.tone.specs.Writing.{entryBits, tableBits, frontBits, songBits}
-use Rattle.tone.proofs.Rows.{length-entryBits, tableBits-append, header-small}
+use Rattle.tone.proofs.Rows.{tableBits-append, header-small, header-wide}
 use Rattle.reader.proofs.Told.{Told}
 use Rattle.building.specs.Anew.{joined}
 use Rattle.changing.specs.declared.Edit.{Edit}
@@ -47,11 +47,6 @@ module _ (a h b₁ b₂ b₃ rest : List Bool) (l : List Bool) (e : l ≡ a ++ (
       ap₂ (λ (x y : List Bool). x ++ y) (ap (λ (x : List Bool). x ++ bitsN w v) (ap₂ (λ (x y : List Bool). x ++ y) (ap (λ (x : List Bool). x ++ bitsN 17 cell) t₀) t₁)) t₂
 
 -- ---- headers
-
--- a header is 17 bits
-pub header-wide : (h : ℕ) → h < 16384 → length (entryBits h) ≡ 17
-unfolding width
-header-wide h k = let z : kind h ≡ 0 = omega arith in length-entryBits h ∙ (rw z refl)
 
 -- in one piece
 pub header-piece : (h : ℕ) → h < 16384 → entryBits h ≡ bitsN 17 h

@@ -6,20 +6,21 @@ ghost use Rattle.bits.specs.Bits.{bitsOf};
 ghost use Rattle.bits.specs.Outcome.{accepted};
 ghost use Rattle.tone.specs.Tone.{Tone, Formed};
 ghost use Rattle.tone.specs.Writing.{songBits, toneOctets, WellFormed};
-ghost use Rattle.reading.specs.Answers.{Within, place};
+ghost use Rattle.reading.specs.Answers.{place};
 ghost use Rattle.building.specs.Anew.{joined};
 ghost use Rattle.editing.specs.Editing.{cleared, inBuffer, withList};
 ghost use Rattle.editing.specs.Promise.{Leaves, EditPromise};
 ghost use Rattle.editing.specs.declared.Answer.the-variants.{Refused};
-ghost use Rattle.editing.specs.Plan.{Known, CanBuild, Written, Spelt, Plans};
+ghost use Rattle.editing.specs.declared.Plan.the-variants.{Halt};
+ghost use Rattle.editing.specs.Plan.{CanBuild, Written, Spelt, Judging, Plans, PlansOf};
 use bits::BitPlace;
 use bits::OctetCount;
 use building::Piece;
 use building::Spot;
 use changing::Edit;
-use hearing::Heard;
-use judging::Count;
+use judging::Cut;
 use judging::Judged;
+use judging::Wish;
 
 // What an edit answers: the new length, the entries of the new list, its return mark and the change in octets; or the refusal.
 pub enum Answer {
@@ -46,21 +47,12 @@ pub struct Outline {
     pub mark: u32,
 }
 
-// The outline of so many patterns whose list was counted.
-fn outlined(first: BitPlace, patterns: u32, count: Count) -> Outline
-    ensures { λ r. ⌜ (r .first ≡ first) × (r .patterns ≡ patterns) × (r .entries ≡ count .entries) × (r .mark ≡ count .mark) ⌝ }
-{
-    Outline {
-        first,
-        patterns,
-        entries: count.entries,
-        mark: count.mark,
-    }
-}
-
 // Why an edit is refused, or what is put where, and what the changed message is then.
 pub enum Plan {
-    Halt(u32),
+    Halt {
+        number: u32,
+        place: BitPlace,
+    },
     Go {
         header: BitPlace,
         cell: u32,
@@ -70,47 +62,90 @@ pub enum Plan {
     },
 }
 
-// The plan of an edit of an accepted message of so many patterns, of which the first stands at a place.
-fn plan_edit(msg: &[u8], first: BitPlace, patterns: u32, edit: Edit, k: usize, i: usize) -> Plan
-    requires { ⌜ Within (now msg) (first .0) ⌝ }
-    requires { ⌜ Known (now msg) (first .0) patterns ⌝ }
-    ensures { λ r. ⌜ Plans (now (msg .entry)) edit k i r ⌝ }
+// An edit's own grounds are placed at 0.
+fn halt(number: u32) -> Plan
+    ensures { λ r. ⌜ r ≡ Halt number (place 0) ⌝ }
+{
+    Plan::Halt {
+        number,
+        place: BitPlace(0),
+    }
+}
+
+// Plans an edit of the pattern at `k`, of so many, at instruction `i`: judging has cut it, and counted the changed list.
+fn plan_cut(edit: Edit, k: usize, i: usize, end: BitPlace, cut: Cut, outline: Outline) -> Plan
+    ensures { λ r. ⌜ ((t : Tone) → Judging edit k i t end cut outline → Plans edit k i t r) ⌝ }
 {
     if !changing::carries_new(edit) {
-        return Plan::Halt(6);
+        return halt(6);
     }
-    if patterns as usize <= k {
-        return Plan::Halt(12);
+    if outline.patterns as usize <= k {
+        return halt(12);
     }
-    let mut notes = [0u32; 4];
-    let before = hearing::hear(msg, hearing::unheard(first), k as u32, &mut notes);
-    let header = before.place;
-    let head = reading::entry_at(msg, header);
-    let cell = head.cell;
+    let cell = cut.cell;
     let fault = changing::ground(edit, i, (cell % 256) as usize);
     if fault != 0 {
-        return Plan::Halt(fault);
+        return halt(fault);
     }
-    let place = head.next;
-    let count = before.count;
-    let body = Heard { place, count };
-    let cut = hearing::hear_edited(msg, body, cell, edit, i as u32, &mut notes);
-    let heard = cut.heard;
-    let after = hearing::hear(msg, heard, patterns - k as u32 - 1, &mut notes);
     let at = cut.at;
     let behind = cut.behind;
-    let end = after.place;
-    let total = after.count;
     Plan::Go {
-        header,
+        header: cut.header,
         cell: cell + changing::added(edit) - changing::removed(edit),
         spot: Spot { at, behind, end },
         piece: changing::carried_piece(edit),
-        outline: outlined(first, patterns, total),
+        outline,
+    }
+}
+
+// Judges a message with an edit in mind, and plans it.
+fn plan_edit(msg: &[u8], edit: Edit, k: usize, i: usize) -> Plan
+    ensures { λ r. ⌜ PlansOf (now (msg .entry)) edit k i r ⌝ }
+{
+    let wish = Wish {
+        edit,
+        pattern: k,
+        instruction: i,
+    };
+    match judging::judge_for(msg, wish) {
+        Judged::Faulty { number, at: fault } => Plan::Halt {
+            number,
+            place: fault,
+        },
+        Judged::Sound {
+            song: _,
+            at: first,
+            octets: _,
+            patterns,
+            table: _,
+            list: entries,
+            mark,
+            end,
+            cut,
+            unicode: _,
+        } => {
+            let outline = Outline {
+                first,
+                patterns,
+                entries,
+                mark,
+            };
+            plan_cut(edit, k, i, end, cut, outline)
+        }
     }
 }
 
 // ---- the edit
+
+// What is refused for want of room, or for a message too long, is placed at 0.
+fn refused(number: u32) -> Answer
+    ensures { λ r. ⌜ r ≡ Refused number (place 0) ⌝ }
+{
+    Answer::Refused {
+        number,
+        place: BitPlace(0),
+    }
+}
 
 // The change in octets: the new length minus the old.
 fn change(new: OctetCount, old: OctetCount) -> i32
@@ -150,10 +185,7 @@ fn finish(
     let entries = outline.entries;
     let mark = outline.mark;
     if list.len() / 2 < entries as usize {
-        return Answer::Refused {
-            number: 11,
-            place: BitPlace(0),
-        };
+        return refused(11);
     }
     playing::fill_list(new, first, outline.patterns, list);
     let length = OctetCount(new.len());
@@ -185,26 +217,16 @@ fn carry_out(
     let end = spot.at.0 + piece.width as usize + (spot.end.0 - spot.behind.0);
     let length = bits::octets_to(BitPlace(end)).0 + 1;
     if 4096 < length {
-        return halted(1);
+        return refused(1);
     }
     if buf.len() < length {
-        return halted(11);
+        return refused(11);
     }
     let mut scratch = [0u8; 4096];
     let old = used.0;
     let n = building::build(&buf[..old], header, cell, spot, piece, &mut scratch);
     let new = n.0;
     finish(buf, used, &scratch[..new], outline, list)
-}
-
-// An edit's own grounds are placed at 0.
-fn halted(number: u32) -> Answer
-    ensures { λ r. ⌜ r ≡ Refused number (place 0) ⌝ }
-{
-    Answer::Refused {
-        number,
-        place: BitPlace(0),
-    }
 }
 
 // Edits the message that lies in the first `used` octets of a lent buffer, and fills a lent list.
@@ -220,33 +242,16 @@ pub fn edit_message(
 {
     let old = used.0;
     if buf.len() < old {
-        return halted(1);
+        return refused(1);
     }
-    match judging::judge(&buf[..old]) {
-        Judged::Faulty { number, at: fault } => Answer::Refused {
-            number,
-            place: fault,
-        },
-        Judged::Sound {
-            song: _,
-            at,
-            octets: _,
-            patterns,
-            table: _,
-            list: _,
-            mark: _,
-            unicode: _,
-        } => {
-            match plan_edit(&buf[..old], at, patterns, edit, pattern, instruction) {
-                Plan::Halt(number) => halted(number),
-                Plan::Go {
-                    header,
-                    cell,
-                    spot,
-                    piece,
-                    outline,
-                } => carry_out(buf, used, header, cell, spot, piece, outline, list),
-            }
-        }
+    match plan_edit(&buf[..old], edit, pattern, instruction) {
+        Plan::Halt { number, place } => Answer::Refused { number, place },
+        Plan::Go {
+            header,
+            cell,
+            spot,
+            piece,
+            outline,
+        } => carry_out(buf, used, header, cell, spot, piece, outline, list),
     }
 }

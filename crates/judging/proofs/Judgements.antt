@@ -32,15 +32,15 @@ use Rattle.reading.specs.Answers.{Within, place, stepOf, entries, openingOf, oc
 use Rattle.judging.specs.declared.Tally.{Tally}
 use Rattle.judging.specs.declared.Tally.the-variants.{Counted, Stopped}
 use Rattle.judging.specs.declared.Wish.{Wish}
-use Rattle.judging.specs.declared.Cut.{Cut}
+use Rattle.judging.specs.declared.Total.{Total}
 use Rattle.judging.specs.Wishes.{granted, noWish, noCut, cutOf}
-use Rattle.judging.specs.Answers.{Total, totalAs, plainly, totalOf, tallyAs, judgedAs, judgedFor, judgedOf}
+use Rattle.judging.specs.Answers.{totalAs, plainly, totalOf, tallyAs, judgedAs, judgedFor, judgedOf}
 use Rattle.reading.proofs.Steps.{step-there, step-bad}
 use Rattle.reading.proofs.Walks.{stays}
 
 -- ---- what an answer says of the reading behind it
 
-stopped-there : (f : List Pattern → Total) (x : Got (List Pattern)) {n : ℕ} {q : BitPlace} → Stopped n q ≡ tallyAs f x → (e : ℕ) × (x ≡ bad n (q .0) e)
+stopped-there : (f : List Pattern → Total) (x : Got (List Pattern)) {n : ℕ} {q : BitPlace} → Stopped q n ≡ tallyAs f x → (e : ℕ) × (x ≡ bad n (q .0) e)
 stopped-there f (got ps p) e = let z : _≡_ {A = ℕ} 0 1 = cc in absurd (omega arith)
 stopped-there f (bad n′ p e′) {n} {q} e =
     let e₁ : n ≡ n′ = cc in
@@ -48,47 +48,39 @@ stopped-there f (bad n′ p e′) {n} {q} e =
     (e′, rw (e₁, e₂) refl)
 
 -- patterns that were counted
-record PatternsThere (f : List Pattern → Total) (x : Got (List Pattern)) (t e k : ℕ) (z : BitPlace) (c : Cut) (at : ℕ) : Type 0 where
+record PatternsThere (f : List Pattern → Total) (x : Got (List Pattern)) (v : Total) (at : ℕ) : Type 0 where
   patterns : List Pattern
   there : x ≡ got patterns at
-  table : t ≡ f patterns .table
-  list : e ≡ f patterns .list
-  mark : k ≡ f patterns .mark
-  end : z ≡ place (f patterns .end)
-  cut : c ≡ f patterns .cut
+  total : v ≡ f patterns
 
-counted-there : (f : List Pattern → Total) (x : Got (List Pattern)) {t e k : ℕ} {z : BitPlace} {c : Cut} {q : BitPlace} → Counted t q e k z c ≡ tallyAs f x → PatternsThere f x t e k z c (q .0)
-counted-there f (got ps p) {q = q} e = let z : q ≡ place p = cc in record { patterns = ps; there = rw z refl; table = cc; list = cc; mark = cc; end = cc; cut = cc }
+counted-there : (f : List Pattern → Total) (x : Got (List Pattern)) {v : Total} {q : BitPlace} → Counted q v ≡ tallyAs f x → PatternsThere f x v (q .0)
+counted-there f (got ps p) {q = q} e = let z : q ≡ place p = cc in record { patterns = ps; there = rw z refl; total = cc }
 counted-there f (bad n p e′) e = let z : _≡_ {A = ℕ} 0 1 = cc in absurd (omega arith)
 
 -- ---- the patterns and the end
 
 module _ (w : Wish) (m : List ℕ) (at n : ℕ) {s : Tally} (q : s ≡ tallyAs (totalOf w at) (patternsDue n noneKnown (bitsOf m) at)) where
-  pub rest-bad : {k : ℕ} {f : BitPlace} → s ≡ Stopped k f → Stopped k f ≡ tallyAs (totalOf w at) (rest n (bitsOf m) at)
+  pub rest-bad : {k : ℕ} {f : BitPlace} → s ≡ Stopped f k → Stopped f k ≡ tallyAs (totalOf w at) (rest n (bitsOf m) at)
   unfolding rest
   rest-bad g = let b = stopped-there (totalOf w at) (patternsDue n noneKnown (bitsOf m) at) (sym g ∙ q) in rw (b .1)
 
-  module _ {v e k : ℕ} {f z : BitPlace} {c : Cut} (g : s ≡ Counted v f e k z c) where
-    there : PatternsThere (totalOf w at) (patternsDue n noneKnown (bitsOf m) at) v e k z c (f .0)
+  module _ {v : Total} {f : BitPlace} (g : s ≡ Counted f v) where
+    there : PatternsThere (totalOf w at) (patternsDue n noneKnown (bitsOf m) at) v (f .0)
     there = counted-there (totalOf w at) (patternsDue n noneKnown (bitsOf m) at) (sym g ∙ q)
 
     pub rest-within : Within m at → Within m (f .0)
     rest-within i = record { inside = stays (patterns-exact n noneKnown) m at (i .inside) (there .there); counted = i .counted }
 
     module _ {t : Step} (q′ : t ≡ stepOf (ending (bitsOf m) (f .0))) where
-      pub rest-ending-bad : {x : ℕ} {f′ : BitPlace} → t ≡ Bad x f′ → Stopped x f′ ≡ tallyAs (totalOf w at) (rest n (bitsOf m) at)
+      pub rest-ending-bad : {x : ℕ} {f′ : BitPlace} → t ≡ Bad x f′ → Stopped f′ x ≡ tallyAs (totalOf w at) (rest n (bitsOf m) at)
       unfolding rest
       rest-ending-bad g′ = let b = step-bad (λ v. v) (ending (bitsOf m) (f .0)) (sym g′ ∙ q′) in rw (there .there, b .1)
 
-      pub rest-good : {x : ℕ} {f′ : BitPlace} → t ≡ Good x f′ → Counted v f′ e k z c ≡ tallyAs (totalOf w at) (rest n (bitsOf m) at)
+      pub rest-good : {x : ℕ} {f′ : BitPlace} → t ≡ Good x f′ → Counted f′ v ≡ tallyAs (totalOf w at) (rest n (bitsOf m) at)
       unfolding rest
       rest-good {x} {f′} g′ =
           let b = step-there (ending (bitsOf m) (f .0)) (sym g′ ∙ q′) in
-          let e₁ = there .table in
-          let e₂ = there .list in
-          let e₃ = there .mark in
-          let e₄ = there .end in
-          let e₅ = there .cut in
+          let e = there .total in
           rw (there .there, b) (cc)
 
 pub ruleset rests = (rest-bad, rest-within, rest-ending-bad, rest-good)
@@ -137,21 +129,21 @@ module _ (w : Wish) (m : List ℕ) (short : length m ≤ mostOctets) {o : Openin
     judge-count = rw (opened .count) (front-exact .sound (bitsOf m) 0 (omega arith) (opened .there) .good .most)
 
     module _ {s : Tally} (q′ : s ≡ tallyAs (totalOf w (f .0)) (rest count (bitsOf m) (f .0))) where
-      pub judge-bad : {n : ℕ} {f′ : BitPlace} → s ≡ Stopped n f′ → Faulty n f′ ≡ judgedFor w (readTone m)
+      pub judge-bad : {n : ℕ} {f′ : BitPlace} → s ≡ Stopped f′ n → Faulty n f′ ≡ judgedFor w (readTone m)
       unfolding readTone wholeTone
       judge-bad g′ =
           let b = stopped-there (totalOf w (f .0)) (rest count (bitsOf m) (f .0)) (sym g′ ∙ q′) in
           rw (le-ltb mostOctets (length m) short, opened .there, ← opened .count, b .1)
 
-      module _ {v e k : ℕ} {f′ y : BitPlace} {c : Cut} {end : ℕ} (g′ : s ≡ Counted v f′ e k y c) (z : end ≡ placeAfter (length m)) where
-        closed : PatternsThere (totalOf w (f .0)) (rest count (bitsOf m) (f .0)) v e k y c (f′ .0)
+      module _ {v : Total} {f′ : BitPlace} {end : ℕ} (g′ : s ≡ Counted f′ v) (z : end ≡ placeAfter (length m)) where
+        closed : PatternsThere (totalOf w (f .0)) (rest count (bitsOf m) (f .0)) v (f′ .0)
         closed = counted-there (totalOf w (f .0)) (rest count (bitsOf m) (f .0)) (sym g′ ∙ q′)
 
         pub judge-more : (f′ .0 ≡ end → ⊥) → Faulty 10 f′ ≡ judgedFor w (readTone m)
         unfolding readTone wholeTone
         judge-more h = rw (le-ltb mostOctets (length m) short, opened .there, ← opened .count, closed .there, ← z, ne-eqb (f′ .0) end h)
 
-        pub judge-sound : f′ .0 ≡ end → Sound song f octets count v e k y c unicode ≡ judgedFor w (readTone m)
+        pub judge-sound : f′ .0 ≡ end → Sound song f octets count v unicode ≡ judgedFor w (readTone m)
         unfolding readTone wholeTone
         judge-sound h =
             let fr = opened .front in
@@ -165,11 +157,7 @@ module _ (w : Wish) (m : List ℕ) (short : length m ≤ mostOctets) {o : Openin
             let e₁ = opened .song in
             let e₂ = opened .unicode in
             let e₃ : octets ≡ octetCount (length (fr .title)) = ap octetCount (opened .octets) in
-            let e₄ = closed .table in
-            let e₅ = closed .list in
-            let e₆ = closed .mark in
-            let e₇ = closed .end in
-            let e₈ = closed .cut in
+            let e₄ = closed .total in
             rw (le-ltb mostOctets (length m) short, opened .there, ← opened .count, closed .there, ← z, eq-eqb (f′ .0) end h, e₀) (cc)
 
 pub ruleset judgements = (judge-long, judge-closed, judge-within, judge-count, judge-bad, judge-more, judge-sound)
@@ -187,5 +175,5 @@ judge-plain m e = e ∙ go (readTone m) refl
         let p = patternAt (t .patterns) 255 in
         let same : totalOf noWish at (t .patterns) ≡ plainly at (t .patterns) =
         ap₂ (λ (qs : List Pattern) (b : Bool). totalAs at (t .patterns) qs (pick b (cutOf noWish (at + length (tableBits (cells (take 255 (t .patterns))))) (header p) (p .body)) noCut)) (set-out (t .patterns) 255 (withBody p (granted noWish (p .body))) few) (le-ltb 255 (length (t .patterns)) few) in
-        ap (λ (v : Total). Sound (t .song) (place at) (octetCount (length (t .title))) (length (t .patterns)) (v .table) (v .list) (v .mark) (place (v .end)) (v .cut) (t .unicode)) same
+        ap (λ (v : Total). Sound (t .song) (place at) (octetCount (length (t .title))) (length (t .patterns)) v (t .unicode)) same
     go (refused n p) q = refl

@@ -14,12 +14,11 @@ use Rattle.bits.specs.Bits.{bitsOf}
 use Rattle.bits.specs.declared.BitPlace.{BitPlace}
 use Rattle.bits.proofs.Choice.{pick-cong, pick-elim}
 use Rattle.bits.proofs.Octets.{length-bitsOf}
-use Rattle.tone.specs.Table.{kind, width}
 use Rattle.tone.specs.Tone.{Pattern, cells, specifier, loopOf, partOf, header, pattern, noneKnown, learn}
 use Rattle.tone.specs.Writing.{entryBits, tableBits}
 use Rattle.tone.specs.Reading.{Got, got, bad, onward, headerDue, bodyDue, patternsDue}
 use Rattle.tone.proofs.Exact.{Accepted}
-use Rattle.tone.proofs.Rows.{Header, Body, header-exact, header-pattern, body-exact, patterns-exact, length-entryBits}
+use Rattle.tone.proofs.Rows.{Header, Body, header-exact, header-pattern, body-exact, header-wide, patterns-exact}
 use Rattle.tone.proofs.Recalls.{learn-set}
 use Rattle.reading.specs.declared.Step.{Step}
 use Rattle.reading.specs.declared.Step.the-variants.{Good, Bad}
@@ -31,12 +30,13 @@ use Rattle.judging.specs.declared.Count.{Count}
 use Rattle.judging.specs.declared.Wish.{Wish}
 use Rattle.judging.specs.declared.Cut.{Cut}
 use Rattle.judging.specs.declared.Own.{Own}
+use Rattle.judging.specs.declared.Total.{Total}
 use Rattle.judging.specs.declared.Tally.the-variants.{Counted, Stopped}
 use Rattle.judging.specs.Bodies.{Remembered, unknown, known, recalled, noBodies, noMark, passesOf, bodyOf, remember}
 use Rattle.judging.specs.Counting.{entryCount, markOf, markFrom, noCount, counted}
 use Rattle.judging.specs.Standing.{bodyIn, PartAt}
 use Rattle.judging.specs.Wishes.{wished, leftAt, noCut, cutOf, cutIn, Owned}
-use Rattle.judging.specs.Answers.{Total, totalOf, tallyAs}
+use Rattle.judging.specs.Answers.{totalOf, tallyAs}
 use Rattle.judging.proofs.Bodies.{knownOf, remember-length, body-sounding, learn-read, Each, each-start, each-sounds, each-kept, Brief, none-brief, notes-most, passes-most}
 use Rattle.judging.proofs.Wishing.{granted-length, behindPart, part-bits, bodyWished, wishedFrom, cutPast, cutFrom, wished-is, cut-is}
 
@@ -46,8 +46,8 @@ use Rattle.judging.proofs.Wishing.{granted-length, behindPart, part-bit
 abbrev resumed : ℕ → Count → List Remembered → ℕ → Cut → List Pattern → List Pattern → Total
 resumed t c bodies z k ps qs =
     pick (c .ended)
-    (record { table = t + entries ps; list = c .entries; mark = c .mark; end = z; cut = k })
-    (record { table = t + entries ps; list = c .entries + entryCount bodies qs; mark = markFrom bodies (c .entries) qs; end = z; cut = k })
+    (record { table = t + entries ps; list = c .entries; mark = c .mark; end = place z; cut = k })
+    (record { table = t + entries ps; list = c .entries + entryCount bodies qs; mark = markFrom bodies (c .entries) qs; end = place z; cut = k })
 
 -- one pattern more in the table
 table-one : (t : ℕ) (p : Pattern) (ps : List Pattern) → t + entries (p ∷ ps) ≡ t + (1 + length (p .body)) + entries ps
@@ -64,13 +64,13 @@ resumed-one t c bodies z k p q ps qs = rw (table-one t p ps) (go (c .ended) (eqb
         let m = n * passesOf (q .loop) in
         let more = entryCount (remember bodies q) qs in
         let c′ : Count = pick b (record { entries = c .entries; mark = c .mark; ended = b }) (pick u (record { entries = c .entries + m; mark = markOf (c .entries) n; ended = true }) (record { entries = c .entries + m; mark = c .mark; ended = false })) in
-        _≡_ {A = Total} (pick b (record { table = t + (1 + length (p .body)) + entries ps; list = c .entries; mark = c .mark; end = z; cut = k }) (record { table = t + (1 + length (p .body)) + entries ps; list = c .entries + (m + pick u 0 more); mark = pick u (markOf (c .entries) n) (markFrom (remember bodies q) (c .entries + m) qs); end = z; cut = k }))
+        _≡_ {A = Total} (pick b (record { table = t + (1 + length (p .body)) + entries ps; list = c .entries; mark = c .mark; end = place z; cut = k }) (record { table = t + (1 + length (p .body)) + entries ps; list = c .entries + (m + pick u 0 more); mark = pick u (markOf (c .entries) n) (markFrom (remember bodies q) (c .entries + m) qs); end = place z; cut = k }))
         (resumed (t + (1 + length (p .body))) c′ (remember bodies q) z k ps qs)
     go true u = refl
-    go false true = ap (λ (x : ℕ). record { table = t + (1 + length (p .body)) + entries ps; list = c .entries + x; mark = markOf (c .entries) (notes (bodyOf bodies q)); end = z; cut = k }) (add-zero (notes (bodyOf bodies q) * passesOf (q .loop)))
+    go false true = ap (λ (x : ℕ). record { table = t + (1 + length (p .body)) + entries ps; list = c .entries + x; mark = markOf (c .entries) (notes (bodyOf bodies q)); end = place z; cut = k }) (add-zero (notes (bodyOf bodies q) * passesOf (q .loop)))
     go false false =
         let m = notes (bodyOf bodies q) * passesOf (q .loop) in
-        ap (λ (x : ℕ). record { table = t + (1 + length (p .body)) + entries ps; list = x; mark = markFrom (remember bodies q) (c .entries + m) qs; end = z; cut = k }) (sym (add-assoc (c .entries) m (entryCount (remember bodies q) qs)))
+        ap (λ (x : ℕ). record { table = t + (1 + length (p .body)) + entries ps; list = x; mark = markFrom (remember bodies q) (c .entries + m) qs; end = place z; cut = k }) (sym (add-assoc (c .entries) m (entryCount (remember bodies q) qs)))
 
 -- the same of patterns that stand at a place, as they are wished
 abbrev summed : Wish → ℕ → ℕ → ℕ → Cut → ℕ → Count → List Remembered → List Pattern → Total
@@ -89,13 +89,13 @@ summed-one w named left at k t c bodies p ps =
 -- from the start on
 summed-all : (w : Wish) (at : ℕ) {n : ℕ} (ps : List Pattern) → length ps ≡ n → summed w (leftAt n (w .pattern)) n at noCut 0 noCount noBodies ps ≡ totalOf w at ps
 summed-all w at ps e = rw (← e) (ap₂ (λ (k : Cut) (qs : List Pattern). resumed 0 noCount noBodies (at + length (tableBits (cells ps))) k ps qs) (cut-is w at ps) (wished-is w at ps)
-    ∙ ap₂ (λ (x y : ℕ). record { table = x; list = y; mark = markFrom noBodies 0 (wished w ps); end = at + length (tableBits (cells ps)); cut = cutIn w at ps }) (zero-add (entries ps)) (zero-add (entryCount noBodies (wished w ps))))
+    ∙ ap₂ (λ (x y : ℕ). record { table = x; list = y; mark = markFrom noBodies 0 (wished w ps); end = place (at + length (tableBits (cells ps))); cut = cutIn w at ps }) (zero-add (entries ps)) (zero-add (entryCount noBodies (wished w ps))))
 
 -- ---- answers that count
 
 -- answers alike for all that can be read
 tally-cong : {f g : List Pattern → Total} (x : Got (List Pattern)) → ((ps : List Pattern) (p : ℕ) → x ≡ got ps p → f ps ≡ g ps) → tallyAs f x ≡ tallyAs g x
-tally-cong (got ps p) h = ap (λ (v : Total). Counted (v .table) (place p) (v .list) (v .mark) (place (v .end)) (v .cut)) (h ps p refl)
+tally-cong (got ps p) h = ap (λ (v : Total). Counted (place p) v) (h ps p refl)
 tally-cong (bad n p e) h = refl
 
 tally-map : (f : List Pattern → Total) (q : Pattern) (x : Got (List Pattern)) → tallyAs f (onward x (λ ps p. got (q ∷ ps) p) bad) ≡ tallyAs (λ ps. f (q ∷ ps)) x
@@ -180,11 +180,11 @@ counted-unmarked c k v h = pick-elim Unmarked (c .ended) (λ _. h) (λ e. pick-e
     true-false : true ≡ false → ⊥
     true-false z = let y : _≡_ {A = ℕ} 0 1 = cc in omega arith
 
-resumed-none : (t : ℕ) (c : Count) (bodies : List Remembered) (z : ℕ) (k : Cut) → Unmarked c → resumed t c bodies z k [] [] ≡ record { table = t; list = c .entries; mark = c .mark; end = z; cut = k }
+resumed-none : (t : ℕ) (c : Count) (bodies : List Remembered) (z : ℕ) (k : Cut) → Unmarked c → resumed t c bodies z k [] [] ≡ record { table = t; list = c .entries; mark = c .mark; end = place z; cut = k }
 resumed-none t c bodies z k h =
-    pick-elim (λ (v : Total). v ≡ record { table = t; list = c .entries; mark = c .mark; end = z; cut = k }) (c .ended)
-    (λ _. λ i. record { table = add-zero t i; list = c .entries; mark = c .mark; end = z; cut = k })
-    (λ e. λ i. record { table = add-zero t i; list = add-zero (c .entries) i; mark = sym (h e) i; end = z; cut = k })
+    pick-elim (λ (v : Total). v ≡ record { table = t; list = c .entries; mark = c .mark; end = place z; cut = k }) (c .ended)
+    (λ _. λ i. record { table = add-zero t i; list = c .entries; mark = c .mark; end = place z; cut = k })
+    (λ e. λ i. record { table = add-zero t i; list = add-zero (c .entries) i; mark = sym (h e) i; end = place z; cut = k })
 
 -- ---- the loop
 
@@ -218,11 +218,11 @@ tally-begins w m n at q h e f = record {
 }
 
 pub tally-done : {w : Wish} {named : ℕ} {m : List ℕ} {n at : ℕ} {seen : List Bool} {noteds : List ℕ} {left t : ℕ} {c : Count} {k : Cut} {q : BitPlace} → TallyWalk w named m n at seen noteds (q .0) left t c k → left ≤ 0
-    → Counted t q (c .entries) (c .mark) q k ≡ tallyAs (totalOf w at) (patternsDue n noneKnown (bitsOf m) at)
+    → Counted q (record { table = t; list = c .entries; mark = c .mark; end = q; cut = k }) ≡ tallyAs (totalOf w at) (patternsDue n noneKnown (bitsOf m) at)
 unfolding patternsDue
 tally-done {left = left} {t = t} {c = c} {k = k} {q = q} w h =
     let e : left ≡ 0 = omega arith in
-    sym (w .goes ∙ (rw e (ap (λ (v : Total). Counted (v .table) q (v .list) (v .mark) (place (v .end)) (v .cut)) (resumed-none t c (w .bodies) (q .0 + 0) k (w .unmarked)) ∙ ap (λ (x : ℕ). Counted t q (c .entries) (c .mark) (place x) k) (add-zero (q .0)))))
+    sym (w .goes ∙ (rw e (ap (Counted q) (resumed-none t c (w .bodies) (q .0 + 0) k (w .unmarked) ∙ ap (λ (x : ℕ). record { table = t; list = c .entries; mark = c .mark; end = place x; cut = k }) (add-zero (q .0))))))
 
 module _ {w : Wish} {named : ℕ} {m : List ℕ} {n at : ℕ} {seen : List Bool} {noteds : List ℕ} {p left t : ℕ} {c : Count} {k : Cut} (y : TallyWalk w named m n at seen noteds p left t c k) where
   pub tally-within : Within m p
@@ -232,7 +232,7 @@ module _ {w : Wish} {named : ℕ} {m : List ℕ} {n at : ℕ} {seen : List Bool}
     one-less : left ≡ suc (left - 1)
     one-less = omega arith
 
-    pub tally-bad : {x : ℕ} {f : BitPlace} → s ≡ Bad x f → Stopped x f ≡ tallyAs (totalOf w at) (patternsDue n noneKnown (bitsOf m) at)
+    pub tally-bad : {x : ℕ} {f : BitPlace} → s ≡ Bad x f → Stopped f x ≡ tallyAs (totalOf w at) (patternsDue n noneKnown (bitsOf m) at)
     unfolding patternsDue
     tally-bad g =
         let b = step-bad (λ v. v) (headerDue seen (bitsOf m) p) (sym g ∙ q) in
@@ -250,11 +250,10 @@ module _ {w : Wish} {named : ℕ} {m : List ℕ} {n at : ℕ} {seen : List Bool}
 
       -- a header has 17 bits
       behind-header : f .0 ≡ p + 17
-      unfolding width
-      behind-header = let o : kind v ≡ 0 = omega (arith, header-is .good .small) in header-is .end ∙ ap (λ (x : ℕ). p + x) (length-entryBits v ∙ ap (λ (x : ℕ). 3 + width x) o)
+      behind-header = header-is .end ∙ ap (λ (x : ℕ). p + x) (header-wide v (header-is .good .small))
 
       module _ {s′ : Step} (q′ : s′ ≡ stepAs notes (bodyDue (specifier v) (bitsOf m) (f .0))) where
-        pub tally-body-bad : {x : ℕ} {f′ : BitPlace} → s′ ≡ Bad x f′ → Stopped x f′ ≡ tallyAs (totalOf w at) (patternsDue n noneKnown (bitsOf m) at)
+        pub tally-body-bad : {x : ℕ} {f′ : BitPlace} → s′ ≡ Bad x f′ → Stopped f′ x ≡ tallyAs (totalOf w at) (patternsDue n noneKnown (bitsOf m) at)
         unfolding patternsDue
         tally-body-bad g′ =
             let b = step-bad notes (bodyDue (specifier v) (bitsOf m) (f .0)) (sym g′ ∙ q′) in

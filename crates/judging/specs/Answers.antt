@@ -9,6 +9,7 @@ use Rattle.tone.specs.Reading.{Got, got, bad}
 use Rattle.reading.specs.Answers.{place, octetCount, entries}
 use Rattle.judging.specs.declared.Wish.{Wish}
 use Rattle.judging.specs.declared.Cut.{Cut}
+use Rattle.judging.specs.declared.Total.{Total}
 use Rattle.judging.specs.declared.Tally.{Tally}
 use Rattle.judging.specs.declared.Tally.the-variants.{Counted, Stopped}
 use Rattle.judging.specs.declared.Judged.{Judged}
@@ -17,17 +18,9 @@ use Rattle.judging.specs.Bodies.{noBodies}
 use Rattle.judging.specs.Counting.{entryCount, markFrom}
 use Rattle.judging.specs.Wishes.{wished, noCut, cutIn}
 
--- what patterns come to: their entries in the tone table, those of their list, its return mark, where they end, and where a wish cuts them
-pub record Total : Type 0 where
-  pub table : ℕ
-  pub list : ℕ
-  pub mark : ℕ
-  pub end : ℕ
-  pub cut : Cut
-
 -- what the patterns ps at a place come to, with the list that qs have
 abbrev pub totalAs : ℕ → List Pattern → List Pattern → Cut → Total
-totalAs at ps qs c = record { table = entries ps; list = entryCount noBodies qs; mark = markFrom noBodies 0 qs; end = at + length (tableBits (cells ps)); cut = c }
+totalAs at ps qs c = record { table = entries ps; list = entryCount noBodies qs; mark = markFrom noBodies 0 qs; end = place (at + length (tableBits (cells ps))); cut = c }
 
 -- what patterns at a place come to
 abbrev pub plainly : ℕ → List Pattern → Total
@@ -39,15 +32,14 @@ totalOf w at ps = totalAs at ps (wished w ps) (cutIn w at ps)
 
 -- patterns that were read, counted by f, or the refusal
 abbrev pub tallyAs : (List Pattern → Total) → Got (List Pattern) → Tally
-tallyAs f (got ps p) = Counted (f ps .table) (place p) (f ps .list) (f ps .mark) (place (f ps .end)) (f ps .cut)
-tallyAs f (bad n p e) = Stopped n (place p)
+tallyAs f (got ps p) = Counted (place p) (f ps)
+tallyAs f (bad n p e) = Stopped (place p) n
 
 -- a tone that was judged, its patterns counted by f from the place of the first: song type, that place, the title's octets, the patterns, what they come to, UNICODE or not; or the refusal
 abbrev pub judgedAs : (ℕ → List Pattern → Total) → Outcome Tone → Judged
 judgedAs f (accepted t) =
     let at = length (frontBits (frontOf t)) in
-    let v = f at (t .patterns) in
-    Sound (t .song) (place at) (octetCount (length (t .title))) (length (t .patterns)) (v .table) (v .list) (v .mark) (place (v .end)) (v .cut) (t .unicode)
+    Sound (t .song) (place at) (octetCount (length (t .title))) (length (t .patterns)) (f at (t .patterns)) (t .unicode)
 judgedAs f (refused n p) = Faulty n (place p)
 
 -- judged with an edit in mind

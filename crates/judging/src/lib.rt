@@ -46,38 +46,32 @@ pub struct Cut {
     pub cell: u32,
 }
 
-// What patterns come to: their entries in the tone table, the place behind what was read, the entries of their list and its
-// return mark, as wished, where the patterns end, and where the wish cuts them; or the refusal. Here and below the cases of
-// an answer have their first fields alike, so that it is copied whole.
-pub enum Tally {
-    Counted {
-        table: u32,
-        next: BitPlace,
-        list: u32,
-        mark: u32,
-        end: BitPlace,
-        cut: Cut,
-    },
-    Stopped {
-        number: u32,
-        at: BitPlace,
-    },
+// What patterns come to: their entries in the tone table, those of their list and its return mark, as wished, where they
+// end, and where the wish cuts them.
+pub struct Total {
+    pub table: u32,
+    pub list: u32,
+    pub mark: u32,
+    pub end: BitPlace,
+    pub cut: Cut,
 }
 
-// A message that was judged: song type, the place of the first pattern, the title's octets, the patterns, the entries of
-// the tone table, those of the playing list and the return mark, as wished, where the patterns end, where the wish cuts
-// them, UNICODE or not; or the refusal.
+// Patterns that were judged: the place behind what was read, and what they come to; or the refusal. Here and below the
+// cases of an answer have their first fields alike, so that it is copied whole.
+pub enum Tally {
+    Counted { next: BitPlace, total: Total },
+    Stopped { at: BitPlace, number: u32 },
+}
+
+// A message that was judged: song type, the place of the first pattern, the title's octets, the patterns, what they come
+// to, UNICODE or not; or the refusal.
 pub enum Judged {
     Sound {
         song: u32,
         at: BitPlace,
         octets: OctetCount,
         patterns: u32,
-        table: u32,
-        list: u32,
-        mark: u32,
-        end: BitPlace,
-        cut: Cut,
+        total: Total,
         unicode: bool,
     },
     Faulty {
@@ -300,11 +294,11 @@ fn patterns(msg: &[u8], at: BitPlace, n: u32, wish: Wish) -> Tally
     while 0 < left {
         match reading::header(msg, place, known) {
             Step::Bad { number, at: fault } => {
-                return Tally::Stopped { number, at: fault };
+                return Tally::Stopped { at: fault, number };
             }
             Step::Good { value, next } => match reading::body(msg, next, value % 256) {
                 Step::Bad { number, at: fault } => {
-                    return Tally::Stopped { number, at: fault };
+                    return Tally::Stopped { at: fault, number };
                 }
                 Step::Good {
                     value: own,
@@ -324,14 +318,14 @@ fn patterns(msg: &[u8], at: BitPlace, n: u32, wish: Wish) -> Tally
             },
         }
     }
-    Tally::Counted {
+    let total = Total {
         table,
-        next: place,
         list: count.entries,
         mark: count.mark,
         end: place,
         cut,
-    }
+    };
+    Tally::Counted { next: place, total }
 }
 
 // Judges patterns, filler and the end octet.
@@ -341,24 +335,13 @@ fn rest(msg: &[u8], at: BitPlace, n: u32, wish: Wish) -> Tally
     ensures { λ r. ⌜ r ≡ tallyAs (totalOf wish (at .0)) (restDue n (bitsOf (now (msg .entry))) (at .0)) ⌝ }
 {
     match patterns(msg, at, n, wish) {
-        Tally::Stopped { number, at: fault } => Tally::Stopped { number, at: fault },
+        Tally::Stopped { at: fault, number } => Tally::Stopped { at: fault, number },
         Tally::Counted {
-            table,
             next: behind,
-            list,
-            mark,
-            end,
-            cut,
+            total,
         } => match reading::ending(msg, behind) {
-            Step::Bad { number, at: fault } => Tally::Stopped { number, at: fault },
-            Step::Good { value: _, next } => Tally::Counted {
-                table,
-                next,
-                list,
-                mark,
-                end,
-                cut,
-            },
+            Step::Bad { number, at: fault } => Tally::Stopped { at: fault, number },
+            Step::Good { value: _, next } => Tally::Counted { next, total },
         },
     }
 }
@@ -382,14 +365,10 @@ pub fn judge_for(msg: &[u8], wish: Wish) -> Judged
             count,
             unicode,
         } => match rest(msg, at, count, wish) {
-            Tally::Stopped { number, at: fault } => Judged::Faulty { number, at: fault },
+            Tally::Stopped { at: fault, number } => Judged::Faulty { number, at: fault },
             Tally::Counted {
-                table,
                 next: behind,
-                list,
-                mark,
-                end,
-                cut,
+                total,
             } => {
                 if behind.0 != bits::place_after(OctetCount(msg.len())).0 {
                     return Judged::Faulty {
@@ -402,11 +381,7 @@ pub fn judge_for(msg: &[u8], wish: Wish) -> Judged
                     at,
                     octets,
                     patterns: count,
-                    table,
-                    list,
-                    mark,
-                    end,
-                    cut,
+                    total,
                     unicode,
                 }
             }

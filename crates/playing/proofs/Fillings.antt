@@ -30,7 +30,8 @@ use Rattle.sounding.specs.Sounding.{atStart, numbers}
 use Rattle.sounding.specs.Playing.{Played, ahead, Listing, passes, patternPlayed, play}
 use Rattle.judging.specs.Bodies.{Remembered, unknown, known, recalled, noBodies, passesOf, bodyOf, remember}
 use Rattle.judging.specs.Counting.{entryCount}
-use Rattle.playing.specs.Filling.{BodyAt, behindOr, bodyIn, behindIn, PatternsAt, partAfter, behindPattern, Ready, Advanced}
+use Rattle.playing.specs.Filling.{PatternsAt, partAfter, behindPattern, Ready, Advanced}
+use Rattle.judging.specs.Standing.{BodyAt, behindOr, bodyIn, behindIn}
 use Rattle.sounding.proofs.Counts.{list-count}
 use Rattle.judging.proofs.Bodies.{isKnown, knownOf, remember-length, body-sounding, learn-read}
 use Rattle.sounding.proofs.Joining.{play-one, play-last}

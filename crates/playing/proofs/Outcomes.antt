@@ -21,6 +21,7 @@ use Rattle.tone.specs.Reading.{got, patternsDue, readTone}
 use Rattle.tone.proofs.Rows.{patterns-exact}
 use Rattle.tone.proofs.Demand2.{Says, read-says, core-reads}
 use Rattle.reading.specs.Answers.{Within, place}
+use Rattle.judging.specs.declared.Cut.{Cut}
 use Rattle.judging.specs.declared.Judged.{Judged}
 use Rattle.judging.specs.declared.Judged.the-variants.{Sound, Faulty}
 use Rattle.playing.specs.declared.Listed.{Listed}
@@ -93,7 +94,7 @@ record ListThere (x : Outcome Tone) (e k n at : ℕ) : Type 0 where
   patterns : n ≡ length (tone .patterns)
   front : at ≡ length (frontBits (frontOf tone))
 
-listable-there : (x : Outcome Tone) {s : ℕ} {f : BitPlace} {o : OctetCount} {n v e k : ℕ} {u : Bool} → Sound s f o n v e k u ≡ judgedOf x → ListThere x e k n (f .0)
+listable-there : (x : Outcome Tone) {s : ℕ} {f : BitPlace} {o : OctetCount} {n v e k : ℕ} {z : BitPlace} {c : Cut} {u : Bool} → Sound s f o n v e k z c u ≡ judgedOf x → ListThere x e k n (f .0)
 listable-there (accepted t) {f = f} e =
     let z : f ≡ place (length (frontBits (frontOf t))) = cc in
     record { tone = t; there = refl; entries = cc; mark = cc; patterns = cc; front = ap (λ (p : BitPlace). p .0) z }
@@ -118,7 +119,7 @@ module _ (m : List ℕ) (old : List ℕ) (rows : ℕ) {v : Judged} (q : v ≡ ju
   unfolding listTone
   list-faulty g = promised m fits old (ap (listed fits) (refused-there (readTone m) (sym g ∙ q)))
 
-  module _ {s : ℕ} {f : BitPlace} {o : OctetCount} {n b e k : ℕ} {u : Bool} (g : v ≡ Sound s f o n b e k u) where
+  module _ {s : ℕ} {f : BitPlace} {o : OctetCount} {n b e k : ℕ} {z : BitPlace} {c : Cut} {u : Bool} (g : v ≡ Sound s f o n b e k z c u) where
     there : ListThere (readTone m) e k n (f .0)
     there = listable-there (readTone m) (sym g ∙ q)
 

@@ -10,8 +10,9 @@ use Rattle.bits.specs.Bits.{bitsOf}
 use Rattle.bits.specs.declared.BitPlace.{BitPlace}
 use Rattle.tone.specs.Table.{entry, width}
 use Rattle.tone.specs.Tone.{Pattern, specifier, noneKnown}
-use Rattle.tone.specs.Reading.{Got, got, bad, bodyDue, patternsDue}
+use Rattle.tone.specs.Reading.{got, patternsDue}
 use Rattle.reading.specs.Answers.{Within}
+use Rattle.judging.specs.Standing.{valueOr, behindOr}
 use Rattle.playing.specs.declared.Part.{Part}
 use Rattle.playing.specs.declared.Part.the-variants.{Known}
 use Rattle.playing.specs.declared.Walk.{Walk}
@@ -22,30 +23,6 @@ use Rattle.sounding.specs.Ranges.{InRange}
 use Rattle.sounding.specs.Playing.{Played}
 
 -- ---- what stands in a message
-
--- what was read, or d
-abbrev pub valueOr : {A : Type 0} → A → Got A → A
-valueOr d (got a p) = a
-valueOr d (bad n p e) = d
-
--- the place behind it
-abbrev pub behindOr : {A : Type 0} → Got A → ℕ
-behindOr (got a p) = p
-behindOr (bad n p e) = p
-
--- the n instructions at a place
-abbrev pub bodyIn : List ℕ → ℕ → ℕ → List ℕ
-bodyIn m at n = valueOr [] (bodyDue n (bitsOf m) at)
-
--- the place behind them
-abbrev pub behindIn : List ℕ → ℕ → ℕ → ℕ
-behindIn m at n = behindOr (bodyDue n (bitsOf m) at)
-
--- n instructions stand at a place: the body b, and the place q behind it
-pub record BodyAt (m : List ℕ) (at n : ℕ) (b : List ℕ) (q : ℕ) : Type 0 where
-  pub within : Within m at
-  pub short : n ≤ 255
-  pub reads : bodyDue n (bitsOf m) at ≡ got b q
 
 -- the n patterns at a place, of which none is defined ahead
 abbrev pub patternsIn : List ℕ → ℕ → ℕ → List Pattern

@@ -10,7 +10,8 @@ ghost use Rattle.sounding.specs.Sounding.{atStart, numbers, entryAt, entriesOf}
 ghost use Rattle.sounding.specs.Playing.{step, pass, passes, play};
 ghost use Rattle.judging.specs.Bodies.{noBodies};
 ghost use Rattle.judging.specs.Counting.{entryCount};
-ghost use Rattle.playing.specs.Filling.{bodyIn, behindIn, BodyAt, patternsIn, endIn, PatternsAt, partAfter, behindPattern, entrySeen, Ready, Advanced};
+ghost use Rattle.playing.specs.Filling.{patternsIn, endIn, PatternsAt, partAfter, behindPattern, entrySeen, Ready, Advanced};
+ghost use Rattle.judging.specs.Standing.{bodyIn, behindIn, BodyAt};
 ghost use Rattle.sounding.specs.Listing.{fitsNumbers, fitsBoth};
 ghost use Rattle.playing.specs.Promise.{entriesIn, ListPromise, RowsPromise};
 use bits::BitPlace;
@@ -265,6 +266,8 @@ fn list_within(msg: &[u8], list: &mut [u32], most: usize) -> Listed
             table: _,
             list: entries,
             mark,
+            end: _,
+            cut: _,
             unicode: _,
         } => {
             if list.len() / 2 < entries as usize {

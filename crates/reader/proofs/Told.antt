@@ -24,6 +24,7 @@ use Rattle.tone.specs.Writing.{commandBits, titleBits, tableBits, frontBits, so
 use Rattle.tone.specs.Reading.{wholeTone, got, readTone}
 use Rattle.tone.proofs.Rows.{header-small}
 use Rattle.tone.proofs.Demand2.{Says, read-says, core-reads}
+use Rattle.judging.specs.declared.Cut.{Cut}
 use Rattle.judging.specs.declared.Judged.{Judged}
 use Rattle.judging.specs.declared.Judged.the-variants.{Sound, Faulty}
 use Rattle.reader.specs.declared.Reading.{Reading}
@@ -137,10 +138,10 @@ pub record SoundThere (m : List ℕ) (s : ℕ) (u : Bool) (o : OctetCount) (p e 
   pub entries : e ≡ entries (tone .patterns)
   pub place : f .0 ≡ length (frontBits (frontOf tone))
 
-pub sound-there : (m : List ℕ) {s : ℕ} {u : Bool} {o : OctetCount} {p e n k : ℕ} {f : BitPlace} → Sound s f o p e n k u ≡ judgedOf (readTone m) → SoundThere m s u o p e f
-sound-there m {s} {u} {o} {p} {e} {n} {k} {f} h = go (readTone m) refl h
+pub sound-there : (m : List ℕ) {s : ℕ} {u : Bool} {o : OctetCount} {p e n k : ℕ} {f z : BitPlace} {c : Cut} → Sound s f o p e n k z c u ≡ judgedOf (readTone m) → SoundThere m s u o p e f
+sound-there m {s} {u} {o} {p} {e} {n} {k} {f} {z} {c} h = go (readTone m) refl h
   where
-    go : (x : Outcome Tone) → readTone m ≡ x → Sound s f o p e n k u ≡ judgedOf x → SoundThere m s u o p e f
+    go : (x : Outcome Tone) → readTone m ≡ x → Sound s f o p e n k z c u ≡ judgedOf x → SoundThere m s u o p e f
     go (accepted t) q g =
         let z : f ≡ place (length (frontBits (frontOf t))) = cc in
         let y : o ≡ octetCount (length (t .title)) = cc in
@@ -167,7 +168,7 @@ module _ (m table title : List ℕ) {j : Judged} (q : j ≡ judgedOf (readTone m
           let e : Refused n f ≡ Refused n′ (place p) = cc in
           promised m table title table title (Refused n f) (refused n′ p) (rw y refl) e refl refl
 
-  module _ {s : ℕ} {u : Bool} {o : OctetCount} {p e n k : ℕ} {f : BitPlace} (g : j ≡ Sound s f o p e n k u) where
+  module _ {s : ℕ} {u : Bool} {o : OctetCount} {p e n k : ℕ} {f z : BitPlace} {c : Cut} (g : j ≡ Sound s f o p e n k z c u) where
     there : SoundThere m s u o p e f
     there = sound-there m (sym g ∙ q)
 

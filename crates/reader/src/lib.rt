@@ -93,6 +93,8 @@ pub fn read(msg: &[u8], table: &mut [u32], title: &mut [u8]) -> Reading
             table: entries,
             list: _,
             mark: _,
+            end: _,
+            cut: _,
             unicode,
         } => {
             if title.len() < octets.0 {

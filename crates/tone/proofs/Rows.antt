@@ -149,6 +149,11 @@ pattern-header p s =
 pub header-small : (p : Pattern) → Sound p → (header p < 16384) × (specifier (header p) ≡ length (p .body))
 header-small p s = let i = s .id in let l = s .loop in let n = s .long in (omega arith, omega arith)
 
+-- a header is 17 bits
+pub header-wide : (h : ℕ) → h < 16384 → length (entryBits h) ≡ 17
+unfolding width
+header-wide h k = let z : kind h ≡ 0 = omega arith in length-entryBits h ∙ (rw z refl)
+
 -- ---- patterns
 
 pub record Row (n : ℕ) (known : List Bool) (ps : List Pattern) : Type 0 where

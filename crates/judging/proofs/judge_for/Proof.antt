@@ -4,6 +4,7 @@ use Rattle.judging.proofs.judge_for.Statement.{statement}
 use Rattle.judging.proofs.judge_for.Tie as tie
 use Rattle.judging.proofs.Judgements.{judgements}
 
+
 returns : tie.Need-returns
 returns c = search (judgements, needs)
 
@@ -19,11 +20,11 @@ enum-known-song c = search (judgements, needs)
 rest-requires : tie.Need-rest-requires
 rest-requires c κs = search (judgements, needs)
 
-enum-known-number-2 : tie.Need-enum-known-number-2
-enum-known-number-2 c = search (judgements, needs)
+enum-known-fault : tie.Need-enum-known-fault
+enum-known-fault c = search (judgements, needs)
 
-enum-known-table : tie.Need-enum-known-table
-enum-known-table c = search (judgements, needs)
+enum-known-behind : tie.Need-enum-known-behind
+enum-known-behind c = search (judgements, needs)
 
 place-after-requires : tie.Need-place-after-requires
 place-after-requires c κs = search (judgements, needs)
@@ -49,8 +50,8 @@ judge-for-spec =
     enum-known-number
     enum-known-song
     rest-requires
-    enum-known-number-2
-    enum-known-table
+    enum-known-fault
+    enum-known-behind
     place-after-requires
     returns-2
     returns-3

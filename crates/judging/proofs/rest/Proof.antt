@@ -4,20 +4,21 @@ use Rattle.judging.proofs.rest.Statement.{statement}
 use Rattle.judging.proofs.rest.Tie as tie
 use Rattle.judging.proofs.Judgements.{rests}
 
+
 patterns-requires : tie.Need-patterns-requires
 patterns-requires c κs = search (rests, needs)
 
-enum-known-number : tie.Need-enum-known-number
-enum-known-number c = search (rests, needs)
+enum-known-fault : tie.Need-enum-known-fault
+enum-known-fault c = search (rests, needs)
 
-enum-known-table : tie.Need-enum-known-table
-enum-known-table c = search (rests, needs)
+enum-known-behind : tie.Need-enum-known-behind
+enum-known-behind c = search (rests, needs)
 
 ending-requires : tie.Need-ending-requires
 ending-requires c κs = search (rests, needs)
 
-enum-known-number-2 : tie.Need-enum-known-number-2
-enum-known-number-2 c = search (rests, needs)
+enum-known-number : tie.Need-enum-known-number
+enum-known-number c = search (rests, needs)
 
 enum-known-next : tie.Need-enum-known-next
 enum-known-next c = search (rests, needs)
@@ -36,10 +37,10 @@ rest-spec =
     tie.close
     (tie.spec
     patterns-requires
-    enum-known-number
-    enum-known-table
+    enum-known-fault
+    enum-known-behind
     ending-requires
-    enum-known-number-2
+    enum-known-number
     enum-known-next
     returns
     returns-2
