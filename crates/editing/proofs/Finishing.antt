@@ -21,10 +21,6 @@ use Rattle.tone.specs.Writing.{tableBits, frontBits, songBits, endBits, toneBit
 use Rattle.tone.specs.Reading.{got, patternsDue, readTone}
 use Rattle.tone.proofs.Demand2.{octets-are, one-tone, written-is-accepted, length-toneOctets}
 use Rattle.reading.specs.Answers.{Within, place, octetCount}
-use Rattle.judging.specs.declared.Judged.{Judged}
-use Rattle.judging.specs.declared.Judged.the-variants.{Sound, Faulty}
-use Rattle.judging.specs.Answers.{judgedOf}
-use Rattle.reader.proofs.Told.{SoundThere, sound-there}
 use Rattle.sounding.specs.Sounding.{atStart, numbers}
 use Rattle.sounding.specs.Playing.{play, playingList}
 use Rattle.playing.specs.Filling.{patternsIn, endIn, PatternsAt}
@@ -46,8 +42,7 @@ use Rattle.editing.specs.declared.Outline.{Outline}
 use Rattle.editing.specs.declared.Plan.{Plan}
 use Rattle.editing.specs.declared.Plan.the-variants.{Halt, Go}
 use Rattle.editing.specs.Editing.{Edited, editTone, inBuffer, beside, withList, andThen, editMessage, cleared, bufferAfter, listAfter}
-use Rattle.editing.specs.Places.{toneIn, toneOf}
-use Rattle.editing.specs.Plan.{Known, CanBuild, Written, Spelt, Going, Plans}
+use Rattle.editing.specs.Plan.{CanBuild, Written, Spelt, Going, Plans}
 use Rattle.editing.specs.Promise.{numbersOf, editNumbers, editAnswer, Leaves, EditPromise}
 use Rattle.editing.proofs.Changes.{cleared-over}
 
@@ -184,67 +179,35 @@ module _ (buf list : List ℕ) (used : ℕ) (ed : Edit) (k i : ℕ) where
     abbrev m : List ℕ
     m = take used buf
 
-    -- the message's own refusals
-    pub edit-faulty : {j : Judged} {n : ℕ} {p : BitPlace} → j ≡ judgedOf (readTone (take used buf)) → j ≡ Faulty n p → EditPromise buf used ed k i list buf list (Refused n p)
+    -- a plan that halts
+    pub edit-halt : {pl : Plan} {n : ℕ} {p : BitPlace} → Plans (take used buf) (record { edit = ed; pattern = k; instruction = i }) pl → pl ≡ Halt n p → EditPromise buf used ed k i list buf list (Refused n p)
     unfolding editMessage
-    edit-faulty {j} {n} {p} q g = rw (le-leb used (length buf) h) (go (readTone m) (sym g ∙ q))
+    edit-halt {pl} {n} {p} y z = rw (le-leb used (length buf) h) (go (readTone m) (subst (Plans (take used buf) (record { edit = ed; pattern = k; instruction = i })) z y))
       where
-        go : (x : Outcome Tone) → Faulty n p ≡ judgedOf x → Leaves (andThen x (λ t. withList (length list) (andThen (editTone ed k i t) (inBuffer (length buf))))) used buf list buf list (Refused n p)
-        go (accepted t) z = let y : _≡_ {A = ℕ} 0 1 = cc in absurd (omega arith)
-        go (refused n′ p′) z =
-            let e₁ : n ≡ n′ = cc in
-            let e₂ : p ≡ place p′ = cc in
-            leaves (refused n′ p′) used buf list buf list (Refused n p) (cc) refl refl
+        halts : (x : Outcome Tone) → x ≡ refused n (p .0) → Leaves (withList (length list) (andThen x (inBuffer (length buf)))) used buf list buf list (Refused n p)
+        halts x e = rw e (leaves (refused n (p .0)) used buf list buf list (Refused n p) refl refl refl)
 
-    module _ {j : Judged} {s : ℕ} {u : Bool} {o : OctetCount} {ps es n mk : ℕ} {f : BitPlace} (q : j ≡ judgedOf (readTone (take used buf))) (g : j ≡ Sound s f o ps es n mk u) where
-      there : SoundThere (take used buf) s u o ps es f
-      there = sound-there (take used buf) (sym g ∙ q)
+        go : (x : Outcome Tone) → andThen x (editTone ed k i) ≡ refused n (p .0) → Leaves (andThen x (λ t. withList (length list) (andThen (editTone ed k i t) (inBuffer (length buf))))) used buf list buf list (Refused n p)
+        go (accepted t) e = halts (editTone ed k i t) e
+        go (refused n′ p′) e = subst (λ (x : Outcome Edited). Leaves x used buf list buf list (Refused n p)) (ap (λ (x : Outcome Tone). withList (length list) x) (sym e)) (leaves (refused n (p .0)) used buf list buf list (Refused n p) refl refl refl)
 
-      reads : readTone (take used buf) ≡ accepted (toneOf (take used buf))
-      reads = there .told .reads ∙ ap accepted (sym (ap toneIn (there .told .reads)))
-
-      same : there .tone ≡ toneOf (take used buf)
-      same = sym (ap toneIn (there .told .reads))
-
-      pub edit-known : Known (take used buf) (f .0) ps
-      edit-known = record {
-        stands = record { reads = reads; begins = there .place ∙ ap (λ (t : Tone). length (frontBits (frontOf t))) same };
-        short = there .told .short;
-        patterns = there .patterns ∙ ap (λ (t : Tone). length (t .patterns)) same;
-      }
-
-      pub edit-within : Within (take used buf) (f .0)
-      edit-within =
-          let w = there .told in
-          let n = ap length (w .bits) ∙ length-append (frontBits (frontOf (there .tone))) (tableBits (cells (there .tone .patterns)) ++ w .behind) in
-          let b = w .short in
-          record { inside = omega (arith, there .place, n, length-bitsOf (take used buf)); counted = omega arith }
+    -- a plan that goes on
+    module _ {pl : Plan} {hd : BitPlace} {cell : ℕ} {sp : Spot} {pi : Piece} {ol : Outline} (y : Plans (take used buf) (record { edit = ed; pattern = k; instruction = i }) pl) (z : pl ≡ Go hd cell sp pi ol) where
+      going : Going (take used buf) ed k i (hd .0) cell (sp .at .0) (sp .behind .0) (sp .end .0) (pi .width) (pi .value) ol
+      going = subst (Plans (take used buf) (record { edit = ed; pattern = k; instruction = i })) z y
 
       pub edit-short : used ≤ 4096
-      edit-short = let b = there .told .short in omega (arith, length-take-le used buf h)
+      edit-short = omega (arith, going .short, length-take-le used buf h)
 
-      -- with the message read
-      on : {r : Answer} {buf′ list′ : List ℕ} → Leaves (withList (length list) (andThen (editTone ed k i (toneOf (take used buf))) (inBuffer (length buf)))) used buf list buf′ list′ r → EditPromise buf used ed k i list buf′ list′ r
+      pub edit-can : CanBuild (take used buf) (hd .0) cell (sp .at .0) (sp .behind .0) (sp .end .0) (pi .width) (pi .value)
+      edit-can = going .can
+
+      pub edit-spelt : Spelt (joined (bitsOf (take used buf)) (hd .0) cell (sp .at .0) (pi .width) (pi .value) (sp .behind .0) (sp .end .0)) ol
+      edit-spelt = record { tone = changed ed k i (going .tone); formed = going .formed; spells = going .spells; outlines = going .outlines }
+
+      pub edit-done : {r : Answer} {buf′ list′ : List ℕ} → ((t : Tone) → Formed t → joined (bitsOf (take used buf)) (hd .0) cell (sp .at .0) (pi .width) (pi .value) (sp .behind .0) (sp .end .0) ≡ songBits t
+          → Leaves (withList (length list) (inBuffer (length buf) t)) used buf list buf′ list′ r) → EditPromise buf used ed k i list buf′ list′ r
       unfolding editMessage
-      on l = rw (le-leb used (length buf) h, reads) l
+      edit-done l = rw (le-leb used (length buf) h, going .reads, going .accepts) (l (changed ed k i (going .tone)) (going .formed) (going .spells))
 
-      pub edit-halt : {pl : Plan} {n : ℕ} → Plans (take used buf) ed k i pl → pl ≡ Halt n → EditPromise buf used ed k i list buf list (Refused n (place 0))
-      edit-halt {pl} {n} y z =
-          let e : editTone ed k i (toneOf (take used buf)) ≡ refused n 0 = subst (Plans (take used buf) ed k i) z y in
-          on (rw e (leaves (refused n 0) used buf list buf list (Refused n (place 0)) refl refl refl))
-
-      module _ {pl : Plan} {hd : BitPlace} {cell : ℕ} {sp : Spot} {pi : Piece} {ol : Outline} (y : Plans (take used buf) ed k i pl) (z : pl ≡ Go hd cell sp pi ol) where
-        going : Going (take used buf) ed k i (hd .0) cell (sp .at .0) (sp .behind .0) (sp .end .0) (pi .width) (pi .value) ol
-        going = subst (Plans (take used buf) ed k i) z y
-
-        pub edit-can : CanBuild (take used buf) (hd .0) cell (sp .at .0) (sp .behind .0) (sp .end .0) (pi .width) (pi .value)
-        edit-can = going .can
-
-        pub edit-spelt : Spelt (joined (bitsOf (take used buf)) (hd .0) cell (sp .at .0) (pi .width) (pi .value) (sp .behind .0) (sp .end .0)) ol
-        edit-spelt = record { tone = changed ed k i (toneOf (take used buf)); formed = going .formed; spells = going .spells; outlines = going .outlines }
-
-        pub edit-done : {r : Answer} {buf′ list′ : List ℕ} → ((t : Tone) → Formed t → joined (bitsOf (take used buf)) (hd .0) cell (sp .at .0) (pi .width) (pi .value) (sp .behind .0) (sp .end .0) ≡ songBits t
-            → Leaves (withList (length list) (inBuffer (length buf) t)) used buf list buf′ list′ r) → EditPromise buf used ed k i list buf′ list′ r
-        edit-done l = on (rw (going .accepts) (l (changed ed k i (toneOf (take used buf))) (going .formed) (going .spells)))
-
-pub ruleset edits = (edit-beyond, edit-faulty, edit-known, edit-within, edit-short, edit-halt, edit-can, edit-done)
+pub ruleset edits = (edit-beyond, edit-halt, edit-short, edit-can, edit-spelt, edit-done)

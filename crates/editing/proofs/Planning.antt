@@ -1,299 +1,290 @@
 -- What each return of the functions that plan an edit shows.
-use Prim.Native.Nat.{ℕ, zero, suc, _+_, _-_, _%_, _≤_, _<_}
+use Prim.Native.Nat.{ℕ, suc, _+_, _-_, _*_, _%_, _≤_, _<_}
 use native.Mathlib.Omega.{arith}
 use mathlib.Core.Path.{_≡_, refl, sym, ap, ap₂, subst, _∙_}
 use mathlib.Core.Bool.{Bool, true, false, not, _&&_}
 use mathlib.Core.List.{List, [], _∷_, _++_}
-use lib.ListN.{length, getD, take, drop, set, replicate, length-drop, length-set}
-use lib.Seq.{split-at, drop-drop, length-take-le}
-use lib.Dec.{leb}
-use borrow.Author.Tests.{le-ltb, lt-ltb, not-true, not-false, leb-true}
+use lib.ListN.{length, take, drop, set, length-append, length-set, take-append-drop}
+use lib.Seq.{split-at, drop-drop, take-add}
+use lib.Dec.{leb, ltb}
+use borrow.Author.Tests.{not-true, not-false, le-ltb, lt-ltb, ltb-true, ltb-false, eq-eqb}
 use mir.Val.{Fits}
 use mir.Syntax.{w32}
 use Rattle.bits.specs.Choice.{pick}
 use Rattle.bits.specs.Bits.{bitsOf}
 use Rattle.bits.specs.Outcome.{Outcome, accepted, refused}
 use Rattle.bits.specs.declared.BitPlace.{BitPlace}
-use Rattle.tone.specs.Tone.{Pattern, Front, partOf, loopOf, header, cells, noneKnown, Sound}
-use Rattle.tone.specs.Writing.{tableBits, frontBits}
-use Rattle.tone.proofs.Rows.{and-true, header-small}
-use Rattle.reading.specs.Answers.{Within, place, notes, EntryAt, SomeEntry, Passed}
-use Rattle.reading.proofs.Standing.{room}
-use Rattle.reader.proofs.Told.{Told, told, table-there}
-use Rattle.judging.specs.declared.Count.{Count}
-use Rattle.judging.specs.Counting.{noCount, counted}
-use Rattle.judging.specs.Standing.{bodyIn, behindIn, BodyAt}
+use Rattle.bits.specs.declared.OctetCount.{OctetCount}
+use Rattle.bits.proofs.Octets.{length-bitsOf}
+use Rattle.tone.specs.Tone.{Pattern, Tone, Front, frontOf, specifier, header, cells, noneKnown, Sound as SoundPart}
+use Rattle.tone.specs.Writing.{entryBits, tableBits, frontBits}
+use Rattle.tone.specs.Reading.{readTone}
+use Rattle.tone.proofs.Rows.{tableBits-append, header-small, header-wide}
+use Rattle.reading.specs.Answers.{place}
+use Rattle.judging.specs.declared.Wish.{Wish}
+use Rattle.judging.specs.declared.Cut.{Cut}
+use Rattle.judging.specs.declared.Total.{Total}
+use Rattle.judging.specs.declared.Judged.{Judged}
+use Rattle.judging.specs.declared.Judged.the-variants.{Sound, Faulty}
+use Rattle.judging.specs.Bodies.{noBodies}
+use Rattle.judging.specs.Counting.{entryCount, markFrom}
+use Rattle.judging.specs.Wishes.{grants, granted, wished, placeIn, cutOf, noCut}
+use Rattle.judging.specs.Answers.{totalOf, judgedFor}
+use Rattle.reader.proofs.Told.{Told, told}
 use Rattle.changing.specs.declared.Edit.{Edit}
 use Rattle.changing.specs.Change.{carried, removed, bodyAfter, withBody, patternAt, changed, carriesNew, inBody, empties, overfills, headerPlace}
 use Rattle.changing.specs.Answers.{Puts, groundOf}
-use Rattle.changing.proofs.Bodies.{Fits as FitsEdit, fits, length-after, body-instructions, changed-formed, front-same, sound-at}
-use Rattle.hearing.specs.declared.Heard.{Heard}
-use Rattle.hearing.specs.declared.Cut.{Cut}
-use Rattle.hearing.specs.Hearing.{patternsHere, endHere, Here, notesHeard, notesAfter, countAfter, Countable, Hears, CutOf}
-use Rattle.hearing.proofs.Overs.{Standing, read-of, body-of, bits-cut}
-use Rattle.hearing.proofs.Hearings.{AllSound, all-sound, sound-take, sound-drop, Row, patterns-of, here-of, front-row, rest-row, header-there, passed, body-stands, others-stand, codes, countable-on}
-use Rattle.hearing.proofs.Recounts.{entries-counted, mark-counted, own-heard, count-set}
+use Rattle.changing.proofs.Bodies.{Fits as FitsEdit, length-after, body-instructions, cells-append, changed-formed, front-same, sound-at}
+use Rattle.changing.proofs.Grounds.{no-ground}
 use Rattle.editing.specs.declared.Outline.{Outline}
-use Rattle.editing.specs.Editing.{bodyLength, editTone}
-use Rattle.editing.specs.Places.{toneOf}
-use Rattle.editing.specs.Plan.{Known, Going}
-use Rattle.editing.proofs.Rebuilt.{header-wide, joined-is}
+use Rattle.editing.specs.Editing.{bodyLength, editTone, andThen}
+use Rattle.editing.specs.Plan.{groundFor, Going}
+use Rattle.editing.proofs.Rebuilt.{joined-is}
 
--- ---- a ground, and the edit's refusal
+-- ---- the ground
 
-module _ {A : Type 0} (x : A) where
-  abbrev Judged : Bool → Bool → Bool → Outcome A
-  Judged a b c = pick a (pick b (refused 13 0) (pick c (refused 14 0) (accepted x))) (refused 12 0)
+module _ (ed : Edit) (k i p c : ℕ) {b : Bool} (q : b ≡ carriesNew ed) where
+  pub ground-new : not b ≡ true → _≡_ {A = ℕ} 6 (groundFor ed k i p c)
+  ground-new h = rw (sym q ∙ not-true b h) refl
 
-  halted : (a b c : Bool) {f : ℕ} → f ≡ pick a (pick b 13 (pick c 14 0)) 12 → (f ≡ 0 → ⊥) → Judged a b c ≡ refused f 0
-  halted true true c e h = rw e refl
-  halted true false true e h = rw e refl
-  halted true false false e h = absurd (h e)
-  halted false b c e h = rw e refl
+  module _ (h : not b ≡ false) where
+    pub ground-pattern : p ≤ k → _≡_ {A = ℕ} 12 (groundFor ed k i p c)
+    ground-pattern l = rw (sym q ∙ not-false b h, le-ltb k p l) refl
 
-  gone : (a b c : Bool) {f : ℕ} → f ≡ pick a (pick b 13 (pick c 14 0)) 12 → f ≡ 0 → (a ≡ true) × (b ≡ false) × (c ≡ false)
-  gone true true c e h = let z : ⊥ = omega arith in absurd z
-  gone true false true e h = let z : ⊥ = omega arith in absurd z
-  gone true false false e h = (refl, refl, refl)
-  gone false b c e h = let z : ⊥ = omega arith in absurd z
+    pub ground-body : k < p → {g : ℕ} → g ≡ groundOf ed i (c % 256) → g ≡ groundFor ed k i p c
+    ground-body l e = rw (sym q ∙ not-false b h, lt-ltb k p l) e
 
--- ---- the returns of `plan_edit`
+pub ruleset grounds = (ground-new, ground-pattern, ground-body)
 
--- nothing is counted yet of up to 255 patterns
-small-none : (i : ℕ) → getD (replicate 4 0) i 0 ≤ 255
-small-none zero = omega arith
-small-none (suc zero) = omega arith
-small-none (suc (suc zero)) = omega arith
-small-none (suc (suc (suc zero))) = omega arith
-small-none (suc (suc (suc (suc i)))) = omega arith
+-- a ground is the edit's refusal, where c has the body's length
+module _ (ed : Edit) (k i c : ℕ) (t : Tone) (size : k < length (t .patterns) → c % 256 ≡ bodyLength k t) where
+  abbrev there : Bool
+  there = leb 1 (bodyLength k t) && inBody ed i (bodyLength k t)
 
-module _ (ed : Edit) (k i : ℕ) {m : List ℕ} {first p : ℕ} (kn : Known m first p) where
-  abbrev ps : List Pattern
-  ps = toneOf m .patterns
+  -- the edit as the rules have it, by its four tests
+  abbrev judged : Bool → Bool → Bool → Bool → Bool → Outcome Tone
+  judged a b x y z = pick a (pick (b && x) (pick y (refused 13 0) (pick z (refused 14 0) (accepted (changed ed k i t)))) (refused 12 0)) (refused 6 0)
 
-  abbrev part : Pattern
-  part = patternAt (toneOf m .patterns) k
+  -- a ground is what the edit is refused for
+  pub ground-refuses : {g : ℕ} → g ≡ groundFor ed k i (length (t .patterns)) c → (g ≡ 0 → ⊥) → editTone ed k i t ≡ refused g 0
+  ground-refuses {g} e h = go (carriesNew ed) (ltb k (length (t .patterns))) refl refl
+    where
+      body : (x y z : Bool) → g ≡ pick x (pick y 13 (pick z 14 0)) 12 → judged true true x y z ≡ refused g 0
+      body true true z q = rw q refl
+      body true false true q = rw q refl
+      body true false false q = absurd (h q)
+      body false y z q = rw q refl
 
-  pub plan-new : {b : Bool} → b ≡ carriesNew ed → not b ≡ true → editTone ed k i (toneOf m) ≡ refused 6 0
-  plan-new {b} q h = rw (sym q ∙ not-true b h) refl
+      go : (a b : Bool) → carriesNew ed ≡ a → ltb k (length (t .patterns)) ≡ b → editTone ed k i t ≡ refused g 0
+      go false b p q = let o : g ≡ 6 = e ∙ (rw p refl) in rw (p, o) refl
+      go true false p q = let o : g ≡ 12 = e ∙ (rw (p, q) refl) in rw (p, q, o) refl
+      go true true p q =
+          let s = size (ltb-true k (length (t .patterns)) q) in
+          rw (p, q) (body there (empties ed (bodyLength k t)) (overfills ed (bodyLength k t)) (e ∙ (rw (p, q, s) refl)))
 
-  module _ {b : Bool} (q : b ≡ carriesNew ed) (h : not b ≡ false) where
+  -- with none it is accepted
+  pub record Granted : Type 0 where
     pub new : carriesNew ed ≡ true
-    new = sym q ∙ not-false b h
+    pub found : k < length (t .patterns)
+    pub none : groundOf ed i (bodyLength k t) ≡ 0
+    pub accepts : editTone ed k i t ≡ accepted (changed ed k i t)
 
-    pub plan-no-pattern : p ≤ k → editTone ed k i (toneOf m) ≡ refused 12 0
-    plan-no-pattern l = rw (new, le-ltb k (length (toneOf m .patterns)) (rw (← kn .patterns) l)) refl
+  pub ground-grants : {g : ℕ} → g ≡ groundFor ed k i (length (t .patterns)) c → g ≡ 0 → Granted
+  ground-grants {g} e h = go (carriesNew ed) (ltb k (length (t .patterns))) refl refl
+    where
+      body : (x y z : Bool) → _≡_ {A = ℕ} (pick x (pick y 13 (pick z 14 0)) 12) 0 → judged true true x y z ≡ accepted (changed ed k i t)
+      body true true z q = let o : ⊥ = omega arith in absurd o
+      body true false true q = let o : ⊥ = omega arith in absurd o
+      body true false false q = refl
+      body false y z q = let o : ⊥ = omega arith in absurd o
 
-    module _ (l : k < p) (wi : Within m first) {u : Heard} (hu : (u .place ≡ place first) × (u .count ≡ noCount)) where
-      start : u .place .0 ≡ first
-      start = ap (λ (y : BitPlace). y .0) (hu .0)
+      go : (a b : Bool) → carriesNew ed ≡ a → ltb k (length (t .patterns)) ≡ b → Granted
+      go false b p q = let o : g ≡ 6 = e ∙ (rw p refl) in let z : ⊥ = omega arith in absurd z
+      go true false p q = let o : g ≡ 12 = e ∙ (rw (p, q) refl) in let z : ⊥ = omega arith in absurd z
+      go true true p q =
+          let l = ltb-true k (length (t .patterns)) q in
+          let s = size l in
+          let o : groundOf ed i (bodyLength k t) ≡ 0 = sym (e ∙ (rw (p, q, s) refl)) ∙ h in
+          record { new = p; found = l; none = o; accepts = rw (p, q) (body there (empties ed (bodyLength k t)) (overfills ed (bodyLength k t)) o) }
 
-      there : k < length (toneOf m .patterns)
-      there = rw (← kn .patterns) l
+-- ---- a message that was judged with the edit in mind
 
-      d : Told m (toneOf m)
-      d = told m (toneOf m) (kn .stands .reads)
+-- the tone that it reads as, and what was told of it
+record Judging (w : Wish) (m : List ℕ) (f : BitPlace) (p : ℕ) (v : Total) : Type 0 where
+  tone : Tone
+  reads : readTone m ≡ accepted tone
+  first : f ≡ place (length (frontBits (frontOf tone)))
+  patterns : p ≡ length (tone .patterns)
+  total : v ≡ totalOf w (length (frontBits (frontOf tone))) (tone .patterns)
 
-      few : p ≤ 255
-      few = rw (kn .patterns) (d .formed .front .most)
+judging-of : (w : Wish) (m : List ℕ) {s : ℕ} {f : BitPlace} {o : OctetCount} {p : ℕ} {v : Total} {u : Bool} → Sound s f o p v u ≡ judgedFor w (readTone m) → Judging w m f p v
+judging-of w m {s} {f} {o} {p} {v} {u} h = go (readTone m) refl h
+  where
+    go : (x : Outcome Tone) → readTone m ≡ x → Sound s f o p v u ≡ judgedFor w x → Judging w m f p v
+    go (accepted t) q g = record { tone = t; reads = q; first = cc; patterns = cc; total = cc }
+    go (refused n′ p′) q g = let z : _≡_ {A = ℕ} 0 1 = cc in absurd (omega arith)
 
-      pub plan-short : k ≤ 255
-      plan-short = omega (arith, few)
+module _ (w : Wish) (m : List ℕ) {j : Judged} (q : j ≡ judgedFor w (readTone m)) where
+  abbrev ed : Edit
+  ed = w .edit
 
-      sounds : AllSound (toneOf m .patterns)
-      sounds = all-sound noneKnown (toneOf m .patterns) (d .formed .sequence)
+  abbrev k : ℕ
+  k = w .pattern
 
-      sound : Sound (patternAt (toneOf m .patterns) k)
-      sound = sound-at noneKnown (toneOf m .patterns) k (d .formed .sequence) there
+  abbrev i : ℕ
+  i = w .instruction
 
-      -- all patterns stand behind the front
-      row : Row m (u .place .0) (take k (toneOf m .patterns) ++ part ∷ drop (suc k) (toneOf m .patterns))
-      row =
-          let t = table-there m (toneOf m) d in
-          subst (Row m (u .place .0)) (split-at (toneOf m .patterns) k (record { id = 0; loop = 0; body = [] }) there)
-          (record { within = subst (Within m) (sym start) wi; each = sounds; behind = t .behind; here = ap (λ (y : ℕ). drop y (bitsOf m)) (start ∙ kn .stands .begins) ∙ t .here })
+  -- the message's own refusal
+  pub plan-faulty : {n : ℕ} {p : BitPlace} → j ≡ Faulty n p → andThen (readTone m) (editTone (w .edit) (w .pattern) (w .instruction)) ≡ refused n (p .0)
+  plan-faulty {n} {p} g = go (readTone m) (sym g ∙ q)
+    where
+      go : (x : Outcome Tone) → Faulty n p ≡ judgedFor w x → andThen x (editTone ed k i) ≡ refused n (p .0)
+      go (accepted t) z = let y : _≡_ {A = ℕ} 0 1 = cc in absurd (omega arith)
+      go (refused n′ p′) z = let e₁ : n ≡ n′ = cc in let e₂ : p ≡ place p′ = cc in rw (e₁, e₂) refl
 
-      ahead : Row m (u .place .0) (take k (toneOf m .patterns))
-      ahead = front-row (take k ps) (part ∷ drop (suc k) ps) row (sound-take k ps sounds)
+  module _ {s : ℕ} {f : BitPlace} {o : OctetCount} {p : ℕ} {v : Total} {u : Bool} (g : j ≡ Sound s f o p v u) where
+    jd : Judging w m f p v
+    jd = judging-of w m (sym g ∙ q)
 
-      size : length (take k (toneOf m .patterns)) ≡ k
-      size = length-take-le k (toneOf m .patterns) (omega (arith, there))
+    abbrev t : Tone
+    t = jd .tone
 
-      pub plan-ahead : Here m (u .place .0) k (patternsHere m (u .place .0) k) (endHere m (u .place .0) k)
-      plan-ahead = here-of ahead size
+    abbrev part : Pattern
+    part = patternAt (t .patterns) k
 
-      pub plan-none : Countable (replicate 4 0) (u .count) k
-      plan-none = record { four = refl; small = small-none; few = rw (hu .1) (omega (arith, few)) }
+    d : Told m t
+    d = told m t (jd .reads)
 
-      module _ {c₁ : Count} {hp : ℕ} {ns : List ℕ} (hr : Hears m (u .place .0) k (replicate 4 0) (u .count) hp ns c₁) where
-        place-is : hp ≡ u .place .0 + length (tableBits (cells (take k (toneOf m .patterns))))
-        place-is = hr .place ∙ (rw (patterns-of ahead size) refl)
+    sound : k < length (t .patterns) → SoundPart part
+    sound l = sound-at noneKnown (t .patterns) k (d .formed .sequence) l
 
-        noted : ns ≡ notesAfter (replicate 4 0) (take k (toneOf m .patterns))
-        noted = hr .noted ∙ (rw (patterns-of ahead size) refl)
+    -- where the wish cuts: the part named
+    cut-is : k < length (t .patterns) → v .cut ≡ cutOf w (headerPlace t k) (header part) (part .body)
+    cut-is l = ap (λ (x : Total). x .cut) (jd .total) ∙ ap (λ (x : Bool). pick x (cutOf w (headerPlace t k) (header part) (part .body)) noCut) (lt-ltb k (length (t .patterns)) l)
 
-        counts : c₁ ≡ countAfter noCount (replicate 4 0) (take k (toneOf m .patterns))
-        counts = hr .count ∙ (rw (patterns-of ahead size, hu .1) refl)
+    cell-is : k < length (t .patterns) → v .cut .cell ≡ header part
+    cell-is l = ap (λ (x : Cut). x .cell) (cut-is l) ∙ go (grants w (part .body))
+      where
+        go : (x : Bool) → pick {A = Cut} x (record { header = place (headerPlace t k); at = place (placeIn (headerPlace t k) (part .body) i); behind = place (placeIn (headerPlace t k) (part .body) (i + removed ed)); cell = header part }) (record { header = place (headerPlace t k); at = place (headerPlace t k); behind = place (headerPlace t k); cell = header part }) .cell ≡ header part
+        go true = refl
+        go false = refl
 
-        head-place : hp ≡ headerPlace (toneOf m) k
-        head-place = place-is ∙ ap (λ (y : ℕ). y + length (tableBits (cells (take k (toneOf m .patterns))))) (start ∙ kn .stands .begins)
+    size : k < length (t .patterns) → v .cut .cell % 256 ≡ bodyLength k t
+    size l = ap specifier (cell-is l) ∙ header-small part (sound l) .1
 
-        at-part : Row m hp (part ∷ drop (suc k) (toneOf m .patterns))
-        at-part = subst (λ (y : ℕ). Row m y (part ∷ drop (suc k) ps)) (sym place-is) (rest-row (take k ps) (part ∷ drop (suc k) ps) row (sound, sound-drop (suc k) ps sounds))
+    module _ {r : ℕ} (e : r ≡ groundFor (w .edit) (w .pattern) (w .instruction) p (v .cut .cell)) where
+      ground : r ≡ groundFor ed k i (length (t .patterns)) (v .cut .cell)
+      ground = e ∙ ap (λ (x : ℕ). groundFor ed k i x (v .cut .cell)) (jd .patterns)
 
-        pub plan-within : Within m hp
-        plan-within = at-part .within
+      pub plan-ground : (r ≡ 0 → ⊥) → andThen (readTone m) (editTone (w .edit) (w .pattern) (w .instruction)) ≡ refused r 0
+      plan-ground h = ap (λ (x : Outcome Tone). andThen x (editTone ed k i)) (jd .reads) ∙ ground-refuses ed k i (v .cut .cell) t size ground h
 
-        pub plan-header : SomeEntry m hp
-        plan-header = header-there part (drop (suc k) ps) at-part
+      module _ (z : r ≡ 0) where
+        grant : Granted ed k i (v .cut .cell) t size
+        grant = ground-grants ed k i (v .cut .cell) t size ground z
 
-        module _ {c : ℕ} {next : BitPlace} (e : (x : ℕ) (b : List Bool) → EntryAt m hp x b → Passed hp x c (next .0)) where
-          code : (partOf c ≡ part .id) × (loopOf c ≡ part .loop) × (c % 256 ≡ bodyLength k (toneOf m))
-          code = codes part (drop (suc k) ps) at-part e
+        pub plan-new : carriesNew (w .edit) ≡ true
+        plan-new = grant .new
 
-          count : c % 256 ≡ bodyLength k (toneOf m)
-          count = code .2
+        abbrev b : List ℕ
+        b = part .body
 
-          entry-is : c ≡ header (patternAt (toneOf m .patterns) k)
-          entry-is = passed part (drop (suc k) ps) at-part e .taken
+        fit : FitsEdit ed i (length b)
+        fit = no-ground ed i (bodyLength k t) (sound (grant .found) .long) (grant .none) .1
 
-          next-is : next .0 ≡ hp + 17
-          next-is = passed part (drop (suc k) ps) at-part e .behind ∙ ap (λ (y : ℕ). hp + y) (header-wide (header part) (header-small part sound .0))
+        some : 1 ≤ length b
+        some = no-ground ed i (bodyLength k t) (sound (grant .found) .long) (grant .none) .0
 
-          judged : editTone ed k i (toneOf m) ≡ Judged (changed ed k i (toneOf m)) (leb 1 (bodyLength k (toneOf m)) && inBody ed i (bodyLength k (toneOf m))) (empties ed (bodyLength k (toneOf m))) (overfills ed (bodyLength k (toneOf m)))
-          judged = rw (new, lt-ltb k (length (toneOf m .patterns)) there) refl
+        granting : grants w b ≡ true
+        granting = eq-eqb (groundOf ed i (bodyLength k t)) 0 (grant .none)
 
-          ground-is : {f : ℕ} → f ≡ groundOf ed i (c % 256) → f ≡ groundOf ed i (bodyLength k (toneOf m))
-          ground-is g = g ∙ ap (groundOf ed i) count
+        -- the places of the cut
+        cut-there : v .cut ≡ record { header = place (headerPlace t k); at = place (placeIn (headerPlace t k) b i); behind = place (placeIn (headerPlace t k) b (i + removed ed)); cell = header part }
+        cut-there = cut-is (grant .found) ∙ (rw granting refl)
 
-          pub plan-ground : {f : ℕ} → f ≡ groundOf ed i (c % 256) → (f ≡ 0 → ⊥) → editTone ed k i (toneOf m) ≡ refused f 0
-          plan-ground {f} g z =
-              judged ∙ halted (changed ed k i (toneOf m)) (leb 1 (bodyLength k (toneOf m)) && inBody ed i (bodyLength k (toneOf m))) (empties ed (bodyLength k (toneOf m))) (overfills ed (bodyLength k (toneOf m))) (ground-is g) z
+        abbrev after : Pattern
+        after = withBody part (bodyAfter ed i b)
 
-          abbrev b′ : List ℕ
-          b′ = patternAt (toneOf m .patterns) k .body
+        long : length (bodyAfter ed i b) ≡ length b - removed ed + length (carried ed)
+        long = length-after ed i b (fit .inside)
 
-          abbrev others : List Pattern
-          others = drop (suc k) (toneOf m .patterns)
+        after-sound : SoundPart after
+        after-sound = let y = sound (grant .found) in record { id = y .id; loop = y .loop; long = rw long (fit .most); each = body-instructions ed i b (grant .new) (y .each) }
 
-          stands : Standing m (next .0) b′
-          stands = body-stands part others at-part e
+        small : v .cut .cell < 16384
+        small = rw (cell-is (grant .found)) (header-small part (sound (grant .found)) .0)
 
-          module _ {f : ℕ} (g : f ≡ groundOf ed i (c % 256)) (z : f ≡ 0) where
-            met : ((leb 1 (bodyLength k (toneOf m)) && inBody ed i (bodyLength k (toneOf m))) ≡ true) × (empties ed (bodyLength k (toneOf m)) ≡ false) × (overfills ed (bodyLength k (toneOf m)) ≡ false)
-            met = gone (changed ed k i (toneOf m)) (leb 1 (bodyLength k (toneOf m)) && inBody ed i (bodyLength k (toneOf m))) (empties ed (bodyLength k (toneOf m))) (overfills ed (bodyLength k (toneOf m))) (ground-is g) z
+        module _ {a : ℕ} (ha : (a ≡ length (carried (w .edit))) × (a ≤ 1)) where
+          pub plan-cell-fits : Fits w32 (v .cut .cell + a)
+          plan-cell-fits = record { fits = omega (arith, small, ha .1) }
 
-            some : (1 ≤ bodyLength k (toneOf m)) × (inBody ed i (bodyLength k (toneOf m)) ≡ true)
-            some = let a = and-true (leb 1 (bodyLength k (toneOf m))) (inBody ed i (bodyLength k (toneOf m))) (met .0) in (leb-true 1 (bodyLength k (toneOf m)) (a .0), a .1)
+          module _ {rm : ℕ} (hm : (rm ≡ removed (w .edit)) × (rm ≤ 1)) where
+            counts : v .cut .cell % 256 ≡ length b
+            counts = size (grant .found)
 
-            fit : FitsEdit ed i (bodyLength k (toneOf m))
-            fit = fits ed i (bodyLength k (toneOf m)) (some .0) (sound .long) (some .1) (met .1) (met .2)
+            pub plan-cell-least : rm ≤ v .cut .cell + a
+            plan-cell-least = omega (arith, counts, fit .inside, hm .0)
 
-            pub plan-position : i ≤ 255
-            plan-position = omega (arith, fit .inside, sound .long)
+            new-cell : v .cut .cell + a - rm ≡ header after
+            new-cell = omega (arith, cell-is (grant .found), long, fit .inside, hm .0, ha .0)
 
-            -- what hearing the changed part needs
-            pub plan-body : BodyAt m (next .0) (c % 256) (bodyIn m (next .0) (c % 256)) (behindIn m (next .0) (c % 256))
-            plan-body = body-of stands (sym count) (omega arith)
+            -- how the patterns' bits are made up
+            abbrev others : ℕ
+            others = length (tableBits (cells (drop (suc k) (t .patterns))))
 
-            pub plan-cut : (i + removed ed ≤ c % 256) × (c % 256 - removed ed + length (carried ed) ≤ 255) × (c₁ .entries ≤ 971550) × (length ns ≡ 4)
-            plan-cut = (rw count (fit .inside), rw count (fit .most), omega (arith, hr .most, ap (λ (y : Count). y .entries) (hu .1), few, l), hr .four)
+            bits : length (tableBits (cells (t .patterns))) ≡ length (tableBits (cells (take k (t .patterns)))) + (17 + (length (tableBits b) + others))
+            bits =
+                let ps = t .patterns in
+                let xs = take k (t .patterns) in
+                let ys = drop (suc k) (t .patterns) in
+                let y = sound (grant .found) in
+                ap (λ (x : List Pattern). length (tableBits (cells x))) (split-at ps k (record { id = 0; loop = 0; body = [] }) (grant .found))
+                ∙ ap length (ap tableBits (cells-append xs (part ∷ ys)) ∙ tableBits-append (cells xs) (header part ∷ (part .body ++ cells ys)))
+                ∙ length-append (tableBits (cells xs)) (entryBits (header part) ++ tableBits (part .body ++ cells ys))
+                ∙ ap (λ (x : ℕ). length (tableBits (cells xs)) + x)
+                (length-append (entryBits (header part)) (tableBits (part .body ++ cells ys))
+                ∙ ap₂ (λ (x z : ℕ). x + z) (header-wide (header part) (header-small part y .0)) (ap length (tableBits-append (part .body) (cells ys)) ∙ length-append (tableBits (part .body)) (tableBits (cells ys))))
 
-            -- the changed part
-            abbrev after : Pattern
-            after = withBody part (bodyAfter ed i b′)
+            -- and those of the body
+            cut-bits : (j : ℕ) → length (tableBits b) ≡ length (tableBits (take j b)) + length (tableBits (drop j b))
+            cut-bits j = ap (λ (x : List ℕ). length (tableBits x)) (sym (take-append-drop j b)) ∙ ap length (tableBits-append (take j b) (drop j b)) ∙ length-append (tableBits (take j b)) (tableBits (drop j b))
 
-            long : length (bodyAfter ed i b′) ≡ bodyLength k (toneOf m) - removed ed + length (carried ed)
-            long = length-after ed i b′ (fit .inside)
+            taken : length (tableBits (take (i + removed ed) b)) ≡ length (tableBits (take i b)) + length (tableBits (take (removed ed) (drop i b)))
+            taken = ap (λ (x : List ℕ). length (tableBits x)) (take-add i (removed ed) b) ∙ ap length (tableBits-append (take i b) (take (removed ed) (drop i b))) ∙ length-append (tableBits (take i b)) (tableBits (take (removed ed) (drop i b)))
 
-            after-sound : Sound after
-            after-sound = record { id = sound .id; loop = sound .loop; long = rw long (fit .most); each = body-instructions ed i b′ new (sound .each) }
+            pub plan-go : {x y : ℕ} {ol : Outline} → Puts (carried (w .edit)) x y → (ol .first ≡ f) × (ol .patterns ≡ p) × (ol .entries ≡ v .list) × (ol .mark ≡ v .mark)
+                → Going m (w .edit) (w .pattern) (w .instruction) (v .cut .header .0) (v .cut .cell + a - rm) (v .cut .at .0) (v .cut .behind .0) (v .end .0) x y ol
+            plan-go {x} {y} {ol} pu ho =
+                let ps = t .patterns in
+                let eh : v .cut .header .0 ≡ headerPlace t k = ap (λ (c : Cut). c .header .0) cut-there in
+                let ea : v .cut .at .0 ≡ v .cut .header .0 + 17 + length (tableBits (take i b)) = omega (arith, ap (λ (c : Cut). c .at .0) cut-there, eh) in
+                let eb : v .cut .behind .0 ≡ v .cut .at .0 + length (tableBits (take (removed ed) (drop i b))) = omega (arith, ap (λ (c : Cut). c .behind .0) cut-there, ea, eh, taken) in
+                let ez : v .end .0 ≡ length (frontBits (frontOf t)) + length (tableBits (cells (t .patterns))) = ap (λ (c : Total). c .end .0) (jd .total) in
+                let ee : v .end .0 ≡ v .cut .behind .0 + length (tableBits (drop (i + removed ed) b)) + others = omega (arith, ez, bits, ap (λ (c : Cut). c .behind .0) cut-there, cut-bits (i + removed ed)) in
+                let ends : v .end .0 ≤ 8 * length m = omega (arith, ez, ap length (d .bits) ∙ length-append (frontBits (frontOf t)) (tableBits (cells (t .patterns)) ++ d .behind), length-append (tableBits (cells (t .patterns))) (d .behind), length-bitsOf m) in
+                let same : wished w (t .patterns) ≡ changed ed k i t .patterns = ap (λ (c : Bool). set ps k (withBody part (pick c (bodyAfter ed i b) b))) granting in
+                record {
+                  tone = t;
+                  reads = jd .reads;
+                  short = d .short;
+                  accepts = grant .accepts;
+                  formed = changed-formed ed k i t (d .formed) (grant .new) (grant .found) some fit;
+                  spells = joined-is m t d ed k i (grant .found) (fit .inside) eh ea eb ee pu new-cell (rw new-cell (header-small after after-sound .0));
+                  can = record {
+                    ahead = omega (arith, ea);
+                    inside = omega (arith, eb, ee, ends);
+                    order = omega (arith, ee);
+                    ends = ends;
+                    header = omega (arith, new-cell, header-small after after-sound .0);
+                    width = pu .short;
+                    value = pu .small;
+                  };
+                  outlines = record {
+                    first = ap (λ (c : BitPlace). c .0) (ho .0 ∙ jd .first) ∙ ap (λ (c : Front). length (frontBits c)) (sym (front-same ed k i t));
+                    patterns = ho .1 ∙ jd .patterns ∙ sym (length-set ps k after);
+                    entries = ho .2 ∙ ap (λ (c : Total). c .list) (jd .total) ∙ ap (entryCount noBodies) same;
+                    mark = ho .3 ∙ ap (λ (c : Total). c .mark) (jd .total) ∙ ap (markFrom noBodies 0) same;
+                  };
+                }
 
-            module _ {ns′ : List ℕ} {r : Cut} (cu : CutOf (bodyIn m (next .0) (c % 256)) ed c i (record { place = next; count = c₁ }) ns ns′ r) where
-              cut : CutOf b′ ed c i (record { place = next; count = c₁ }) ns ns′ r
-              cut =
-                  let s : bodyIn m (next .0) (c % 256) ≡ b′ = rw (read-of stands (sym count)) refl in
-                  subst (λ (y : List ℕ). CutOf y ed c i (record { place = next; count = c₁ }) ns ns′ r) s cu
-
-              own : notesHeard ns after ≡ notes (bodyAfter ed i b′)
-              own = own-heard ns after (rw long (fit .least))
-
-              noted-after : ns′ ≡ set ns (after .id) (notesHeard ns after)
-              noted-after = cut .noted ∙ ap₂ (λ (x y : ℕ). set ns x y) (code .0) (sym own)
-
-              counts-after : r .heard .count ≡ counted c₁ (notesHeard ns after) (after .loop)
-              counts-after = cut .count ∙ ap₂ (λ (x y : ℕ). counted c₁ x y) (sym own) (code .1)
-
-              behind : Row m (r .heard .place .0) others
-              behind = subst (λ (y : ℕ). Row m y others) (sym (cut .last)) (others-stand part others at-part e)
-
-              size-behind : length (drop (suc k) (toneOf m .patterns)) ≡ p - k - 1
-              size-behind = length-drop (suc k) (toneOf m .patterns) ∙ omega (arith, kn .patterns)
-
-              pub plan-behind : Here m (r .heard .place .0) (p - k - 1) (patternsHere m (r .heard .place .0) (p - k - 1)) (endHere m (r .heard .place .0) (p - k - 1))
-              plan-behind = here-of behind size-behind
-
-              pub plan-countable : Countable ns′ (r .heard .count) (p - k - 1)
-              plan-countable =
-                  let room : Countable ns c₁ (suc (p - k - 1)) = record { four = hr .four; small = hr .small; few = omega (arith, hr .most, ap (λ (y : Count). y .entries) (hu .1), few, l) } in
-                  rw (noted-after, counts-after) (countable-on ns c₁ (p - k - 1) after room after-sound)
-
-              module _ {c₃ : Count} {en : ℕ} {ns₃ : List ℕ} (hl : Hears m (r .heard .place .0) (p - k - 1) ns′ (r .heard .count) en ns₃ c₃) where
-                end-is : en ≡ r .heard .place .0 + length (tableBits (cells others))
-                end-is = hl .place ∙ (rw (patterns-of behind size-behind) refl)
-
-                -- the count is that of the changed patterns
-                recounted : c₃ ≡ countAfter noCount (replicate 4 0) (changed ed k i (toneOf m) .patterns)
-                recounted =
-                    hl .count ∙ (rw (patterns-of behind size-behind) refl)
-                    ∙ ap₂ (λ (x : Count) (y : List ℕ). countAfter x y others) counts-after noted-after
-                    ∙ ap₂ (λ (x : Count) (y : List ℕ). countAfter (counted x (notesHeard y after) (after .loop)) (set y (after .id) (notesHeard y after)) others) counts noted
-                    ∙ count-set noCount (replicate 4 0) ps k after there
-
-                small : c < 16384
-                small = rw entry-is (header-small part sound .0)
-
-                module _ {a : ℕ} (ha : (a ≡ length (carried ed)) × (a ≤ 1)) where
-                  pub plan-cell-fits : Fits w32 (c + a)
-                  plan-cell-fits = record { fits = omega (arith, small, ha .1) }
-
-                  module _ {rm : ℕ} (hm : (rm ≡ removed ed) × (rm ≤ 1)) where
-                    pub plan-cell-least : rm ≤ c + a
-                    plan-cell-least = omega (arith, count, fit .inside, hm .0)
-
-                    new-cell : c + a - rm ≡ header after
-                    new-cell = omega (arith, entry-is, long, fit .inside, hm .0, ha .0)
-
-                    new-small : header after < 16384
-                    new-small = header-small after after-sound .0
-
-                    pub plan-go : {w v : ℕ} {o : Outline} {f₀ : BitPlace} → Puts (carried ed) w v → (o .first ≡ f₀) × (o .patterns ≡ p) × (o .entries ≡ c₃ .entries) × (o .mark ≡ c₃ .mark) → f₀ .0 ≡ first
-                        → Going m ed k i hp (c + a - rm) (r .at .0) (r .behind .0) en w v o
-                    plan-go {w} {v} pu ho hf =
-                        let n₁ = bits-cut i b′ in
-                        let n₂ = bits-cut (removed ed) (drop i b′) in
-                        let n₃ = ap (λ (y : List ℕ). length (tableBits y)) (drop-drop (removed ed) i b′) in
-                        let ea : r .at .0 ≡ hp + 17 + length (tableBits (take i b′)) = omega (arith, cut .here, next-is) in
-                        let ee : en ≡ r .behind .0 + length (tableBits (drop (i + removed ed) b′)) + length (tableBits (cells others)) = omega (arith, end-is, cut .last, cut .after, cut .here, n₁, n₂, n₃) in
-                        let j = joined-is m (toneOf m) d ed k i there (fit .inside) head-place ea (cut .after) ee pu new-cell (rw new-cell new-small) in
-                        let end = room m (r .heard .place .0) (tableBits (cells others)) (behind .behind) (behind .within .inside) (behind .here) in
-                        record {
-                          accepts = judged ∙ (rw (met .0, met .1, met .2) refl);
-                          formed = changed-formed ed k i (toneOf m) (d .formed) new there (some .0) fit;
-                          spells = j;
-                          can = record {
-                            ahead = omega (arith, ea);
-                            inside = omega (arith, ea, ee, end-is, end, cut .after);
-                            order = omega (arith, ee);
-                            ends = omega (arith, end-is, end);
-                            header = omega (arith, new-cell, new-small);
-                            width = pu .short;
-                            value = pu .small;
-                          };
-                          outlines = record {
-                            first = ap (λ (y : BitPlace). y .0) (ho .0) ∙ hf ∙ kn .stands .begins ∙ ap (λ (y : Front). length (frontBits y)) (sym (front-same ed k i (toneOf m)));
-                            patterns = ho .1 ∙ kn .patterns ∙ sym (length-set ps k after);
-                            entries = ho .2 ∙ ap (λ (y : Count). y .entries) recounted ∙ entries-counted (changed ed k i (toneOf m) .patterns);
-                            mark = ho .3 ∙ ap (λ (y : Count). y .mark) recounted ∙ mark-counted (changed ed k i (toneOf m) .patterns);
-                          };
-                        }
+pub ruleset plans = (plan-faulty, plan-ground, plan-new, plan-cell-fits, plan-cell-least, plan-go)

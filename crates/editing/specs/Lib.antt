@@ -1,4 +1,3 @@
 pub mod Editing
-pub mod Places
 pub mod Plan
 pub mod Promise

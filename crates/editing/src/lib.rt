@@ -11,15 +11,14 @@ ghost use Rattle.building.specs.Anew.{joined};
 ghost use Rattle.editing.specs.Editing.{cleared, inBuffer, withList};
 ghost use Rattle.editing.specs.Promise.{Leaves, EditPromise};
 ghost use Rattle.editing.specs.declared.Answer.the-variants.{Refused};
-ghost use Rattle.editing.specs.declared.Plan.the-variants.{Halt};
-ghost use Rattle.editing.specs.Plan.{CanBuild, Written, Spelt, Judging, Plans, PlansOf};
+ghost use Rattle.editing.specs.Plan.{groundFor, CanBuild, Written, Spelt, Plans};
 use bits::BitPlace;
 use bits::OctetCount;
 use building::Piece;
 use building::Spot;
 use changing::Edit;
-use judging::Cut;
 use judging::Judged;
+use judging::Total;
 use judging::Wish;
 
 // What an edit answers: the new length, the entries of the new list, its return mark and the change in octets; or the refusal.
@@ -47,12 +46,21 @@ pub struct Outline {
     pub mark: u32,
 }
 
-// Why an edit is refused, or what is put where, and what the changed message is then.
+// The outline of so many patterns, from what they come to.
+fn outlined(first: BitPlace, patterns: u32, total: Total) -> Outline
+    ensures { λ r. ⌜ (r .first ≡ first) × (r .patterns ≡ patterns) × (r .entries ≡ total .list) × (r .mark ≡ total .mark) ⌝ }
+{
+    Outline {
+        first,
+        patterns,
+        entries: total.list,
+        mark: total.mark,
+    }
+}
+
+// Why an edit is refused, and where; or what is put where, and what the changed message is then.
 pub enum Plan {
-    Halt {
-        number: u32,
-        place: BitPlace,
-    },
+    Halt(u32, BitPlace),
     Go {
         header: BitPlace,
         cell: u32,
@@ -62,75 +70,51 @@ pub enum Plan {
     },
 }
 
-// An edit's own grounds are placed at 0.
-fn halt(number: u32) -> Plan
-    ensures { λ r. ⌜ r ≡ Halt number (place 0) ⌝ }
-{
-    Plan::Halt {
-        number,
-        place: BitPlace(0),
-    }
-}
-
-// Plans an edit of the pattern at `k`, of so many, at instruction `i`: judging has cut it, and counted the changed list.
-fn plan_cut(edit: Edit, k: usize, i: usize, end: BitPlace, cut: Cut, outline: Outline) -> Plan
-    ensures { λ r. ⌜ ((t : Tone) → Judging edit k i t end cut outline → Plans edit k i t r) ⌝ }
+// The ground against an edit at instruction `i` of the pattern at `k`, of so many, whose header is `cell`; 0 for none.
+fn ground(edit: Edit, k: usize, i: usize, patterns: u32, cell: u32) -> u32
+    ensures { λ r. ⌜ r ≡ groundFor edit k i patterns cell ⌝ }
 {
     if !changing::carries_new(edit) {
-        return halt(6);
+        return 6;
     }
-    if outline.patterns as usize <= k {
-        return halt(12);
+    if patterns as usize <= k {
+        return 12;
     }
-    let cell = cut.cell;
-    let fault = changing::ground(edit, i, (cell % 256) as usize);
-    if fault != 0 {
-        return halt(fault);
-    }
-    let at = cut.at;
-    let behind = cut.behind;
-    Plan::Go {
-        header: cut.header,
-        cell: cell + changing::added(edit) - changing::removed(edit),
-        spot: Spot { at, behind, end },
-        piece: changing::carried_piece(edit),
-        outline,
-    }
+    changing::ground(edit, i, (cell % 256) as usize)
 }
 
-// Judges a message with an edit in mind, and plans it.
-fn plan_edit(msg: &[u8], edit: Edit, k: usize, i: usize) -> Plan
-    ensures { λ r. ⌜ PlansOf (now (msg .entry)) edit k i r ⌝ }
+// Judges a message with an edit in mind, and plans it. Judging has cut the part named, and counted the changed list.
+fn plan_edit(msg: &[u8], wish: Wish) -> Plan
+    ensures { λ r. ⌜ Plans (now (msg .entry)) wish r ⌝ }
 {
-    let wish = Wish {
-        edit,
-        pattern: k,
-        instruction: i,
-    };
     match judging::judge_for(msg, wish) {
-        Judged::Faulty { number, at: fault } => Plan::Halt {
-            number,
-            place: fault,
-        },
+        Judged::Faulty { number, at: fault } => Plan::Halt(number, fault),
         Judged::Sound {
             song: _,
             at: first,
             octets: _,
             patterns,
-            table: _,
-            list: entries,
-            mark,
-            end,
-            cut,
+            total,
             unicode: _,
         } => {
-            let outline = Outline {
-                first,
-                patterns,
-                entries,
-                mark,
-            };
-            plan_cut(edit, k, i, end, cut, outline)
+            let edit = wish.edit;
+            let cut = total.cut;
+            let cell = cut.cell;
+            let fault = ground(edit, wish.pattern, wish.instruction, patterns, cell);
+            if fault != 0 {
+                return Plan::Halt(fault, BitPlace(0));
+            }
+            let header = cut.header;
+            let at = cut.at;
+            let behind = cut.behind;
+            let end = total.end;
+            Plan::Go {
+                header,
+                cell: cell + changing::added(edit) - changing::removed(edit),
+                spot: Spot { at, behind, end },
+                piece: changing::carried_piece(edit),
+                outline: outlined(first, patterns, total),
+            }
         }
     }
 }
@@ -138,7 +122,7 @@ fn plan_edit(msg: &[u8], edit: Edit, k: usize, i: usize) -> Plan
 // ---- the edit
 
 // What is refused for want of room, or for a message too long, is placed at 0.
-fn refused(number: u32) -> Answer
+fn halted(number: u32) -> Answer
     ensures { λ r. ⌜ r ≡ Refused number (place 0) ⌝ }
 {
     Answer::Refused {
@@ -185,7 +169,10 @@ fn finish(
     let entries = outline.entries;
     let mark = outline.mark;
     if list.len() / 2 < entries as usize {
-        return refused(11);
+        return Answer::Refused {
+            number: 11,
+            place: BitPlace(0),
+        };
     }
     playing::fill_list(new, first, outline.patterns, list);
     let length = OctetCount(new.len());
@@ -217,10 +204,10 @@ fn carry_out(
     let end = spot.at.0 + piece.width as usize + (spot.end.0 - spot.behind.0);
     let length = bits::octets_to(BitPlace(end)).0 + 1;
     if 4096 < length {
-        return refused(1);
+        return halted(1);
     }
     if buf.len() < length {
-        return refused(11);
+        return halted(11);
     }
     let mut scratch = [0u8; 4096];
     let old = used.0;
@@ -242,10 +229,15 @@ pub fn edit_message(
 {
     let old = used.0;
     if buf.len() < old {
-        return refused(1);
+        return halted(1);
     }
-    match plan_edit(&buf[..old], edit, pattern, instruction) {
-        Plan::Halt { number, place } => Answer::Refused { number, place },
+    let wish = Wish {
+        edit,
+        pattern,
+        instruction,
+    };
+    match plan_edit(&buf[..old], wish) {
+        Plan::Halt(number, place) => Answer::Refused { number, place },
         Plan::Go {
             header,
             cell,

@@ -21,7 +21,7 @@ use Rattle.tone.specs.Reading.{got, patternsDue, readTone}
 use Rattle.tone.proofs.Rows.{patterns-exact}
 use Rattle.tone.proofs.Demand2.{Says, read-says, core-reads}
 use Rattle.reading.specs.Answers.{Within, place}
-use Rattle.judging.specs.declared.Cut.{Cut}
+use Rattle.judging.specs.declared.Total.{Total}
 use Rattle.judging.specs.declared.Judged.{Judged}
 use Rattle.judging.specs.declared.Judged.the-variants.{Sound, Faulty}
 use Rattle.playing.specs.declared.Listed.{Listed}
@@ -30,7 +30,7 @@ use Rattle.sounding.specs.Sounding.{atStart, numbers}
 use Rattle.sounding.specs.Playing.{Listing, play, playingList}
 use Rattle.judging.specs.Bodies.{noBodies}
 use Rattle.judging.specs.Counting.{entryCount, markFrom}
-use Rattle.judging.specs.Answers.{judgedOf}
+use Rattle.judging.specs.Answers.{plainly, judgedOf}
 use Rattle.playing.specs.Filling.{patternsIn, endIn, PatternsAt}
 use Rattle.sounding.specs.Listing.{anyTooLong, listed, fitsNumbers, fitsBoth, listTone}
 use Rattle.playing.specs.Promise.{numbersOf, listNumbers, listAnswer, cellsAfter, ListPromise}
@@ -94,10 +94,11 @@ record ListThere (x : Outcome Tone) (e k n at : ℕ) : Type 0 where
   patterns : n ≡ length (tone .patterns)
   front : at ≡ length (frontBits (frontOf tone))
 
-listable-there : (x : Outcome Tone) {s : ℕ} {f : BitPlace} {o : OctetCount} {n v e k : ℕ} {z : BitPlace} {c : Cut} {u : Bool} → Sound s f o n v e k z c u ≡ judgedOf x → ListThere x e k n (f .0)
-listable-there (accepted t) {f = f} e =
+listable-there : (x : Outcome Tone) {s : ℕ} {f : BitPlace} {o : OctetCount} {n : ℕ} {v : Total} {u : Bool} → Sound s f o n v u ≡ judgedOf x → ListThere x (v .list) (v .mark) n (f .0)
+listable-there (accepted t) {f = f} {v = v} e =
     let z : f ≡ place (length (frontBits (frontOf t))) = cc in
-    record { tone = t; there = refl; entries = cc; mark = cc; patterns = cc; front = ap (λ (p : BitPlace). p .0) z }
+    let w : v ≡ plainly (length (frontBits (frontOf t))) (t .patterns) = cc in
+    record { tone = t; there = refl; entries = ap (λ (x : Total). x .list) w; mark = ap (λ (x : Total). x .mark) w; patterns = cc; front = ap (λ (p : BitPlace). p .0) z }
 listable-there (refused n p) e = let z : _≡_ {A = ℕ} 0 1 = cc in absurd (omega arith)
 
 -- ---- the answers
@@ -119,7 +120,13 @@ module _ (m : List ℕ) (old : List ℕ) (rows : ℕ) {v : Judged} (q : v ≡ ju
   unfolding listTone
   list-faulty g = promised m fits old (ap (listed fits) (refused-there (readTone m) (sym g ∙ q)))
 
-  module _ {s : ℕ} {f : BitPlace} {o : OctetCount} {n b e k : ℕ} {z : BitPlace} {c : Cut} {u : Bool} (g : v ≡ Sound s f o n b e k z c u) where
+  module _ {s : ℕ} {f : BitPlace} {o : OctetCount} {n : ℕ} {y : Total} {u : Bool} (g : v ≡ Sound s f o n y u) where
+    abbrev e : ℕ
+    e = y .list
+
+    abbrev k : ℕ
+    k = y .mark
+
     there : ListThere (readTone m) e k n (f .0)
     there = listable-there (readTone m) (sym g ∙ q)
 

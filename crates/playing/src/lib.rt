@@ -263,13 +263,11 @@ fn list_within(msg: &[u8], list: &mut [u32], most: usize) -> Listed
             at,
             octets: _,
             patterns,
-            table: _,
-            list: entries,
-            mark,
-            end: _,
-            cut: _,
+            total,
             unicode: _,
         } => {
+            let entries = total.list;
+            let mark = total.mark;
             if list.len() / 2 < entries as usize {
                 return Listed::Refused {
                     number: 11,

@@ -24,13 +24,13 @@ use Rattle.tone.specs.Writing.{commandBits, titleBits, tableBits, frontBits, so
 use Rattle.tone.specs.Reading.{wholeTone, got, readTone}
 use Rattle.tone.proofs.Rows.{header-small}
 use Rattle.tone.proofs.Demand2.{Says, read-says, core-reads}
-use Rattle.judging.specs.declared.Cut.{Cut}
+use Rattle.judging.specs.declared.Total.{Total}
 use Rattle.judging.specs.declared.Judged.{Judged}
 use Rattle.judging.specs.declared.Judged.the-variants.{Sound, Faulty}
 use Rattle.reader.specs.declared.Reading.{Reading}
 use Rattle.reader.specs.declared.Reading.the-variants.{Read, Refused}
 use Rattle.reading.specs.Answers.{Within, place, entries, octetCount}
-use Rattle.judging.specs.Answers.{judgedOf}
+use Rattle.judging.specs.Answers.{plainly, judgedOf}
 use Rattle.reader.specs.Judging.{Entries, TableAt, OctetsAt, tableOf, titleOf}
 use Rattle.reader.specs.Promise.{roomed, readInto, numbers, readNumbers, readAnswer, tableAfter, titleAfter, ReadPromise}
 
@@ -138,14 +138,15 @@ pub record SoundThere (m : List ℕ) (s : ℕ) (u : Bool) (o : OctetCount) (p e 
   pub entries : e ≡ entries (tone .patterns)
   pub place : f .0 ≡ length (frontBits (frontOf tone))
 
-pub sound-there : (m : List ℕ) {s : ℕ} {u : Bool} {o : OctetCount} {p e n k : ℕ} {f z : BitPlace} {c : Cut} → Sound s f o p e n k z c u ≡ judgedOf (readTone m) → SoundThere m s u o p e f
-sound-there m {s} {u} {o} {p} {e} {n} {k} {f} {z} {c} h = go (readTone m) refl h
+pub sound-there : (m : List ℕ) {s : ℕ} {u : Bool} {o : OctetCount} {p : ℕ} {v : Total} {f : BitPlace} → Sound s f o p v u ≡ judgedOf (readTone m) → SoundThere m s u o p (v .table) f
+sound-there m {s} {u} {o} {p} {v} {f} h = go (readTone m) refl h
   where
-    go : (x : Outcome Tone) → readTone m ≡ x → Sound s f o p e n k z c u ≡ judgedOf x → SoundThere m s u o p e f
+    go : (x : Outcome Tone) → readTone m ≡ x → Sound s f o p v u ≡ judgedOf x → SoundThere m s u o p (v .table) f
     go (accepted t) q g =
         let z : f ≡ place (length (frontBits (frontOf t))) = cc in
         let y : o ≡ octetCount (length (t .title)) = cc in
-        record { tone = t; told = told m t q; song = cc; unicode = cc; octets = ap (λ (x : OctetCount). x .0) y; patterns = cc; entries = cc; place = ap (λ (x : BitPlace). x .0) z }
+        let w : v ≡ plainly (length (frontBits (frontOf t))) (t .patterns) = cc in
+        record { tone = t; told = told m t q; song = cc; unicode = cc; octets = ap (λ (x : OctetCount). x .0) y; patterns = cc; entries = ap (λ (x : Total). x .table) w; place = ap (λ (x : BitPlace). x .0) z }
     go (refused n′ p′) q g = let z : _≡_ {A = ℕ} 0 1 = cc in absurd (omega arith)
 
 -- the answer to an outcome has the outcome's numbers
@@ -168,7 +169,10 @@ module _ (m table title : List ℕ) {j : Judged} (q : j ≡ judgedOf (readTone m
           let e : Refused n f ≡ Refused n′ (place p) = cc in
           promised m table title table title (Refused n f) (refused n′ p) (rw y refl) e refl refl
 
-  module _ {s : ℕ} {u : Bool} {o : OctetCount} {p e n k : ℕ} {f z : BitPlace} {c : Cut} (g : j ≡ Sound s f o p e n k z c u) where
+  module _ {s : ℕ} {u : Bool} {o : OctetCount} {p : ℕ} {v : Total} {f : BitPlace} (g : j ≡ Sound s f o p v u) where
+    abbrev e : ℕ
+    e = v .table
+
     there : SoundThere m s u o p e f
     there = sound-there m (sym g ∙ q)
 

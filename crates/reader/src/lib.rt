@@ -90,13 +90,10 @@ pub fn read(msg: &[u8], table: &mut [u32], title: &mut [u8]) -> Reading
             at,
             octets,
             patterns,
-            table: entries,
-            list: _,
-            mark: _,
-            end: _,
-            cut: _,
+            total,
             unicode,
         } => {
+            let entries = total.table;
             if title.len() < octets.0 {
                 return Reading::Refused {
                     number: 11,

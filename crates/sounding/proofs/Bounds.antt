@@ -39,7 +39,7 @@ count-most bodies h seen (p ∷ ps) k =
 -- a tone's list has at most 975,375 entries
 pub list-most : (t : Tone) → Formed t → length (playingList t .entries) ≤ 975375
 unfolding playingList
-list-most t f = let c = count-most noBodies each-start Body none-body noneKnown (t .patterns) (f .sequence) in let m = f .front .most in rw (list-count atStart noBodies 0 (t .patterns)) (omega arith)
+list-most t f = let c = count-most noBodies (each-start Body none-body) noneKnown (t .patterns) (f .sequence) in let m = f .front .most in rw (list-count atStart noBodies 0 (t .patterns)) (omega arith)
 
 -- ---- the settings
 
@@ -114,7 +114,7 @@ play-bounded s bodies n seen (p ∷ ps) r h k =
 -- each entry of a tone's list is within bounds
 pub list-bounded : (t : Tone) → Formed t → AllBounded (playingList t .entries)
 unfolding playingList
-list-bounded t f = play-bounded atStart noBodies 0 noneKnown (t .patterns) range-start each-start Body none-body (f .sequence)
+list-bounded t f = play-bounded atStart noBodies 0 noneKnown (t .patterns) range-start (each-start Body none-body) (f .sequence)
 
 -- so no duration is above 32 bits
 short-enough : (rs : List Entry) → AllBounded rs → anyTooLong rs ≡ false

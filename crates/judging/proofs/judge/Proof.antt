@@ -4,7 +4,6 @@ use Rattle.judging.proofs.judge.Statement.{statement}
 use Rattle.judging.proofs.judge.Tie as tie
 use Rattle.judging.proofs.Judgements.{judge-plain}
 
-
 judge-for-requires : tie.Need-judge-for-requires
 judge-for-requires c κs = search (judge-plain, needs)
 

@@ -4,7 +4,6 @@ use Rattle.judging.proofs.judge_for.Statement.{statement}
 use Rattle.judging.proofs.judge_for.Tie as tie
 use Rattle.judging.proofs.Judgements.{judgements}
 
-
 returns : tie.Need-returns
 returns c = search (judgements, needs)
 

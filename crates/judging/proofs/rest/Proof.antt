@@ -4,7 +4,6 @@ use Rattle.judging.proofs.rest.Statement.{statement}
 use Rattle.judging.proofs.rest.Tie as tie
 use Rattle.judging.proofs.Judgements.{rests}
 
-
 patterns-requires : tie.Need-patterns-requires
 patterns-requires c κs = search (rests, needs)
 
