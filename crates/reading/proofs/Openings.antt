@@ -1,14 +1,15 @@
 -- What each return of the functions that read the front and the end shows.
 use Prim.Native.Nat.{ℕ, zero, suc, _+_, _-_, _*_, _/_, _%_, _^_, _≤_, _<_}
 use native.Mathlib.Omega.{arith}
-use native.Mathlib.Nat.{add-zero}
+use native.Mathlib.Nat.{zero-add, add-zero, zero-mul, suc-mul, mul-le-mul, lt-of-le-of-lt, mod-le, mod-add-div', div-lt-iff-lt-mul, lt-div-mul-add}
 use mathlib.Core.Path.{_≡_, refl, sym, ap, _∙_}
 use mathlib.Core.Bool.{Bool, true, false, _||_}
 use mathlib.Core.List.{List, [], _∷_}
 use lib.ListN.{length, drop}
-use lib.Dec.{eqb, leb, lit≤}
-use lib.Pow.{pow-pos}
-use borrow.Author.Tests.{eq-eqb, ne-eqb, le-leb, lt-leb}
+use lib.Dec.{T, eqb, leb, ltb, ltb→lt, lit≤}
+use borrow.Author.Tests.{eq-eqb, ne-eqb, le-leb}
+use mir.Val.{Fits, bits}
+use mir.Syntax.{Width}
 use Rattle.bits.specs.Choice.{pick}
 use Rattle.bits.specs.Bits.{bitsOf, field, fillerTo, placeAfter, octetsTo}
 use Rattle.bits.specs.declared.BitPlace.{BitPlace}
@@ -16,10 +17,10 @@ use Rattle.bits.proofs.Choice.{pick-elim}
 use Rattle.bits.specs.Window.{Look}
 use Rattle.bits.proofs.Octets.{length-bitsOf}
 use Rattle.bits.proofs.Looking.{seen}
-use Rattle.tone.specs.Tone.{Front}
+use Rattle.tone.specs.Tone.{Front, perCharacter}
 use Rattle.tone.specs.Writing.{programming, unicodePart, sound}
-use Rattle.tone.specs.Reading.{Got, got, bad, onward, Reader, element, anyOf, part, fillerBit, lengthOctet, filled, whetherUnicode, soundPart, parts, command, songType, text, title, patternCount, counted, titled, typed, front, fillerRun, endOctet, ending}
-use Rattle.tone.proofs.Exact.{element-inside, element-small, element-good, judged-cut, judged-good, judged-bad}
+use Rattle.tone.specs.Reading.{Got, got, bad, onward, Reader, element, anyOf, part, fillerBit, filled, whetherUnicode, soundPart, parts, command, character, text, title, counted, titled, typed, front, ending}
+use Rattle.tone.proofs.Exact.{element-inside, element-small, element-good, element-cut, judged-cut, judged-good, judged-bad}
 use Rattle.tone.proofs.Fronts.{command-exact, text-exact}
 use Rattle.reading.specs.declared.Step.{Step}
 use Rattle.reading.specs.declared.Step.the-variants.{Good, Bad}
@@ -28,7 +29,7 @@ use Rattle.reading.specs.declared.Command.the-variants.{Announced, Withh
 use Rattle.reading.specs.declared.Opening.{Opening}
 use Rattle.reading.specs.declared.Opening.the-variants.{Opened, Closed}
 use Rattle.reading.specs.Answers.{Within, place, octetCount, stepAs, stepOf, commandOf, openingOf}
-use Rattle.reading.proofs.Steps.{step-there, step-good, step-bad}
+use Rattle.reading.proofs.Steps.{step-there, step-good, step-bad, step-cong, step-map}
 use Rattle.reading.proofs.Walks.{stays}
 
 -- ---- places stay within the message
@@ -172,6 +173,65 @@ command-within m at {c} {u} {f} i q g = go (command (bitsOf m) at) refl (sym g �
     go (got a p) y e = let z : f ≡ place p = cc in record { inside = rw z (stays command-exact m at (i .inside) y); counted = i .counted }
     go (bad n p e′) y e = let z : _≡_ {A = ℕ} 0 1 = cc in absurd (omega arith)
 
+-- ---- the characters of a title
+
+-- how many bits a character has
+abbrev across : Bool → ℕ
+across unicode = pick unicode 16 8
+
+-- one character that is there, with c octets ahead of it
+text-step : (unicode : Bool) (n c : ℕ) (l : List Bool) (p : ℕ) → p + across unicode ≤ length l
+    → stepAs (λ t. c + length t) (text unicode (suc n) l p) ≡ stepAs (λ t. c + perCharacter unicode + length t) (text unicode n l (p + across unicode))
+unfolding text character
+text-step true n c l p h =
+    let v = field l p 16 in
+    rw (element-good 16 (λ _. true) 0 l p h refl) (step-map (λ t. c + length t) (λ t. v / 256 ∷ v % 256 ∷ t) (text true n l (p + 16)) ∙ step-cong (text true n l (p + 16)) (λ t. omega arith))
+text-step false n c l p h =
+    rw (element-good 8 (λ _. true) 0 l p h refl) (step-map (λ t. c + length t) (λ t. field l p 8 ∷ t) (text false n l (p + 8)) ∙ step-cong (text false n l (p + 8)) (λ t. omega arith))
+
+-- k characters that are there, and n more
+text-more : (unicode : Bool) (k n c : ℕ) (l : List Bool) (p : ℕ) → p + k * across unicode ≤ length l
+    → stepAs (λ t. c + length t) (text unicode (k + n) l p) ≡ stepAs (λ t. c + k * perCharacter unicode + length t) (text unicode n l (p + k * across unicode))
+text-more unicode zero n c l p h = rw (zero-add n, zero-mul (across unicode), zero-mul (perCharacter unicode), add-zero p, add-zero c)
+text-more unicode (suc k) n c l p h =
+    let w = across unicode in
+    let o = perCharacter unicode in
+    let s : suc k + n ≡ suc (k + n) = omega arith in
+    let q : p + w + k * w ≡ p + suc k * w = omega (arith, suc-mul k w) in
+    let a : c + o + k * o ≡ c + suc k * o = omega (arith, suc-mul k o) in
+    rw (s, ← q, ← a) (text-step unicode (k + n) c l p (omega (arith, q)) ∙ text-more unicode k n (c + o) l (p + w) (rw q h))
+
+-- r bits are left, and n characters of b bits are due
+module _ (m : List ℕ) (at : ℕ) (unicode : Bool) (n : ℕ) {r b : ℕ} (hr : r + at ≡ 8 * length m) (hb : (b ≡ pick unicode 16 8) × (b ≤ 16) × (1 ≤ b)) where
+  -- k of them are there
+  text-after : (k j : ℕ) → n ≡ k + j → k * b ≤ r → stepAs length (text unicode n (bitsOf m) at) ≡ stepAs (λ t. k * perCharacter unicode + length t) (text unicode j (bitsOf m) (at + k * b))
+  text-after k j e h =
+      let i : at + k * b ≤ length (bitsOf m) = rw (length-bitsOf m) (omega arith) in
+      rw (e, hb .0) (step-cong (text unicode (k + j) (bitsOf m) at) (λ t. sym (zero-add (length t))) ∙ text-more unicode k j 0 (bitsOf m) at (rw (hb .0) at i)
+      ∙ step-cong (text unicode j (bitsOf m) (at + k * across unicode)) (λ t. omega arith))
+
+  -- fewer are there than are due: the first that is cut short is refused
+  pub text-cut : r < n * b → Bad 2 (place (at + (r - r % b))) ≡ stepAs length (text unicode n (bitsOf m) at)
+  unfolding text character
+  text-cut h =
+      let k = r / b in
+      let s : r % b + k * b ≡ r = mod-add-div' r b in
+      let f : k < n = div-lt-iff-lt-mul (hb .2) .1 h in
+      let j = n - k - 1 in
+      let e : n ≡ k + suc j = omega arith in
+      let q : r - r % b ≡ k * b = omega arith in
+      let c : length (bitsOf m) < at + k * b + across unicode = rw (length-bitsOf m, ← hb .0) (omega (arith, lt-div-mul-add {a = r} (hb .2))) in
+      sym (text-after k (suc j) e (omega arith) ∙ (rw (q, element-cut (across unicode) (λ _. true) 0 (bitsOf m) (at + k * b) c)))
+
+  -- all of them are there
+  pub text-good : {o : ℕ} → (o ≡ perCharacter unicode) × (o ≤ 2) × (1 ≤ o) → n * b ≤ r → Good (n * o) (place (at + n * b)) ≡ stepAs length (text unicode n (bitsOf m) at)
+  unfolding text
+  text-good ho h = sym (text-after n 0 (sym (add-zero n)) h ∙ (rw (ho .0, add-zero (n * perCharacter unicode))))
+
+-- a product fits where that of the bounds does
+pub product-fits : (w : Width) (n b p q : ℕ) → n ≤ p → b ≤ q → T (ltb (p * q) (2 ^ bits w)) → Fits w (n * b)
+product-fits w n b p q h k t = record { fits = lt-of-le-of-lt (mul-le-mul h k) (ltb→lt (p * q) (2 ^ bits w) t) }
+
 -- ---- the title
 
 pub title-none : (m : List ℕ) (song : ℕ) (unicode : Bool) (p : BitPlace) → (song ≡ 1 → ⊥) → Good 0 p ≡ stepAs length (title song unicode (bitsOf m) (p .0))
@@ -299,6 +359,8 @@ module _ (m : List ℕ) (at : ℕ) {x y : ℕ} (ex : x ≡ placeAfter y) (ey : y
     ending-next g k = let b = step-there (element (fillerTo at) (eqb 0) 8 (bitsOf m) at) (sym g ∙ run) in rw b k
 
 pub ruleset commands = (element-within, filled-bad, filled-next, filled-within, sound-bad, sound-good, parts-bad, parts-plain, parts-unicode-bad, parts-unicode, any-within, command-cut, command-two, command-three, command-other, command-plain)
+
+pub ruleset texts = (text-cut, text-good, product-fits, mod-le)
 
 pub ruleset titles = (any-within, title-none, title-short, title-cut, title-text, titled-bad, titled-within, titled-cut, titled-zero, titled-good)
 

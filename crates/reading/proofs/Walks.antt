@@ -1,16 +1,15 @@
--- The loops over instructions, characters and patterns.
+-- The loops over instructions.
 use Prim.Native.Nat.{ℕ, zero, suc, _+_, _-_, _*_, _/_, _%_, _^_, _≤_, _<_}
 use native.Mathlib.Omega.{arith}
 use native.Mathlib.Nat.{zero-add, add-assoc}
 use mathlib.Core.Path.{_≡_, refl, sym, ap, _∙_}
-use mathlib.Core.Bool.{Bool, true, false}
+use mathlib.Core.Bool.{Bool}
 use mathlib.Core.List.{List, [], _∷_, _++_}
-use lib.ListN.{length, drop, set, length-append}
+use lib.ListN.{length, drop}
 use lib.Seq.{drop-drop}
 use lib.Dec.{eqb}
 use mir.Val.{Fits}
 use mir.Syntax.{w32}
-use Rattle.bits.specs.Choice.{pick}
 use Rattle.bits.specs.Bits.{bitsOf}
 use Rattle.bits.specs.declared.BitPlace.{BitPlace}
 use Rattle.bits.specs.Window.{Sight}
@@ -20,12 +19,10 @@ use Rattle.bits.proofs.Looking.{sight-on, length-left}
 use Rattle.reading.specs.declared.Step.{Step}
 use Rattle.reading.specs.declared.Step.the-variants.{Good, Bad}
 use Rattle.tone.specs.Table.{kind}
-use Rattle.tone.specs.Tone.{Pattern, perCharacter, specifier, partOf, pattern, cells, noneKnown, learn}
-use Rattle.tone.specs.Reading.{Got, got, bad, onward, anyOf, character, text, headerDue, instructionDue, bodyDue, patternsDue}
-use Rattle.reading.specs.Answers.{place, stepAs, stepOf, noteIn, notes, Seen, entries}
-use Rattle.tone.proofs.Exact.{Exact, element-inside}
-use Rattle.tone.proofs.Rows.{instruction-exact, body-exact, header-exact, patterns-exact, length-entryBits}
-use Rattle.tone.proofs.Recalls.{learn-set}
+use Rattle.tone.specs.Reading.{Got, got, bad, onward, instructionDue, bodyDue}
+use Rattle.reading.specs.Answers.{stepAs, stepOf, noteIn, notes, Seen}
+use Rattle.tone.proofs.Exact.{Exact}
+use Rattle.tone.proofs.Rows.{instruction-exact, body-exact, length-entryBits}
 use Rattle.reading.proofs.Seeing.{instruction-width}
 use Rattle.reading.proofs.Steps.{step-there, step-good, step-bad, step-cong, step-map}
 
@@ -245,50 +242,3 @@ module _ {m : List ℕ} {due : Step} {p left c k : ℕ} {s : Step} (w : BodyWalk
         }
 
 pub ruleset turns = (body-begins, body-done, body-rest, turn-bad, turn-fits, turn-on)
-
--- ---- the characters of a title
-
--- one character
-text-step : (k c : ℕ) (unicode : Bool) (l : List Bool) (p : ℕ) {v q : ℕ} → anyOf (pick unicode 16 8) l p ≡ got v q
-    → stepAs (λ t. c + length t) (text unicode (suc k) l p) ≡ stepAs (λ t. c + perCharacter unicode + length t) (text unicode k l q)
-unfolding text character
-text-step k c true l p {v} {q} h =
-    rw h (step-map (λ t. c + length t) (λ t. v / 256 ∷ v % 256 ∷ t) (text true k l q) ∙ step-cong (text true k l q) (λ t. omega arith))
-text-step k c false l p {v} {q} h =
-    rw h (step-map (λ t. c + length t) (λ t. v ∷ t) (text false k l q) ∙ step-cong (text false k l q) (λ t. omega arith))
-
--- with `left` characters to come at p, and c octets so far
-pub record TextWalk (m : List ℕ) (unicode : Bool) (n at p left c : ℕ) : Type 0 where
-  pub inside : p ≤ 8 * length m
-  pub fewer : c + 2 * left ≤ 2 * n
-  pub goes : stepAs length (text unicode n (bitsOf m) at) ≡ stepAs (λ t. c + length t) (text unicode left (bitsOf m) p)
-
-pub text-begins : (m : List ℕ) (unicode : Bool) (n at : ℕ) → at ≤ 8 * length m → TextWalk m unicode n at at n 0
-text-begins m unicode n at h = record { inside = h; fewer = omega arith; goes = step-cong (text unicode n (bitsOf m) at) (λ t. sym (zero-add (length t))) }
-
-pub text-done : {m : List ℕ} {unicode : Bool} {n at left c : ℕ} {q : BitPlace} → TextWalk m unicode n at (q .0) left c → left ≤ 0 → Good c q ≡ stepAs length (text unicode n (bitsOf m) at)
-unfolding text
-text-done {left = left} {c = c} w h =
-    let e : left ≡ 0 = omega arith in
-    let z : c + 0 ≡ c = omega arith in
-    sym (w .goes ∙ (rw (e, z)))
-
-module _ {m : List ℕ} {unicode : Bool} {n at p left c b : ℕ} {s : Step} (w : TextWalk m unicode n at p left c) (h : 0 < left) (e : (b ≡ pick unicode 16 8) × (b ≤ 16) × (1 ≤ b))
-    (q : s ≡ stepOf (anyOf b (bitsOf m) p)) where
-  pub text-bad : {k : ℕ} {f : BitPlace} → s ≡ Bad k f → Bad k f ≡ stepAs length (text unicode n (bitsOf m) at)
-  unfolding text character
-  text-bad g =
-      let r = step-bad (λ v. v) (anyOf (pick unicode 16 8) (bitsOf m) p) (sym g ∙ q ∙ ap (λ (x : ℕ). stepOf (anyOf x (bitsOf m) p)) (e .0)) in
-      sym (w .goes ∙ (rw (one-less left h, r .1)))
-
-  pub text-on : {v o : ℕ} {f : BitPlace} → (o ≡ perCharacter unicode) × (o ≤ 2) × (1 ≤ o) → s ≡ Good v f → TextWalk m unicode n at (f .0) (left - 1) (c + o)
-  text-on {v} {o} {f} eo g =
-      let there = step-there (anyOf b (bitsOf m) p) (sym g ∙ q) in
-      record {
-        inside = rw (← length-bitsOf m) (element-inside b (λ _. true) 0 (bitsOf m) p there);
-        fewer = omega (arith, w .fewer, eo .1);
-        goes = w .goes ∙ ap (λ (x : ℕ). stepAs (λ t. c + length t) (text unicode x (bitsOf m) p)) (one-less left h)
-            ∙ text-step (left - 1) c unicode (bitsOf m) p (rw (e .0) at there) ∙ step-cong (text unicode (left - 1) (bitsOf m) (f .0)) (λ t. rw (eo .0) refl);
-      }
-
-pub ruleset texts = (text-begins, text-done, text-bad, text-on)

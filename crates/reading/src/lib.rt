@@ -441,7 +441,7 @@ pub fn announced(msg: &[u8], at: BitPlace) -> Command
 }
 
 // The bits of a title's character.
-fn character_bits(unicode: bool) -> u32
+fn character_bits(unicode: bool) -> usize
     ensures { λ r. ⌜ (r ≡ pick unicode 16 8) × (r ≤ 16) × (1 ≤ r) ⌝ }
 {
     if unicode { 16 } else { 8 }
@@ -454,32 +454,24 @@ pub fn character_octets(unicode: bool) -> u32
     if unicode { 2 } else { 1 }
 }
 
-// `n` characters. The number is how many octets they are.
+// `n` characters, told at once: every code is allowed. The number is how many octets they are.
 fn text(msg: &[u8], at: BitPlace, unicode: bool, n: u32) -> Step
     requires { ⌜ Within (now msg) (at .0) ⌝ }
     requires { ⌜ n ≤ 15 ⌝ }
     ensures { λ r. ⌜ r ≡ stepAs length (textDue unicode n (bitsOf (now (msg .entry))) (at .0)) ⌝ }
 {
     let bits = character_bits(unicode);
-    let each = character_octets(unicode);
-    let mut place = at;
-    let mut left = n;
-    let mut octets: u32 = 0;
-    while 0 < left {
-        match any(msg, place, bits) {
-            Step::Bad { number, at: fault } => {
-                return Step::Bad { number, at: fault };
-            }
-            Step::Good { value: _, next } => {
-                octets += each;
-                place = next;
-                left -= 1;
-            }
-        }
+    let rest = left(msg, at);
+    let all = n as usize * bits;
+    if rest < all {
+        return Step::Bad {
+            number: 2,
+            at: BitPlace(at.0 + (rest - rest % bits)),
+        };
     }
     Step::Good {
-        value: octets,
-        next: place,
+        value: n * character_octets(unicode),
+        next: BitPlace(at.0 + all),
     }
 }
 
