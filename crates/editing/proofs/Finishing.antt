@@ -28,8 +28,8 @@ use Rattle.sounding.proofs.Counts.{list-count}
 use Rattle.sounding.proofs.Marks.{list-mark}
 use Rattle.sounding.proofs.Bounds.{none-too-long}
 use Rattle.playing.proofs.Outcomes.{patterns-there, patterns-within}
-use Rattle.judging.specs.Bodies.{noBodies}
-use Rattle.judging.specs.Counting.{entryCount}
+use Rattle.counting.specs.Bodies.{noBodies}
+use Rattle.counting.specs.Counting.{entryCount}
 use Rattle.building.specs.declared.Spot.{Spot}
 use Rattle.building.specs.declared.Piece.{Piece}
 use Rattle.building.specs.Anew.{Built, joined}

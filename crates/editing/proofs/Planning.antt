@@ -26,8 +26,8 @@ use Rattle.judging.specs.declared.Cut.{Cut}
 use Rattle.judging.specs.declared.Total.{Total}
 use Rattle.judging.specs.declared.Judged.{Judged}
 use Rattle.judging.specs.declared.Judged.the-variants.{Sound, Faulty}
-use Rattle.judging.specs.Bodies.{noBodies}
-use Rattle.judging.specs.Counting.{entryCount, markFrom}
+use Rattle.counting.specs.Bodies.{noBodies}
+use Rattle.counting.specs.Counting.{entryCount, markFrom}
 use Rattle.judging.specs.Wishes.{grants, granted, wished, placeIn, cutOf, noCut}
 use Rattle.judging.specs.Answers.{totalOf, judgedFor}
 use Rattle.reader.proofs.Told.{Told, told}

@@ -12,8 +12,8 @@ use Rattle.tone.specs.Tone.{Tone, frontOf, specifier, Formed}
 use Rattle.tone.specs.Writing.{frontBits, songBits, toneOctets, mostOctets, WellFormed}
 use Rattle.tone.specs.Reading.{readTone}
 use Rattle.judging.specs.declared.Wish.{Wish}
-use Rattle.judging.specs.Bodies.{noBodies}
-use Rattle.judging.specs.Counting.{entryCount, markFrom}
+use Rattle.counting.specs.Bodies.{noBodies}
+use Rattle.counting.specs.Counting.{entryCount, markFrom}
 use Rattle.building.specs.Anew.{joined}
 use Rattle.changing.specs.declared.Edit.{Edit}
 use Rattle.changing.specs.Change.{changed, carriesNew}

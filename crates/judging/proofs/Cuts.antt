@@ -22,9 +22,9 @@ use Rattle.judging.specs.declared.Wish.{Wish}
 use Rattle.judging.specs.declared.Cut.{Cut}
 use Rattle.judging.specs.declared.Own.{Own}
 use Rattle.judging.specs.declared.Gone.{Gone}
-use Rattle.judging.specs.Standing.{bodyIn, behindIn, BodyAt, PartAt}
+use Rattle.reading.specs.Standing.{bodyIn, behindIn, BodyAt, PartAt}
 use Rattle.judging.specs.Wishes.{grants, granted, placeIn, cutOf, OwnOf, Owned}
-use Rattle.judging.proofs.Bodies.{notes-most}
+use Rattle.counting.proofs.Bodies.{notes-most}
 use Rattle.judging.proofs.Overs.{Standing, known-of, drop-stands, may-go, went-to, went-notes, notes-cut}
 
 -- ---- cutting a part

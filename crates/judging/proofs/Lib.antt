@@ -1,4 +1,3 @@
-pub mod Bodies
 pub mod Overs
 pub mod Cuts
 pub mod Wishing

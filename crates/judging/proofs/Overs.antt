@@ -18,7 +18,7 @@ use Rattle.reading.specs.Answers.{Within, noteIn, notes, EntryAt, SomeEntry, Pa
 use Rattle.reading.proofs.Standing.{onward-from, room}
 use Rattle.reading.proofs.Walks.{notes-more}
 use Rattle.changing.proofs.Bodies.{instructions-take, instructions-drop}
-use Rattle.judging.specs.Standing.{bodyIn, behindIn, BodyAt}
+use Rattle.reading.specs.Standing.{bodyIn, behindIn, BodyAt}
 
 -- ---- instructions that stand at a place
 

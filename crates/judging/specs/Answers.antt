@@ -14,8 +14,8 @@ use Rattle.judging.specs.declared.Tally.{Tally}
 use Rattle.judging.specs.declared.Tally.the-variants.{Counted, Stopped}
 use Rattle.judging.specs.declared.Judged.{Judged}
 use Rattle.judging.specs.declared.Judged.the-variants.{Sound, Faulty}
-use Rattle.judging.specs.Bodies.{noBodies}
-use Rattle.judging.specs.Counting.{entryCount, markFrom}
+use Rattle.counting.specs.Bodies.{noBodies}
+use Rattle.counting.specs.Counting.{entryCount, markFrom}
 use Rattle.judging.specs.Wishes.{wished, noCut, cutIn}
 
 -- what the patterns ps at a place come to, with the list that qs have

@@ -1,19 +1,16 @@
 ghost use mathlib.Core.Path.{_≡_};
 ghost use Prim.Native.Nat.{_+_, _%_, _≤_};
-ghost use lib.Dec.{eqb};
-ghost use Rattle.bits.specs.Choice.{pick};
 ghost use Rattle.bits.specs.Bits.{bitsOf};
-ghost use Rattle.tone.specs.Tone.{specifier, noneKnown};
+ghost use Rattle.tone.specs.Tone.{noneKnown};
 ghost use Rattle.tone.specs.Reading.{readTone, front as frontDue, patternsDue, rest as restDue};
 ghost use Rattle.reading.specs.Answers.{Within, openingOf, notes as notesOf};
-ghost use Rattle.judging.specs.Bodies.{passesOf};
-ghost use Rattle.judging.specs.Counting.{markOf, noCount, counted as countedOf};
-ghost use Rattle.judging.specs.Standing.{bodyIn, behindIn, BodyAt, PartAt};
+ghost use Rattle.reading.specs.Standing.{bodyIn, behindIn, BodyAt, PartAt};
 ghost use Rattle.judging.specs.Wishes.{noCut, leftAt, OwnOf, Owned};
 ghost use Rattle.judging.specs.Answers.{totalOf, tallyAs, judgedFor, judgedOf};
 use bits::BitPlace;
 use bits::OctetCount;
 use changing::Edit;
+use counting::Count;
 use reading::Opening;
 use reading::Step;
 
@@ -21,13 +18,6 @@ use reading::Step;
 pub struct Reader<'a> {
     pub msg: &'a [u8],
     pub at: BitPlace,
-}
-
-// What is counted so far of a playing list: the entries, the return mark, and whether a loop 15 has ended the list.
-pub struct Count {
-    pub entries: u32,
-    pub mark: u32,
-    pub ended: bool,
 }
 
 // An edit that a judgement has in mind, at an instruction of a pattern, both told by their positions.
@@ -108,61 +98,7 @@ pub fn front_of(msg: &[u8]) -> Opening
     front(start(msg))
 }
 
-// ---- counting
-
-// The return mark where there is none.
-const NO_MARK: u32 = 4294967295;
-
-// How many passes a loop value lists.
-pub fn passes_of(value: u32) -> u32
-    requires { ⌜ value ≤ 15 ⌝ }
-    ensures { λ r. ⌜ (r ≡ passesOf value) × (1 ≤ r) × (r ≤ 15) ⌝ }
-{
-    if value == 15 { 1 } else { value + 1 }
-}
-
-// The mark of a loop-15 pass of so many notes that starts at `n`.
-fn mark_of(n: u32, notes: u32) -> u32
-    ensures { λ r. ⌜ r ≡ markOf n notes ⌝ }
-{
-    if notes == 0 { NO_MARK } else { n }
-}
-
-impl Count {
-    // Nothing is counted.
-    pub fn none() -> Count
-        ensures { λ r. ⌜ r ≡ noCount ⌝ }
-    {
-        Count {
-            entries: 0,
-            mark: NO_MARK,
-            ended: false,
-        }
-    }
-
-    // One pattern more, of so many notes and this loop value.
-    pub fn with(self, notes: u32, value: u32) -> Count
-        requires { ⌜ (self .entries ≤ 971550) × (notes ≤ 255) × (value ≤ 15) ⌝ }
-        ensures { λ r. ⌜ r ≡ countedOf self notes value ⌝ }
-    {
-        if self.ended {
-            return self;
-        }
-        let entries = self.entries + notes * passes_of(value);
-        if value == 15 {
-            return Count {
-                entries,
-                mark: mark_of(self.entries, notes),
-                ended: true,
-            };
-        }
-        Count {
-            entries,
-            mark: self.mark,
-            ended: false,
-        }
-    }
-}
+// ---- an edit in mind
 
 impl Cut {
     // Nothing is cut.
@@ -177,15 +113,6 @@ impl Cut {
         }
     }
 }
-
-// The notes of the body that a header sounds: its own, or those of the part recalled.
-pub fn sounding(recalled: u32, header: u32, own: u32) -> u32
-    ensures { λ r. ⌜ r ≡ pick (eqb (specifier header) 0) recalled own ⌝ }
-{
-    if header % 256 == 0 { recalled } else { own }
-}
-
-// ---- an edit in mind
 
 // Instructions that were gone over: the place behind them, and how many of them are notes or pauses.
 pub struct Gone {
@@ -307,7 +234,7 @@ fn patterns(msg: &[u8], at: BitPlace, n: u32, wish: Wish) -> Tally
                     let part = own_part(msg, left == named, place, value, own, wish, cut);
                     let id = (value / 4096 % 4) as usize;
                     known[id] = true;
-                    let heard = sounding(notes[id], value, part.notes);
+                    let heard = counting::sounding(notes[id], value, part.notes);
                     notes[id] = heard;
                     table += 1 + value % 256;
                     count = count.with(heard, value / 256 % 16);

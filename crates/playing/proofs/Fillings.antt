@@ -28,12 +28,12 @@ use Rattle.playing.specs.declared.Part.the-variants.{Unknown, Known}
 use Rattle.playing.specs.declared.Walk.{Walk}
 use Rattle.sounding.specs.Sounding.{atStart, numbers}
 use Rattle.sounding.specs.Playing.{Played, ahead, Listing, passes, patternPlayed, play}
-use Rattle.judging.specs.Bodies.{Remembered, unknown, known, recalled, noBodies, passesOf, bodyOf, remember}
-use Rattle.judging.specs.Counting.{entryCount}
+use Rattle.counting.specs.Bodies.{Remembered, unknown, known, recalled, noBodies, passesOf, bodyOf, remember}
+use Rattle.counting.specs.Counting.{entryCount}
 use Rattle.playing.specs.Filling.{PatternsAt, partAfter, behindPattern, Ready, Advanced}
-use Rattle.judging.specs.Standing.{BodyAt, behindOr, bodyIn, behindIn}
+use Rattle.reading.specs.Standing.{BodyAt, behindOr, bodyIn, behindIn}
 use Rattle.sounding.proofs.Counts.{list-count}
-use Rattle.judging.proofs.Bodies.{isKnown, knownOf, remember-length, body-sounding, learn-read}
+use Rattle.counting.proofs.Bodies.{isKnown, knownOf, remember-length, body-sounding, learn-read}
 use Rattle.sounding.proofs.Joining.{play-one, play-last}
 use Rattle.sounding.proofs.Packing.{length-numbers}
 use Rattle.playing.proofs.Stepping.{ready-four}

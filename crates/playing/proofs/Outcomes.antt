@@ -28,8 +28,8 @@ use Rattle.playing.specs.declared.Listed.{Listed}
 use Rattle.playing.specs.declared.Listed.the-variants.{Made, Refused}
 use Rattle.sounding.specs.Sounding.{atStart, numbers}
 use Rattle.sounding.specs.Playing.{Listing, play, playingList}
-use Rattle.judging.specs.Bodies.{noBodies}
-use Rattle.judging.specs.Counting.{entryCount, markFrom}
+use Rattle.counting.specs.Bodies.{noBodies}
+use Rattle.counting.specs.Counting.{entryCount, markFrom}
 use Rattle.judging.specs.Answers.{plainly, judgedOf}
 use Rattle.playing.specs.Filling.{patternsIn, endIn, PatternsAt}
 use Rattle.sounding.specs.Listing.{anyTooLong, listed, fitsNumbers, fitsBoth, listTone}

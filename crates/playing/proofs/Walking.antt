@@ -23,7 +23,7 @@ use Rattle.playing.specs.declared.Walk.{Walk}
 use Rattle.sounding.specs.Sounding.{numbers}
 use Rattle.sounding.specs.Playing.{Played, ahead, step, pass, passes}
 use Rattle.playing.specs.Filling.{entrySeen, Ready, Advanced}
-use Rattle.judging.specs.Standing.{bodyIn, behindIn, BodyAt}
+use Rattle.reading.specs.Standing.{bodyIn, behindIn, BodyAt}
 use Rattle.sounding.proofs.Packing.{length-numbers, numbers-append}
 use Rattle.sounding.proofs.Counts.{pass-count, passes-count}
 use Rattle.playing.proofs.Stepping.{ready-same}

@@ -12,7 +12,7 @@ use Rattle.tone.specs.Table.{entry, width}
 use Rattle.tone.specs.Tone.{Pattern, specifier, noneKnown}
 use Rattle.tone.specs.Reading.{got, patternsDue}
 use Rattle.reading.specs.Answers.{Within}
-use Rattle.judging.specs.Standing.{valueOr, behindOr}
+use Rattle.reading.specs.Standing.{valueOr, behindOr}
 use Rattle.playing.specs.declared.Part.{Part}
 use Rattle.playing.specs.declared.Part.the-variants.{Known}
 use Rattle.playing.specs.declared.Walk.{Walk}

@@ -8,10 +8,10 @@ ghost use Rattle.tone.specs.Writing.{entryBits};
 ghost use Rattle.reading.specs.Answers.{noteIn, notes as notesOf};
 ghost use Rattle.sounding.specs.Sounding.{atStart, numbers, entryAt, entriesOf};
 ghost use Rattle.sounding.specs.Playing.{step, pass, passes, play};
-ghost use Rattle.judging.specs.Bodies.{noBodies};
-ghost use Rattle.judging.specs.Counting.{entryCount};
+ghost use Rattle.counting.specs.Bodies.{noBodies};
+ghost use Rattle.counting.specs.Counting.{entryCount};
 ghost use Rattle.playing.specs.Filling.{patternsIn, endIn, PatternsAt, partAfter, behindPattern, entrySeen, Ready, Advanced};
-ghost use Rattle.judging.specs.Standing.{bodyIn, behindIn, BodyAt};
+ghost use Rattle.reading.specs.Standing.{bodyIn, behindIn, BodyAt};
 ghost use Rattle.sounding.specs.Listing.{fitsNumbers, fitsBoth};
 ghost use Rattle.playing.specs.Promise.{entriesIn, ListPromise, RowsPromise};
 use bits::BitPlace;
@@ -232,7 +232,7 @@ pub fn fill_list(msg: &[u8], at: BitPlace, n: u32, list: &mut [u32])
                     msg,
                     from,
                     count,
-                    judging::passes_of(value),
+                    counting::passes_of(value),
                     list,
                     &mut lasts,
                     walk,

@@ -7,7 +7,7 @@ use Rattle.tone.specs.Reading as reading
 use Rattle.sounding.specs.Duration.{beats, units, microseconds}
 use Rattle.sounding.specs.Sounding.{applied, sounded}
 use Rattle.sounding.specs.Playing.{step, patternPlayed, playingList}
-use Rattle.judging.specs.Bodies.{passesOf, bodyOf, remember}
+use Rattle.counting.specs.Bodies.{passesOf, bodyOf, remember}
 use Rattle.editing.specs.Editing.{editMessage}
 use Rattle.bitmap.proofs.Samples as bitmaps
 use Rattle.samples.specs.Samples.{Samples}

@@ -11,7 +11,7 @@ use Rattle.tone.specs.Reading.{readTone}
 use Rattle.sounding.specs.declared.Entry.{Entry}
 use Rattle.sounding.specs.Duration.{beats, units, microseconds}
 use Rattle.sounding.specs.Playing.{Listing, playingList}
-use Rattle.judging.specs.Bodies.{noMark}
+use Rattle.counting.specs.Bodies.{noMark}
 use Rattle.changing.specs.declared.Edit.the-variants.{Insert, Delete}
 use Rattle.editing.specs.Editing.{Edited, editMessage, bufferAfter}
 use Rattle.editing.specs.Promise.{Numbers, editNumbers}

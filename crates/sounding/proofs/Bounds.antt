@@ -16,10 +16,10 @@ use Rattle.sounding.specs.declared.Entry.{Entry}
 use Rattle.sounding.specs.Sounding.{atStart, applied, sounded}
 use Rattle.sounding.specs.Ranges.{InRange, Bounded, AllBounded}
 use Rattle.sounding.specs.Playing.{Played, step, pass, passes, Listing, patternPlayed, play, playingList}
-use Rattle.judging.specs.Bodies.{passesOf, Remembered, unknown, known, recalled, noBodies, isRecall, bodyOf, remember}
+use Rattle.counting.specs.Bodies.{passesOf, Remembered, unknown, known, recalled, noBodies, isRecall, bodyOf, remember}
 use Rattle.reading.specs.Answers.{notes}
-use Rattle.judging.specs.Counting.{entryCount}
-use Rattle.judging.proofs.Bodies.{Each, each-start, each-sounds, each-kept, Body, none-body, sound-body, notes-most, passes-most}
+use Rattle.counting.specs.Counting.{entryCount}
+use Rattle.counting.proofs.Bodies.{Each, each-start, each-sounds, each-kept, Body, none-body, sound-body, notes-most, passes-most}
 use Rattle.sounding.specs.Listing.{anyTooLong}
 use Rattle.sounding.proofs.Below.{both, at-each}
 use Rattle.sounding.proofs.Durations.{duration-most}

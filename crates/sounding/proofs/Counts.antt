@@ -16,9 +16,9 @@ use Rattle.sounding.specs.declared.Settings.{Settings}
 use Rattle.sounding.specs.declared.Entry.{Entry}
 use Rattle.sounding.specs.Sounding.{applied, sounded}
 use Rattle.sounding.specs.Playing.{step, pass, passes, Listing, patternPlayed, play, markAt}
-use Rattle.judging.specs.Bodies.{passesOf, Remembered, bodyOf, remember, noMark}
+use Rattle.counting.specs.Bodies.{passesOf, Remembered, bodyOf, remember, noMark}
 use Rattle.reading.specs.Answers.{notes}
-use Rattle.judging.specs.Counting.{entryCount}
+use Rattle.counting.specs.Counting.{entryCount}
 
 -- a pass adds an entry for each note
 pub pass-count : (s : Settings) (b : List ℕ) → length (pass s b .entries) ≡ notes b

@@ -12,7 +12,7 @@ use Rattle.tone.specs.Tone.{Pattern}
 use Rattle.sounding.specs.declared.Settings.{Settings}
 use Rattle.sounding.specs.declared.Entry.{Entry}
 use Rattle.sounding.specs.Playing.{Played, Listing, pass, passes, patternPlayed, play, markAt}
-use Rattle.judging.specs.Bodies.{Remembered, passesOf, bodyOf, remember, noMark}
+use Rattle.counting.specs.Bodies.{Remembered, passesOf, bodyOf, remember, noMark}
 
 -- the settings that patterns leave
 abbrev pub settingsAfter : Settings → List Remembered → List Pattern → Settings

@@ -12,7 +12,7 @@ use Rattle.bits.specs.Choice.{pick}
 use Rattle.tone.specs.Tone.{Pattern}
 use Rattle.sounding.specs.declared.Settings.{Settings}
 use Rattle.sounding.specs.Playing.{Played, Listing, pass, passes, patternPlayed, play}
-use Rattle.judging.specs.Bodies.{Remembered, unknown, known, recalled, isRecall, passesOf, bodyOf, remember}
+use Rattle.counting.specs.Bodies.{Remembered, unknown, known, recalled, isRecall, passesOf, bodyOf, remember}
 use Rattle.sounding.proofs.Joining.{listed-ahead, two-ahead, bodiesAfter, same-behind, one-pass}
 
 -- the pattern at loop 0

@@ -12,8 +12,8 @@ use Rattle.bits.specs.Choice.{pick}
 use Rattle.bits.proofs.Choice.{pick-cong}
 use Rattle.tone.specs.Tone.{Pattern}
 use Rattle.reading.specs.Answers.{notes}
-use Rattle.judging.specs.Bodies.{Remembered, passesOf, bodyOf, remember}
-use Rattle.judging.specs.Counting.{markOf, markFrom}
+use Rattle.counting.specs.Bodies.{Remembered, passesOf, bodyOf, remember}
+use Rattle.counting.specs.Counting.{markOf, markFrom}
 use Rattle.sounding.specs.declared.Settings.{Settings}
 use Rattle.sounding.specs.declared.Entry.{Entry}
 use Rattle.sounding.specs.Playing.{markAt, Listing, patternPlayed, play}

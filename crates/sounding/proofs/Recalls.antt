@@ -14,8 +14,8 @@ use Rattle.tone.specs.Tone.{Pattern, specifier, partOf, pattern, header, noneKn
 use Rattle.tone.proofs.Rows.{header-small, pattern-header}
 use Rattle.sounding.specs.Sounding.{atStart}
 use Rattle.sounding.specs.Playing.{patternPlayed, play}
-use Rattle.judging.specs.Bodies.{Remembered, unknown, known, recalled, noBodies, isRecall, bodyOf, remember}
-use Rattle.judging.proofs.Bodies.{isKnown, knownOf, learn-read, remember-length}
+use Rattle.counting.specs.Bodies.{Remembered, unknown, known, recalled, noBodies, isRecall, bodyOf, remember}
+use Rattle.counting.proofs.Bodies.{isKnown, knownOf, learn-read, remember-length}
 use Rattle.sounding.proofs.Joining.{bodiesAfter, same-behind}
 
 -- a pattern defines an id

@@ -6,7 +6,7 @@ use lib.Dec.{eqb}
 use Rattle.bits.specs.Choice.{pick}
 use Rattle.tone.specs.Table.{kind, payload}
 use Rattle.tone.specs.Tone.{Pattern, Tone}
-use Rattle.judging.specs.Bodies.{Remembered, noBodies, passesOf, noMark, bodyOf, remember}
+use Rattle.counting.specs.Bodies.{Remembered, noBodies, passesOf, noMark, bodyOf, remember}
 use Rattle.sounding.specs.declared.Settings.{Settings}
 use Rattle.sounding.specs.declared.Entry.{Entry}
 use Rattle.sounding.specs.Sounding.{atStart, applied, sounded}

@@ -1,7 +1,7 @@
 -- `judging::go_over` meets its contract.
 use Rattle.judging.proofs.go_over.Statement.{statement}
 use Rattle.judging.proofs.go_over.Tie as tie
-use Rattle.judging.specs.Standing.{bodyIn}
+use Rattle.reading.specs.Standing.{bodyIn}
 use Rattle.judging.proofs.Overs.{OverWalk, over-on, overs}
 use borrow.Author.Needs.{needs}
 

@@ -2,7 +2,7 @@
 use Rattle.playing.proofs.fill_few.Statement.{statement}
 use Rattle.playing.proofs.fill_few.Tie as tie
 use borrow.Author.Needs.{needs}
-use Rattle.judging.specs.Standing.{bodyIn, behindIn}
+use Rattle.reading.specs.Standing.{bodyIn, behindIn}
 use Rattle.playing.proofs.Walking.{FewWalk, seeings}
 
 abbrev Inv-loop : tie.InvT-loop

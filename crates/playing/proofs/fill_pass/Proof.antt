@@ -2,7 +2,7 @@
 use Rattle.playing.proofs.fill_pass.Statement.{statement}
 use Rattle.playing.proofs.fill_pass.Tie as tie
 use borrow.Author.Needs.{needs}
-use Rattle.judging.specs.Standing.{bodyIn, behindIn}
+use Rattle.reading.specs.Standing.{bodyIn, behindIn}
 use Rattle.playing.proofs.Walking.{PassWalk, passings}
 
 abbrev Inv-loop : tie.InvT-loop

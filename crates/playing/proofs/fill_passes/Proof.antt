@@ -2,7 +2,7 @@
 use Rattle.playing.proofs.fill_passes.Statement.{statement}
 use Rattle.playing.proofs.fill_passes.Tie as tie
 use borrow.Author.Needs.{needs}
-use Rattle.judging.specs.Standing.{bodyIn, behindIn}
+use Rattle.reading.specs.Standing.{bodyIn, behindIn}
 use Rattle.playing.proofs.Walking.{TimesWalk, times-fit, times-room, timings}
 
 abbrev Inv-loop : tie.InvT-loop

@@ -1,6 +1,6 @@
--- `judging::mark_of` meets its contract.
-use Rattle.judging.proofs.mark_of.Statement.{statement}
-use Rattle.judging.proofs.mark_of.Tie as tie
+-- `counting::mark_of` meets its contract.
+use Rattle.counting.proofs.mark_of.Statement.{statement}
+use Rattle.counting.proofs.mark_of.Tie as tie
 use Rattle.bits.proofs.Choice.{tests}
 
 returns : tie.Need-returns

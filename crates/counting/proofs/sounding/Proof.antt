@@ -1,7 +1,7 @@
--- `judging::sounding` meets its contract.
+-- `counting::sounding` meets its contract.
 use borrow.Author.Needs.{needs}
-use Rattle.judging.proofs.sounding.Statement.{statement}
-use Rattle.judging.proofs.sounding.Tie as tie
+use Rattle.counting.proofs.sounding.Statement.{statement}
+use Rattle.counting.proofs.sounding.Tie as tie
 use Rattle.bits.proofs.Choice.{tests}
 
 returns : tie.Need-returns

@@ -1,9 +1,9 @@
--- `judging::passes_of` meets its contract.
+-- `counting::passes_of` meets its contract.
 use borrow.Author.Needs.{needs}
-use Rattle.judging.proofs.passes_of.Statement.{statement}
-use Rattle.judging.proofs.passes_of.Tie as tie
+use Rattle.counting.proofs.passes_of.Statement.{statement}
+use Rattle.counting.proofs.passes_of.Tie as tie
 use Rattle.bits.proofs.Choice.{tests}
-use Rattle.judging.specs.Bodies.{passesOf}
+use Rattle.counting.specs.Bodies.{passesOf}
 
 add-result : tie.Need-add-result
 add-result c = search needs

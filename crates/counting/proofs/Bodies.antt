@@ -13,7 +13,7 @@ use Rattle.bits.proofs.Choice.{pick-elim}
 use Rattle.tone.specs.Table.{kind}
 use Rattle.tone.specs.Tone.{Pattern, specifier, partOf, pattern, learn, Instructions, Sound}
 use Rattle.reading.specs.Answers.{notes}
-use Rattle.judging.specs.Bodies.{Remembered, unknown, known, recalled, noBodies, isRecall, passesOf, bodyOf, remember}
+use Rattle.counting.specs.Bodies.{Remembered, unknown, known, recalled, noBodies, isRecall, passesOf, bodyOf, remember}
 
 -- ---- what is remembered
 

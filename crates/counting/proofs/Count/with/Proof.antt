@@ -1,8 +1,8 @@
 -- `Count::with` meets its contract.
 use borrow.Author.Needs.{needs}
-use Rattle.judging.proofs.Count.with.Statement.{statement}
-use Rattle.judging.proofs.Count.with.Tie as tie
-use Rattle.judging.proofs.Tallies.{notes-times, counts}
+use Rattle.counting.proofs.Count.with.Statement.{statement}
+use Rattle.counting.proofs.Count.with.Tie as tie
+use Rattle.counting.proofs.Counts.{notes-times, counts}
 use native.Mathlib.Omega.{arith}
 
 returns : tie.Need-returns

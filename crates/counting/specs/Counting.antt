@@ -6,8 +6,8 @@ use lib.Dec.{eqb}
 use Rattle.bits.specs.Choice.{pick}
 use Rattle.tone.specs.Tone.{Pattern}
 use Rattle.reading.specs.Answers.{notes}
-use Rattle.judging.specs.declared.Count.{Count}
-use Rattle.judging.specs.Bodies.{Remembered, passesOf, bodyOf, remember, noMark}
+use Rattle.counting.specs.declared.Count.{Count}
+use Rattle.counting.specs.Bodies.{Remembered, passesOf, bodyOf, remember, noMark}
 
 -- notes times passes, summed up to the first loop 15
 abbrev pub entryCount : List Remembered → List Pattern → ℕ
