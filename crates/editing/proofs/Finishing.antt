@@ -30,19 +30,18 @@ use Rattle.sounding.proofs.Bounds.{none-too-long}
 use Rattle.playing.proofs.Outcomes.{patterns-there, patterns-within}
 use Rattle.counting.specs.Bodies.{noBodies}
 use Rattle.counting.specs.Counting.{entryCount}
-use Rattle.building.specs.declared.Spot.{Spot}
-use Rattle.building.specs.declared.Piece.{Piece}
-use Rattle.building.specs.Anew.{Built, joined}
+use Rattle.building.specs.Anew.{Built}
 use Rattle.building.proofs.Builds.{length-joined}
 use Rattle.changing.specs.declared.Edit.{Edit}
 use Rattle.changing.specs.Change.{changed}
 use Rattle.editing.specs.declared.Answer.{Answer}
 use Rattle.editing.specs.declared.Answer.the-variants.{Edited as Made, Refused}
 use Rattle.editing.specs.declared.Outline.{Outline}
+use Rattle.editing.specs.declared.Layout.{Layout}
 use Rattle.editing.specs.declared.Plan.{Plan}
 use Rattle.editing.specs.declared.Plan.the-variants.{Halt, Go}
 use Rattle.editing.specs.Editing.{Edited, editTone, inBuffer, beside, withList, andThen, editMessage, cleared, bufferAfter, listAfter}
-use Rattle.editing.specs.Plan.{CanBuild, Written, Spelt, Going, Plans}
+use Rattle.editing.specs.Plan.{Written, joinedBy, endOf, Laid, SomeLaid, Going, Plans}
 use Rattle.editing.specs.Promise.{numbersOf, editNumbers, editAnswer, Leaves, EditPromise}
 use Rattle.editing.proofs.Changes.{cleared-over}
 
@@ -109,64 +108,67 @@ module _ (new buf list : List ℕ) (used : ℕ) {o : Outline} (w : Written new o
         let listing : list′ ≡ over (numbers (g .entries)) list = z ∙ ap (λ (x : List Pattern). over (numbers (play atStart noBodies 0 x .entries)) list) patterns-are in
         rw d (leaves (accepted (record { tone = w .tone; listing = g })) used buf list buf₂ list′ (Made (octetCount (length new)) (o .entries) (o .mark) ch) (cc) buffer listing)
 
--- ---- carrying out a plan
+-- ---- building, and what is refused before it
 
-module _ (m : List ℕ) (head cell at bh en w v : ℕ) (c : CanBuild m head cell at bh en w v) (buf list : List ℕ) (used : ℕ) where
+module _ (m : List ℕ) (l : Layout) (buf list : List ℕ) (used : ℕ) {z : ℕ} (hz : z ≡ octetsTo (endOf l)) where
+  -- the bits' number
+  joined-length : {t : Tone} → Laid m l t → length (joinedBy m l) ≡ endOf l
+  joined-length y = length-joined m (l .header .0) (l .cell) (l .spot .at .0) (y .ahead) (y .inside) (l .piece .width) (l .piece .value) (l .spot .behind .0) (l .spot .end .0) (y .order) (y .ends)
+
   -- the message's length, as the code computes it
-  length-is : (t : Tone) → joined (bitsOf m) head cell at w v bh en ≡ songBits t → {z y : ℕ} → z ≡ octetsTo (at + w + (en - bh)) → y ≡ z + 1 → y ≡ toneLength t
-  length-is t e hz hy =
-      hy ∙ ap (λ (x : ℕ). x + 1) (hz ∙ ap octetsTo (sym (length-joined m head cell at (c .ahead) (c .inside) w v bh en (c .order) (c .ends)) ∙ ap length e))
+  length-is : {t : Tone} → Laid m l t → z + 1 ≡ toneLength t
+  length-is y = ap (λ (x : ℕ). x + 1) (hz ∙ ap octetsTo (sym (joined-length y) ∙ ap length (y .spells)))
 
-  module _ {z : ℕ} (hz : z ≡ octetsTo (at + w + (en - bh))) where
-    pub carry-long : 4096 < z + 1 → (t : Tone) → Formed t → joined (bitsOf m) head cell at w v bh en ≡ songBits t
-        → Leaves (withList (length list) (inBuffer (length buf) t)) used buf list buf list (Refused 1 (place 0))
-    carry-long h t f e =
-        let n = length-is t e hz refl in
-        let o : inBuffer (length buf) t ≡ refused 1 0 = rw (lt-leb (toneLength t) mostOctets (omega arith)) refl in
-        rw o (leaves (refused 1 0) used buf list buf list (Refused 1 (place 0)) refl refl refl)
+  pub carry-long : 4096 < z + 1 → (t : Tone) → Laid m l t → Leaves (withList (length list) (inBuffer (length buf) t)) used buf list buf list (Refused 1 (place 0))
+  carry-long h t y =
+      let n = length-is y in
+      let o : inBuffer (length buf) t ≡ refused 1 0 = rw (lt-leb (toneLength t) mostOctets (omega arith)) refl in
+      rw o (leaves (refused 1 0) used buf list buf list (Refused 1 (place 0)) refl refl refl)
 
-    module _ (s : z + 1 ≤ 4096) where
-      pub carry-size : {scratch : List ℕ} {n : ℕ} → Built (joined (bitsOf m) head cell at w v bh en) scratch n → n ≡ z + 1
-      carry-size b = b .size ∙ ap (λ (x : ℕ). octetsTo x + 1) (length-joined m head cell at (c .ahead) (c .inside) w v bh en (c .order) (c .ends)) ∙ ap (λ (x : ℕ). x + 1) (sym hz)
+  module _ (s : z + 1 ≤ 4096) where
+    pub carry-room : length buf < z + 1 → (t : Tone) → Laid m l t → Leaves (withList (length list) (inBuffer (length buf) t)) used buf list buf list (Refused 11 (place 0))
+    carry-room h t y =
+        let n = length-is y in
+        let o : inBuffer (length buf) t ≡ refused 11 0 = rw (le-leb (toneLength t) mostOctets (omega arith), lt-leb (toneLength t) (length buf) (omega arith)) refl in
+        rw o (leaves (refused 11 0) used buf list buf list (Refused 11 (place 0)) refl refl refl)
 
-      pub carry-room : length buf < z + 1 → (t : Tone) → Formed t → joined (bitsOf m) head cell at w v bh en ≡ songBits t
-          → Leaves (withList (length list) (inBuffer (length buf) t)) used buf list buf list (Refused 11 (place 0))
-      carry-room h t f e =
-          let n = length-is t e hz refl in
-          let o : inBuffer (length buf) t ≡ refused 11 0 = rw (le-leb (toneLength t) mostOctets (omega arith), lt-leb (toneLength t) (length buf) (omega arith)) refl in
-          rw o (leaves (refused 11 0) used buf list buf list (Refused 11 (place 0)) refl refl refl)
+    -- what is built apart, in the buffer
+    pub carry-done : {buf′ list′ : List ℕ} {r : Answer} → z + 1 ≤ length buf → ((t : Tone) → Laid m l t → Leaves (withList (length list) (accepted t)) used buf list buf′ list′ r)
+        → (t : Tone) → Laid m l t → Leaves (withList (length list) (inBuffer (length buf) t)) used buf list buf′ list′ r
+    carry-done h k t y =
+        let n = length-is y in
+        let o : inBuffer (length buf) t ≡ accepted t = rw (le-leb (toneLength t) mostOctets (omega arith), le-leb (toneLength t) (length buf) (omega arith)) refl in
+        rw o (k t y)
 
-      -- what is built is the writing of a tone whose song it spells
-      written : {scratch : List ℕ} {n : ℕ} → Built (joined (bitsOf m) head cell at w v bh en) scratch n → (t : Tone) → Formed t → joined (bitsOf m) head cell at w v bh en ≡ songBits t
-          → WellFormed t × (toneOctets t ≡ take n scratch)
+    module _ {scratch : List ℕ} {n : ℕ} (b : Built (joinedBy m l) scratch n) where
+      pub apart-size : SomeLaid m l → n ≡ z + 1
+      apart-size y = b .size ∙ ap (λ (x : ℕ). octetsTo x + 1) (joined-length (y .laid)) ∙ ap (λ (x : ℕ). x + 1) (sym hz)
+
+      -- it is the writing of a tone whose song it spells
+      written : {t : Tone} → Laid m l t → WellFormed t × (toneOctets t ≡ take n scratch)
       unfolding toneBits
-      written {scratch} {n} b t f e =
-          let y = length-is t e hz refl in
-          let bits : bitsOf (take n scratch) ≡ toneBits t = b .spelt ∙ ap (λ (x : List Bool). x ++ endBits (length x)) e in
-          (record { formed = f; size = omega arith }, octets-are (take n scratch) t (b .each) bits)
+      written {t} y =
+          let x = length-is y in
+          let bits : bitsOf (take n scratch) ≡ toneBits t = b .spelt ∙ ap (λ (x : List Bool). x ++ endBits (length x)) (y .spells) in
+          (record { formed = y .formed; size = omega arith }, octets-are (take n scratch) t (b .each) bits)
 
-      pub carry-written : {scratch : List ℕ} {n : ℕ} {o : Outline} → Built (joined (bitsOf m) head cell at w v bh en) scratch n → Spelt (joined (bitsOf m) head cell at w v bh en) o → Written (take n scratch) o
-      carry-written b p = let x = written b (p .tone) (p .formed) (p .spells) in record { tone = p .tone; formed = x .0; writes = x .1; outlines = p .outlines }
+      pub apart-written : SomeLaid m l → Written (take n scratch) (l .outline)
+      apart-written y = let x = written (y .laid) in record { tone = y .tone; formed = x .0; writes = x .1; outlines = y .laid .outlines }
 
-      pub carry-done : {scratch buf′ list′ new : List ℕ} {n : ℕ} {r : Answer} → z + 1 ≤ length buf → Built (joined (bitsOf m) head cell at w v bh en) scratch n → new ≡ take n scratch
-          → ((t : Tone) → WellFormed t → toneOctets t ≡ new → Leaves (withList (length list) (accepted t)) used buf list buf′ list′ r)
-          → (t : Tone) → Formed t → joined (bitsOf m) head cell at w v bh en ≡ songBits t → Leaves (withList (length list) (inBuffer (length buf) t)) used buf list buf′ list′ r
-      carry-done {scratch} {buf′} {list′} {new} {n} {r} l b hn k t f e =
-          let y = length-is t e hz refl in
-          let o : inBuffer (length buf) t ≡ accepted t = rw (le-leb (toneLength t) mostOctets (omega arith), le-leb (toneLength t) (length buf) (omega arith)) refl in
-          let x = written b t f e in
-          rw o (k t (x .0) (x .1 ∙ sym hn))
+      pub apart-done : {buf′ list′ new : List ℕ} {r : Answer} → new ≡ take n scratch → ((t : Tone) → WellFormed t → toneOctets t ≡ new → Leaves (withList (length list) (accepted t)) used buf list buf′ list′ r)
+          → (t : Tone) → Laid m l t → Leaves (withList (length list) (accepted t)) used buf list buf′ list′ r
+      apart-done e k t y = let x = written y in k t (x .0) (x .1 ∙ sym e)
 
 -- what the code needs to know before it builds
-module _ (buf : List ℕ) (used : ℕ) {head cell at bh en w v : ℕ} (p : (used ≤ length buf) × (used ≤ 4096) × CanBuild (take used buf) head cell at bh en w v) where
+module _ (buf : List ℕ) (used : ℕ) {l : Layout} (p : (used ≤ length buf) × (used ≤ 4096) × SomeLaid (take used buf) l) where
   pub carry-short : length (take used buf) ≡ used
   carry-short = length-take-le used buf (p .0)
 
-  pub carry-at : at + w ≤ 32785
-  carry-at = omega (arith, p .1, carry-short, p .2 .inside, p .2 .width)
+  pub carry-at : l .spot .at .0 + l .piece .width ≤ 32785
+  carry-at = let y = p .2 .laid in omega (arith, p .1, carry-short, y .inside, y .width)
 
-  pub carry-end : at + w + (en - bh) ≤ 65553
-  carry-end = omega (arith, p .1, carry-short, p .2 .inside, p .2 .width, p .2 .ends)
+  pub carry-end : endOf l ≤ 65553
+  carry-end = let y = p .2 .laid in omega (arith, p .1, carry-short, y .inside, y .width, y .ends)
 
 -- ---- the whole edit
 
@@ -192,22 +194,15 @@ module _ (buf list : List ℕ) (used : ℕ) (ed : Edit) (k i : ℕ) where
         go (refused n′ p′) e = subst (λ (x : Outcome Edited). Leaves x used buf list buf list (Refused n p)) (ap (λ (x : Outcome Tone). withList (length list) x) (sym e)) (leaves (refused n (p .0)) used buf list buf list (Refused n p) refl refl refl)
 
     -- a plan that goes on
-    module _ {pl : Plan} {hd : BitPlace} {cell : ℕ} {sp : Spot} {pi : Piece} {ol : Outline} (y : Plans (take used buf) (record { edit = ed; pattern = k; instruction = i }) pl) (z : pl ≡ Go hd cell sp pi ol) where
-      going : Going (take used buf) ed k i (hd .0) cell (sp .at .0) (sp .behind .0) (sp .end .0) (pi .width) (pi .value) ol
+    module _ {pl : Plan} {l : Layout} (y : Plans (take used buf) (record { edit = ed; pattern = k; instruction = i }) pl) (z : pl ≡ Go l) where
+      going : Going (take used buf) ed k i l
       going = subst (Plans (take used buf) (record { edit = ed; pattern = k; instruction = i })) z y
 
-      pub edit-short : used ≤ 4096
-      edit-short = omega (arith, going .short, length-take-le used buf h)
+      pub edit-laid : (used ≤ length buf) × (used ≤ 4096) × SomeLaid (take used buf) l
+      edit-laid = (h, omega (arith, going .short, length-take-le used buf h), record { tone = changed ed k i (going .tone); laid = going .laid })
 
-      pub edit-can : CanBuild (take used buf) (hd .0) cell (sp .at .0) (sp .behind .0) (sp .end .0) (pi .width) (pi .value)
-      edit-can = going .can
-
-      pub edit-spelt : Spelt (joined (bitsOf (take used buf)) (hd .0) cell (sp .at .0) (pi .width) (pi .value) (sp .behind .0) (sp .end .0)) ol
-      edit-spelt = record { tone = changed ed k i (going .tone); formed = going .formed; spells = going .spells; outlines = going .outlines }
-
-      pub edit-done : {r : Answer} {buf′ list′ : List ℕ} → ((t : Tone) → Formed t → joined (bitsOf (take used buf)) (hd .0) cell (sp .at .0) (pi .width) (pi .value) (sp .behind .0) (sp .end .0) ≡ songBits t
-          → Leaves (withList (length list) (inBuffer (length buf) t)) used buf list buf′ list′ r) → EditPromise buf used ed k i list buf′ list′ r
+      pub edit-done : {r : Answer} {buf′ list′ : List ℕ} → ((t : Tone) → Laid (take used buf) l t → Leaves (withList (length list) (inBuffer (length buf) t)) used buf list buf′ list′ r) → EditPromise buf used ed k i list buf′ list′ r
       unfolding editMessage
-      edit-done l = rw (le-leb used (length buf) h, going .reads, going .accepts) (l (changed ed k i (going .tone)) (going .formed) (going .spells))
+      edit-done e = rw (le-leb used (length buf) h, going .reads, going .accepts) (e (changed ed k i (going .tone)) (going .laid))
 
-pub ruleset edits = (edit-beyond, edit-halt, edit-short, edit-can, edit-spelt, edit-done)
+pub ruleset edits = (edit-beyond, edit-halt, edit-laid, edit-done)

@@ -36,6 +36,7 @@ use Rattle.changing.specs.Change.{carried, removed, bodyAfter, withBody, patter
 use Rattle.changing.specs.Answers.{Puts, groundOf}
 use Rattle.changing.proofs.Bodies.{Fits as FitsEdit, length-after, body-instructions, cells-append, changed-formed, front-same, sound-at}
 use Rattle.changing.proofs.Grounds.{no-ground}
+use Rattle.building.specs.declared.Piece.{Piece}
 use Rattle.editing.specs.declared.Outline.{Outline}
 use Rattle.editing.specs.Editing.{bodyLength, editTone, andThen}
 use Rattle.editing.specs.Plan.{groundFor, Going}
@@ -252,9 +253,10 @@ module _ (w : Wish) (m : List ℕ) {j : Judged} (q : j ≡ judgedFor w (readTone
             taken : length (tableBits (take (i + removed ed) b)) ≡ length (tableBits (take i b)) + length (tableBits (take (removed ed) (drop i b)))
             taken = ap (λ (x : List ℕ). length (tableBits x)) (take-add i (removed ed) b) ∙ ap length (tableBits-append (take i b) (take (removed ed) (drop i b))) ∙ length-append (tableBits (take i b)) (tableBits (take (removed ed) (drop i b)))
 
-            pub plan-go : {x y : ℕ} {ol : Outline} → Puts (carried (w .edit)) x y → (ol .first ≡ f) × (ol .patterns ≡ p) × (ol .entries ≡ v .list) × (ol .mark ≡ v .mark)
-                → Going m (w .edit) (w .pattern) (w .instruction) (v .cut .header .0) (v .cut .cell + a - rm) (v .cut .at .0) (v .cut .behind .0) (v .end .0) x y ol
-            plan-go {x} {y} {ol} pu ho =
+            pub plan-go : {pc : Piece} {ol : Outline} → Puts (carried (w .edit)) (pc .width) (pc .value) → (ol .first ≡ f) × (ol .patterns ≡ p) × (ol .entries ≡ v .list) × (ol .mark ≡ v .mark)
+                → Going m (w .edit) (w .pattern) (w .instruction)
+                (record { header = v .cut .header; cell = v .cut .cell + a - rm; spot = record { at = v .cut .at; behind = v .cut .behind; end = v .end }; piece = pc; outline = ol })
+            plan-go pu ho =
                 let ps = t .patterns in
                 let eh : v .cut .header .0 ≡ headerPlace t k = ap (λ (c : Cut). c .header .0) cut-there in
                 let ea : v .cut .at .0 ≡ v .cut .header .0 + 17 + length (tableBits (take i b)) = omega (arith, ap (λ (c : Cut). c .at .0) cut-there, eh) in
@@ -268,9 +270,7 @@ module _ (w : Wish) (m : List ℕ) {j : Judged} (q : j ≡ judgedFor w (readTone
                   reads = jd .reads;
                   short = d .short;
                   accepts = grant .accepts;
-                  formed = changed-formed ed k i t (d .formed) (grant .new) (grant .found) some fit;
-                  spells = joined-is m t d ed k i (grant .found) (fit .inside) eh ea eb ee pu new-cell (rw new-cell (header-small after after-sound .0));
-                  can = record {
+                  laid = record {
                     ahead = omega (arith, ea);
                     inside = omega (arith, eb, ee, ends);
                     order = omega (arith, ee);
@@ -278,12 +278,14 @@ module _ (w : Wish) (m : List ℕ) {j : Judged} (q : j ≡ judgedFor w (readTone
                     header = omega (arith, new-cell, header-small after after-sound .0);
                     width = pu .short;
                     value = pu .small;
-                  };
-                  outlines = record {
-                    first = ap (λ (c : BitPlace). c .0) (ho .0 ∙ jd .first) ∙ ap (λ (c : Front). length (frontBits c)) (sym (front-same ed k i t));
-                    patterns = ho .1 ∙ jd .patterns ∙ sym (length-set ps k after);
-                    entries = ho .2 ∙ ap (λ (c : Total). c .list) (jd .total) ∙ ap (entryCount noBodies) same;
-                    mark = ho .3 ∙ ap (λ (c : Total). c .mark) (jd .total) ∙ ap (markFrom noBodies 0) same;
+                    formed = changed-formed ed k i t (d .formed) (grant .new) (grant .found) some fit;
+                    spells = joined-is m t d ed k i (grant .found) (fit .inside) eh ea eb ee pu new-cell (rw new-cell (header-small after after-sound .0));
+                    outlines = record {
+                      first = ap (λ (c : BitPlace). c .0) (ho .0 ∙ jd .first) ∙ ap (λ (c : Front). length (frontBits c)) (sym (front-same ed k i t));
+                      patterns = ho .1 ∙ jd .patterns ∙ sym (length-set ps k after);
+                      entries = ho .2 ∙ ap (λ (c : Total). c .list) (jd .total) ∙ ap (entryCount noBodies) same;
+                      mark = ho .3 ∙ ap (λ (c : Total). c .mark) (jd .total) ∙ ap (markFrom noBodies 0) same;
+                    };
                   };
                 }
 

@@ -1,17 +1,16 @@
 ghost use mathlib.Core.Path.{_≡_};
-ghost use Prim.Native.Nat.{_≤_};
+ghost use Prim.Native.Nat.{_+_, _≤_};
 ghost use lib.ListN.{length, take};
 ghost use lib.IntN.{pos, _-ℤ_};
-ghost use Rattle.bits.specs.Bits.{bitsOf};
+ghost use Rattle.bits.specs.Bits.{octetsTo};
 ghost use Rattle.bits.specs.Outcome.{accepted};
-ghost use Rattle.tone.specs.Tone.{Tone, Formed};
-ghost use Rattle.tone.specs.Writing.{songBits, toneOctets, WellFormed};
+ghost use Rattle.tone.specs.Tone.{Tone};
+ghost use Rattle.tone.specs.Writing.{toneOctets, WellFormed};
 ghost use Rattle.reading.specs.Answers.{place};
-ghost use Rattle.building.specs.Anew.{joined};
 ghost use Rattle.editing.specs.Editing.{cleared, inBuffer, withList};
 ghost use Rattle.editing.specs.Promise.{Leaves, EditPromise};
 ghost use Rattle.editing.specs.declared.Answer.the-variants.{Refused};
-ghost use Rattle.editing.specs.Plan.{groundFor, CanBuild, Written, Spelt, Plans};
+ghost use Rattle.editing.specs.Plan.{groundFor, Written, endOf, Laid, SomeLaid, Room, Plans};
 use bits::BitPlace;
 use bits::OctetCount;
 use building::Piece;
@@ -58,16 +57,20 @@ fn outlined(first: BitPlace, patterns: u32, total: Total) -> Outline
     }
 }
 
-// Why an edit is refused, and where; or what is put where, and what the changed message is then.
+// How a changed message is laid out: where the header stands and what it is then, where the old bits are cut, what is put
+// there, and the outline.
+pub struct Layout {
+    pub header: BitPlace,
+    pub cell: u32,
+    pub spot: Spot,
+    pub piece: Piece,
+    pub outline: Outline,
+}
+
+// Why an edit is refused, and where; or how the changed message is laid out.
 pub enum Plan {
     Halt(u32, BitPlace),
-    Go {
-        header: BitPlace,
-        cell: u32,
-        spot: Spot,
-        piece: Piece,
-        outline: Outline,
-    },
+    Go(Layout),
 }
 
 // The ground against an edit at instruction `i` of the pattern at `k`, of so many, whose header is `cell`; 0 for none.
@@ -108,13 +111,13 @@ fn plan_edit(msg: &[u8], wish: Wish) -> Plan
             let at = cut.at;
             let behind = cut.behind;
             let end = total.end;
-            Plan::Go {
+            Plan::Go(Layout {
                 header,
                 cell: cell + changing::added(edit) - changing::removed(edit),
                 spot: Spot { at, behind, end },
                 piece: changing::carried_piece(edit),
                 outline: outlined(first, patterns, total),
-            }
+            })
         }
     }
 }
@@ -186,21 +189,35 @@ fn finish(
     }
 }
 
-// Carries out a plan: the message is built apart, and then put in place.
-fn carry_out(
+// Builds a changed message apart, in a scratch that has room for it, and puts it in place.
+fn build_apart(
     buf: &mut [u8],
     used: OctetCount,
-    header: BitPlace,
-    cell: u32,
-    spot: Spot,
-    piece: Piece,
-    outline: Outline,
+    layout: Layout,
+    scratch: &mut [u8],
     list: &mut [u32],
 ) -> Answer
-    requires { ⌜ (used .0 ≤ length (now buf)) × (used .0 ≤ 4096) × CanBuild (take (used .0) (now buf)) (header .0) cell (spot .at .0) (spot .behind .0) (spot .end .0) (piece .width) (piece .value) ⌝ }
-    requires { ⌜ Spelt (joined (bitsOf (take (used .0) (now buf))) (header .0) cell (spot .at .0) (piece .width) (piece .value) (spot .behind .0) (spot .end .0)) outline ⌝ }
-    ensures { λ r. ⌜ ((t : Tone) → Formed t → joined (bitsOf (take (used .0) (now (buf .entry)))) (header .0) cell (spot .at .0) (piece .width) (piece .value) (spot .behind .0) (spot .end .0) ≡ songBits t → Leaves (withList (length (now (list .entry))) (inBuffer (length (now (buf .entry))) t)) (used .0) (now (buf .entry)) (now (list .entry)) (now (buf .exit)) (now (list .exit)) r) ⌝ }
+    requires { ⌜ (used .0 ≤ length (now buf)) × (used .0 ≤ 4096) × SomeLaid (take (used .0) (now buf)) layout ⌝ }
+    requires { ⌜ Room (octetsTo (endOf layout) + 1) (length (now buf)) (length (now scratch)) ⌝ }
+    ensures { λ r. ⌜ ((t : Tone) → Laid (take (used .0) (now (buf .entry))) layout t → Leaves (withList (length (now (list .entry))) (accepted t)) (used .0) (now (buf .entry)) (now (list .entry)) (now (buf .exit)) (now (list .exit)) r) ⌝ }
 {
+    let old = used.0;
+    let header = layout.header;
+    let spot = layout.spot;
+    let piece = layout.piece;
+    let outline = layout.outline;
+    let n = building::build(&buf[..old], header, layout.cell, spot, piece, scratch);
+    let new = n.0;
+    finish(buf, used, &scratch[..new], outline, list)
+}
+
+// Carries out an edit. A short message needs a short scratch: to clear a long one costs more than the edit.
+fn carry_out(buf: &mut [u8], used: OctetCount, layout: Layout, list: &mut [u32]) -> Answer
+    requires { ⌜ (used .0 ≤ length (now buf)) × (used .0 ≤ 4096) × SomeLaid (take (used .0) (now buf)) layout ⌝ }
+    ensures { λ r. ⌜ ((t : Tone) → Laid (take (used .0) (now (buf .entry))) layout t → Leaves (withList (length (now (list .entry))) (inBuffer (length (now (buf .entry))) t)) (used .0) (now (buf .entry)) (now (list .entry)) (now (buf .exit)) (now (list .exit)) r) ⌝ }
+{
+    let spot = layout.spot;
+    let piece = layout.piece;
     let end = spot.at.0 + piece.width as usize + (spot.end.0 - spot.behind.0);
     let length = bits::octets_to(BitPlace(end)).0 + 1;
     if 4096 < length {
@@ -209,11 +226,12 @@ fn carry_out(
     if buf.len() < length {
         return halted(11);
     }
-    let mut scratch = [0u8; 4096];
-    let old = used.0;
-    let n = building::build(&buf[..old], header, cell, spot, piece, &mut scratch);
-    let new = n.0;
-    finish(buf, used, &scratch[..new], outline, list)
+    if length <= 512 {
+        let mut short = [0u8; 512];
+        return build_apart(buf, used, layout, &mut short, list);
+    }
+    let mut long = [0u8; 4096];
+    build_apart(buf, used, layout, &mut long, list)
 }
 
 // Edits the message that lies in the first `used` octets of a lent buffer, and fills a lent list.
@@ -238,12 +256,6 @@ pub fn edit_message(
     };
     match plan_edit(&buf[..old], wish) {
         Plan::Halt(number, place) => Answer::Refused { number, place },
-        Plan::Go {
-            header,
-            cell,
-            spot,
-            piece,
-            outline,
-        } => carry_out(buf, used, header, cell, spot, piece, outline, list),
+        Plan::Go(layout) => carry_out(buf, used, layout, list),
     }
 }

@@ -4,7 +4,7 @@ use lib.Seq.{length-take-le}
 use borrow.Author.Needs.{needs}
 use Rattle.editing.proofs.edit_message.Statement.{statement}
 use Rattle.editing.proofs.edit_message.Tie as tie
-use Rattle.editing.proofs.Finishing.{edit-beyond, edit-short, edit-can, edit-spelt, edits}
+use Rattle.editing.proofs.Finishing.{edit-beyond, edit-laid, edits}
 
 halted-requires : tie.Need-halted-requires
 halted-requires c κs = search (edits, needs)
@@ -28,14 +28,14 @@ plan-edit-requires c κs = search (edits, needs)
 enum-known-number : tie.Need-enum-known-number
 enum-known-number c = search (edits, needs)
 
-enum-known-header : tie.Need-enum-known-header
-enum-known-header c = search (edits, needs)
+enum-known-layout : tie.Need-enum-known-layout
+enum-known-layout c = search (edits, needs)
 
 carry-out-requires : tie.Need-carry-out-requires
 carry-out-requires c κs =
     let e = c .before .before .before .before .before .before .before in
     let a = e .before .before .before .args in
-    ((e .if1 .left, edit-short (a .buf .now) (a .list .now) (a .used .0) (a .edit) (a .pattern) (a .instruction) (e .if1 .left) (c .before .before .before .before .before .plan-edit .ensures) (c .before .before .before .header .given .1), edit-can (a .buf .now) (a .list .now) (a .used .0) (a .edit) (a .pattern) (a .instruction) (e .if1 .left) (c .before .before .before .before .before .plan-edit .ensures) (c .before .before .before .header .given .1)), edit-spelt (a .buf .now) (a .list .now) (a .used .0) (a .edit) (a .pattern) (a .instruction) (e .if1 .left) (c .before .before .before .before .before .plan-edit .ensures) (c .before .before .before .header .given .1))
+    edit-laid (a .buf .now) (a .list .now) (a .used .0) (a .edit) (a .pattern) (a .instruction) (e .if1 .left) (c .before .before .before .before .before .plan-edit .ensures) (c .before .before .before .layout .given .1)
 
 same-length : tie.Need-same-length
 same-length c = search (edits, needs)
@@ -62,7 +62,7 @@ edit-message-spec =
     slice-aggregate-plan-edit
     plan-edit-requires
     enum-known-number
-    enum-known-header
+    enum-known-layout
     carry-out-requires
     same-length
     returns-2
