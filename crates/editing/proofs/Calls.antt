@@ -16,12 +16,12 @@ use Rattle.tone.specs.Tone.{Tone, Formed}
 use Rattle.tone.specs.Writing.{entryBits, tableBits, toneBits, toneLength, toneOctets}
 use Rattle.tone.specs.Reading.{readTone}
 use Rattle.tone.proofs.Demand2.{read-formed, bits-toneOctets, length-toneOctets}
-use Rattle.playing.specs.declared.Listed.{Listed}
-use Rattle.playing.specs.declared.Listed.the-variants.{Made as ListMade}
+use Rattle.listing.specs.declared.Listed.{Listed}
+use Rattle.listing.specs.declared.Listed.the-variants.{Made as ListMade}
 use Rattle.sounding.specs.Sounding.{numbers}
 use Rattle.sounding.specs.Playing.{Listing, playingList}
 use Rattle.sounding.specs.Listing.{fitsNumbers, listTone}
-use Rattle.playing.specs.Promise.{listAnswer, cellsAfter, ListPromise}
+use Rattle.listing.specs.Promise.{listAnswer, cellsAfter, ListPromise}
 use Rattle.sounding.proofs.Bounds.{none-too-long}
 use Rattle.sounding.proofs.Packing.{length-numbers}
 use borrow.Author.Tests.{le-leb}
@@ -187,7 +187,7 @@ module _ (buf : List ℕ) (used : ℕ) (ed : Edit) (k i : ℕ) (list buf′ list
         let rs = playingList (changed ed k i t) .entries in
         p .listed ∙ ap (λ (x : Outcome Edited). listAfter x list) outcome ∙ ap (λ (x : ℕ). numbers rs ++ drop x list) (length-numbers rs ∙ ap (λ (x : ℕ). 2 * x) (sym (ap (λ (x : Numbers). x .entries) edit-numbers)))
 
-    -- a call of `playing::list` on the new bytes, with the list as it was lent, answers and leaves the same
+    -- a call of `listing::list` on the new bytes, with the list as it was lent, answers and leaves the same
     pub edit-list-afresh : (list″ : List ℕ) (s : Listed) → ListPromise (take (newLength r) buf′) (fitsNumbers (length list)) list list″ s → (s ≡ ListMade (numbersOf r .entries) (numbersOf r .mark)) × (list″ ≡ list′)
     edit-list-afresh list″ s l = (
       l .answer ∙ ap listAnswer edit-listing ∙ ap₂ (λ (x y : ℕ). ListMade x y) (sym (ap (λ (x : Numbers). x .entries) edit-numbers)) (sym (ap (λ (x : Numbers). x .mark) edit-numbers)),

@@ -27,7 +27,7 @@ use Rattle.playing.specs.Filling.{patternsIn, endIn, PatternsAt}
 use Rattle.sounding.proofs.Counts.{list-count}
 use Rattle.sounding.proofs.Marks.{list-mark}
 use Rattle.sounding.proofs.Bounds.{none-too-long}
-use Rattle.playing.proofs.Outcomes.{patterns-there, patterns-within}
+use Rattle.listing.proofs.Outcomes.{patterns-there, patterns-within}
 use Rattle.counting.specs.Bodies.{noBodies}
 use Rattle.counting.specs.Counting.{entryCount}
 use Rattle.building.specs.Anew.{Built}

@@ -25,7 +25,7 @@ ghost use lib.ListN.{length};
 use bits::OctetCount;
 use changing::Edit;
 use editing::Answer;
-use playing::Listed;
+use listing::Listed;
 
 // The used length, and how many octets of the buffer and cells of each list are lent.
 struct InHand {
@@ -121,7 +121,7 @@ fn same(a: &[u32], b: &[u32]) -> bool {
 
 // Can a message be listed in the cells lent?
 fn listed(msg: &[u8], list: &mut [u32]) -> bool {
-    match playing::list(msg, list) {
+    match listing::list(msg, list) {
         Listed::Made {
             entries: _,
             mark: _,

@@ -25,10 +25,10 @@ use Rattle.label.specs.Label.{leftOctets, standsIn, labelOf}
 use Rattle.label.specs.Promises.{numbers as labelNumbers, SuppliedPromise}
 use Rattle.label.proofs.Exits.{left-inside}
 use Rattle.sounding.specs.declared.Entry.{Entry}
-use Rattle.playing.specs.declared.Listed.{Listed}
-use Rattle.playing.specs.declared.Listed.the-variants.{Made, Refused as Unlisted}
+use Rattle.listing.specs.declared.Listed.{Listed}
+use Rattle.listing.specs.declared.Listed.the-variants.{Made, Refused as Unlisted}
 use Rattle.sounding.specs.Listing.{fitsNumbers}
-use Rattle.playing.specs.Promise.{numbersOf as listedNumbers, ListPromise, RowsPromise}
+use Rattle.listing.specs.Promise.{numbersOf as listedNumbers, ListPromise, RowsPromise}
 use Rattle.changing.specs.declared.Edit.{Edit}
 use Rattle.editing.specs.declared.Answer.{Answer}
 use Rattle.editing.specs.declared.Answer.the-variants.{Edited, Refused as Unedited}

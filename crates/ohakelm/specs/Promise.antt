@@ -14,7 +14,7 @@ use Rattle.label.specs.Label.{standsIn, labelOf}
 use Rattle.sounding.specs.declared.Entry.{Entry}
 use Rattle.sounding.specs.Playing.{Listing}
 use Rattle.sounding.specs.Listing.{listTone, fitsNumbers, fitsBoth}
-use Rattle.playing.specs.Promise.{Numbers as ListNumbers, listNumbers, cellsAfter, rowsAfter}
+use Rattle.listing.specs.Promise.{Numbers as ListNumbers, listNumbers, cellsAfter, rowsAfter}
 use Rattle.changing.specs.declared.Edit.{Edit}
 use Rattle.editing.specs.Editing.{Edited, editMessage, bufferAfter, listAfter}
 use Rattle.editing.specs.Promise.{Numbers as EditNumbers, editNumbers}

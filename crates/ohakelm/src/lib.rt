@@ -1,7 +1,7 @@
 ghost use mathlib.Core.Path.{_≡_};
 ghost use Prim.Native.Nat.{_+_};
 ghost use lib.ListN.{length};
-ghost use Rattle.playing.specs.Promise.{numbersOf as listedNumbers};
+ghost use Rattle.listing.specs.Promise.{numbersOf as listedNumbers};
 ghost use Rattle.editing.specs.Promise.{numbersOf as editNumbers};
 ghost use Rattle.changing.specs.declared.Edit.the-variants.{Replace, Insert, Delete};
 ghost use Rattle.ohakelm.specs.Promise.{ReadExport, WriteExport, LabelExport, ListExport, RowsExport, EditExport, BitmapReadExport, BitmapWriteExport, listedAs, editedAs};
@@ -9,7 +9,7 @@ use bits::OctetCount;
 use changing::Edit;
 use editing::Answer;
 use label::Supplier;
-use playing::Listed;
+use listing::Listed;
 use reader::Reading;
 use sounding::Entry;
 use writing::Writing;
@@ -180,7 +180,7 @@ fn list_answer(listed: Listed) -> ListAnswer
 pub extern "C" fn ohakelm_list(msg: &[u8], list: &mut [u32]) -> ListAnswer
     ensures { λ r. ⌜ ListExport (now (msg .entry)) (now (list .entry)) (now (list .exit)) r ⌝ }
 {
-    list_answer(playing::list(msg, list))
+    list_answer(listing::list(msg, list))
 }
 
 // Makes the playing list in both forms: two numbers an entry, and one record an entry.
@@ -188,7 +188,7 @@ pub extern "C" fn ohakelm_list(msg: &[u8], list: &mut [u32]) -> ListAnswer
 pub extern "C" fn ohakelm_rows(msg: &[u8], list: &mut [u32], rows: &mut [Entry]) -> ListAnswer
     ensures { λ r. ⌜ RowsExport (now (msg .entry)) (now (list .entry)) (now (rows .entry)) (now (list .exit)) (now (rows .exit)) r ⌝ }
 {
-    list_answer(playing::rows(msg, list, rows))
+    list_answer(listing::rows(msg, list, rows))
 }
 
 // ---- edits

@@ -17,11 +17,11 @@ use Rattle.tone.specs.Writing.{mostOctets}
 use Rattle.tone.specs.Reading.{readTone}
 use Rattle.tone.proofs.Refusals.{place-most}
 use Rattle.reading.specs.Answers.{place}
-use Rattle.playing.specs.declared.Listed.{Listed}
-use Rattle.playing.specs.declared.Listed.the-variants.{Made, Refused}
+use Rattle.listing.specs.declared.Listed.{Listed}
+use Rattle.listing.specs.declared.Listed.the-variants.{Made, Refused}
 use Rattle.sounding.specs.Playing.{Listing, playingList}
 use Rattle.sounding.specs.Listing.{listTone, listed, anyTooLong, fitsNumbers}
-use Rattle.playing.specs.Promise.{ListPromise, listAnswer}
+use Rattle.listing.specs.Promise.{ListPromise, listAnswer}
 use Rattle.play.specs.Text.{Added, lines, opening, refusal, textOf, answerOf}
 use Rattle.play.proofs.Texts.{added-two}
 

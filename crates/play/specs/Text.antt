@@ -6,9 +6,9 @@ use lib.ListN.{length, getD, take, drop}
 use lib.Dec.{ltb, eqb}
 use Rattle.bits.specs.Choice.{pick}
 use Rattle.sounding.specs.Listing.{listTone, fitsNumbers}
-use Rattle.playing.specs.Promise.{listAnswer, cellsAfter}
-use Rattle.playing.specs.declared.Listed.{Listed}
-use Rattle.playing.specs.declared.Listed.the-variants.{Made, Refused}
+use Rattle.listing.specs.Promise.{listAnswer, cellsAfter}
+use Rattle.listing.specs.declared.Listed.{Listed}
+use Rattle.listing.specs.declared.Listed.the-variants.{Made, Refused}
 
 -- a text is put behind the first octets of a buffer: where it ends, and what the buffer holds up to there
 pub record Added (out : List ℕ) (at : ℕ) (text out′ : List ℕ) (end : ℕ) : Type 0 where

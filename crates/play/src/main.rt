@@ -11,7 +11,7 @@ use bits::OctetCount;
 use libc::STDERR_FILENO;
 use libc::STDIN_FILENO;
 use libc::STDOUT_FILENO;
-use playing::Listed;
+use listing::Listed;
 
 // What one read of standard input gave: some octets, its end, or that it cannot be read.
 enum Piece {
@@ -209,7 +209,7 @@ fn answer(msg: &[u8], list: &mut [u32], text: &mut [u8]) -> usize
     ensures { λ r. ⌜ Added (now (text .entry)) 0 (answerOf (now (msg .entry)) (now (list .entry))) (now (text .exit)) r ⌝ }
     ensures { λ r. ⌜ r ≤ length (now (text .exit)) ⌝ }
 {
-    match playing::list(msg, list) {
+    match listing::list(msg, list) {
         Listed::Made { entries, mark } => {
             let at = put_opening(text, entries, mark);
             put_entries(text, at, list, entries as usize)

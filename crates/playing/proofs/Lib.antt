@@ -2,5 +2,3 @@ pub mod Seeing
 pub mod Stepping
 pub mod Walking
 pub mod Fillings
-pub mod Outcomes
-pub mod Agreeing

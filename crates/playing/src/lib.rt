@@ -1,29 +1,18 @@
 ghost use mathlib.Core.Path.{_≡_};
-ghost use mathlib.Core.List.{_++_};
 ghost use Prim.Native.Nat.{_+_, _*_, _^_, _≤_, _<_};
-ghost use lib.ListN.{length, drop};
+ghost use lib.ListN.{length};
 ghost use Rattle.bits.specs.Lent.{over};
 ghost use Rattle.tone.specs.Table.{Instruction};
 ghost use Rattle.tone.specs.Writing.{entryBits};
 ghost use Rattle.reading.specs.Answers.{noteIn, notes as notesOf};
-ghost use Rattle.sounding.specs.Sounding.{atStart, numbers, entryAt, entriesOf};
+ghost use Rattle.sounding.specs.Sounding.{atStart, numbers};
 ghost use Rattle.sounding.specs.Playing.{step, pass, passes, play};
 ghost use Rattle.counting.specs.Bodies.{noBodies};
 ghost use Rattle.counting.specs.Counting.{entryCount};
 ghost use Rattle.playing.specs.Filling.{patternsIn, endIn, PatternsAt, partAfter, behindPattern, entrySeen, Ready, Advanced};
 ghost use Rattle.reading.specs.Standing.{bodyIn, behindIn, BodyAt};
-ghost use Rattle.sounding.specs.Listing.{fitsNumbers, fitsBoth};
-ghost use Rattle.playing.specs.Promise.{entriesIn, ListPromise, RowsPromise};
 use bits::BitPlace;
-use judging::Judged;
-use sounding::Entry;
 use sounding::Settings;
-
-// What making a list answers: its entries and its return mark, or the refusal.
-pub enum Listed {
-    Made { entries: u32, mark: u32 },
-    Refused { number: u32, place: BitPlace },
-}
 
 // A part's body: not yet defined, or the place and the number of its instructions.
 pub enum Part {
@@ -32,39 +21,14 @@ pub enum Part {
 }
 
 // How far filling has come: the settings, what they put in an entry's first number, the place in the message, and the
-// cells filled.
+// cells filled. Beside it goes a table: how long a full note sounds at the tempo set, for each specifier. Each duration
+// code halves it.
 pub struct Walk {
     pub settings: Settings,
     pub base: u32,
     pub at: BitPlace,
     pub cells: usize,
 }
-
-// The entry at a position of a list in two-number form.
-fn entry_at(list: &[u32], i: usize) -> Entry
-    requires { ⌜ i * 2 + 1 < length (now list) ⌝ }
-    ensures { λ r. ⌜ r ≡ entryAt (now (list .entry)) i ⌝ }
-{
-    sounding::entry_of(list[i * 2], list[i * 2 + 1])
-}
-
-// Fills the first `n` rows from a list in two-number form. The other rows stay.
-fn fill_rows(list: &[u32], n: usize, rows: &mut [Entry])
-    requires { ⌜ (n * 2 ≤ length (now list)) × (n ≤ length (now rows)) ⌝ }
-    ensures { λ _. ⌜ now (rows .exit) ≡ entriesOf n (now (list .entry)) ++ drop n (now (rows .entry)) ⌝ }
-{
-    let mut i = 0;
-    while i < n {
-        let e = entry_at(list, i);
-        rows[i] = e;
-        i += 1;
-    }
-}
-
-// ---- filling, once a message is judged
-//
-// Beside a walk goes a table: how long a full note sounds at the tempo set, for each specifier. Each duration code halves
-// it.
 
 impl Walk {
     // Nothing is filled, and the settings are those of the start.
@@ -245,74 +209,4 @@ pub fn fill_list(msg: &[u8], at: BitPlace, n: u32, list: &mut [u32])
         place = behind_pattern(header, head.next, walk.at);
         left -= 1;
     }
-}
-
-// ---- the calls
-
-// Makes the list of a message in two-number form, where it has at most `most` entries.
-fn list_within(msg: &[u8], list: &mut [u32], most: usize) -> Listed
-    ensures { λ r. ⌜ ListPromise (now (msg .entry)) (fitsBoth (length (now (list .entry))) most) (now (list .entry)) (now (list .exit)) r ⌝ }
-{
-    match judging::judge(msg) {
-        Judged::Faulty { number, at: fault } => Listed::Refused {
-            number,
-            place: fault,
-        },
-        Judged::Sound {
-            song: _,
-            at,
-            octets: _,
-            patterns,
-            total,
-            unicode: _,
-        } => {
-            let entries = total.list;
-            let mark = total.mark;
-            if list.len() / 2 < entries as usize {
-                return Listed::Refused {
-                    number: 11,
-                    place: BitPlace(0),
-                };
-            }
-            if most < entries as usize {
-                return Listed::Refused {
-                    number: 11,
-                    place: BitPlace(0),
-                };
-            }
-            fill_list(msg, at, patterns, list);
-            Listed::Made { entries, mark }
-        }
-    }
-}
-
-// Makes the list of a message in two-number form.
-pub fn list(msg: &[u8], list: &mut [u32]) -> Listed
-    ensures { λ r. ⌜ ListPromise (now (msg .entry)) (fitsNumbers (length (now (list .entry)))) (now (list .entry)) (now (list .exit)) r ⌝ }
-{
-    let room = list.len();
-    list_within(msg, list, room)
-}
-
-// How many entries were made.
-fn entries_in(r: Listed) -> usize
-    ensures { λ n. ⌜ n ≡ entriesIn r ⌝ }
-{
-    match r {
-        Listed::Made { entries, mark: _ } => entries as usize,
-        Listed::Refused {
-            number: _,
-            place: _,
-        } => 0,
-    }
-}
-
-// Makes the list of a message in both forms.
-pub fn rows(msg: &[u8], list: &mut [u32], rows: &mut [Entry]) -> Listed
-    ensures { λ r. ⌜ RowsPromise (now (msg .entry)) (now (list .entry)) (now (rows .entry)) (now (list .exit)) (now (rows .exit)) r ⌝ }
-{
-    let r = list_within(msg, list, rows.len());
-    let n = entries_in(r);
-    fill_rows(list, n, rows);
-    r
 }

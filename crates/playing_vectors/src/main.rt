@@ -1,7 +1,7 @@
 // Runs the cases of playing lists and prints what the call answers, a line for each case: the room in cells, the numbers of
 // the answer, the cells of the list, and a digest of all 64 cells, so that a change beyond the list shows.
 ghost use Prim.Native.Nat.{_<_};
-use playing::Listed;
+use listing::Listed;
 
 // Prints a number, and a space ahead of it.
 fn number(n: u64) {
@@ -38,7 +38,7 @@ fn cells(list: &[u32], n: u32) {
 
 // Makes a list, prints the numbers of the answer (refusal, place, entries, mark) and answers the entries.
 fn show_list(msg: &[u8], list: &mut [u32]) -> u32 {
-    match playing::list(msg, list) {
+    match listing::list(msg, list) {
         Listed::Made { entries, mark } => {
             number(0);
             number(0);

@@ -24,16 +24,16 @@ use Rattle.reading.specs.Answers.{Within, place}
 use Rattle.judging.specs.declared.Total.{Total}
 use Rattle.judging.specs.declared.Judged.{Judged}
 use Rattle.judging.specs.declared.Judged.the-variants.{Sound, Faulty}
-use Rattle.playing.specs.declared.Listed.{Listed}
-use Rattle.playing.specs.declared.Listed.the-variants.{Made, Refused}
+use Rattle.listing.specs.declared.Listed.{Listed}
+use Rattle.listing.specs.declared.Listed.the-variants.{Made, Refused}
 use Rattle.sounding.specs.Sounding.{atStart, numbers}
 use Rattle.sounding.specs.Playing.{Listing, play, playingList}
 use Rattle.counting.specs.Bodies.{noBodies}
 use Rattle.counting.specs.Counting.{entryCount, markFrom}
 use Rattle.judging.specs.Answers.{plainly, judgedOf}
 use Rattle.playing.specs.Filling.{patternsIn, endIn, PatternsAt}
 use Rattle.sounding.specs.Listing.{anyTooLong, listed, fitsNumbers, fitsBoth, listTone}
-use Rattle.playing.specs.Promise.{numbersOf, listNumbers, listAnswer, cellsAfter, ListPromise}
+use Rattle.listing.specs.Promise.{numbersOf, listNumbers, listAnswer, cellsAfter, ListPromise}
 use Rattle.sounding.proofs.Counts.{list-count}
 use Rattle.sounding.proofs.Marks.{list-mark}
 use Rattle.sounding.proofs.Bounds.{list-most, none-too-long}

@@ -13,17 +13,17 @@ use Rattle.bits.specs.Outcome.{Outcome, accepted, refused}
 use Rattle.tone.specs.Tone.{Tone}
 use Rattle.tone.specs.Reading.{readTone}
 use Rattle.sounding.specs.declared.Entry.{Entry}
-use Rattle.playing.specs.declared.Listed.{Listed}
-use Rattle.playing.specs.declared.Listed.the-variants.{Made}
+use Rattle.listing.specs.declared.Listed.{Listed}
+use Rattle.listing.specs.declared.Listed.the-variants.{Made}
 use Rattle.sounding.specs.Sounding.{packed, numbers, entriesOf}
 use Rattle.sounding.specs.Ranges.{Bounded, AllBounded}
 use Rattle.sounding.specs.Playing.{Listing, playingList}
 use Rattle.sounding.specs.Listing.{anyTooLong, listed, fitsNumbers, fitsBoth, listTone}
-use Rattle.playing.specs.Promise.{numbersOf, listNumbers, entriesIn, listAnswer, cellsAfter, rowsAfter, ListPromise, RowsPromise}
+use Rattle.listing.specs.Promise.{numbersOf, listNumbers, entriesIn, listAnswer, cellsAfter, rowsAfter, ListPromise, RowsPromise}
 use Rattle.sounding.proofs.Below.{both}
 use Rattle.sounding.proofs.Bounds.{list-bounded}
 use Rattle.sounding.proofs.Packing.{length-numbers, entries-numbers}
-use Rattle.playing.proofs.Outcomes.{accepted-formed}
+use Rattle.listing.proofs.Outcomes.{accepted-formed}
 
 -- ---- one outcome
 

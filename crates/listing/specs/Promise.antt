@@ -8,8 +8,8 @@ use Rattle.bits.specs.Lent.{over}
 use Rattle.bits.specs.Outcome.{Outcome, accepted, refused}
 use Rattle.reading.specs.Answers.{place}
 use Rattle.sounding.specs.declared.Entry.{Entry}
-use Rattle.playing.specs.declared.Listed.{Listed}
-use Rattle.playing.specs.declared.Listed.the-variants.{Made, Refused}
+use Rattle.listing.specs.declared.Listed.{Listed}
+use Rattle.listing.specs.declared.Listed.the-variants.{Made, Refused}
 use Rattle.sounding.specs.Sounding.{numbers}
 use Rattle.sounding.specs.Playing.{Listing}
 use Rattle.sounding.specs.Listing.{listTone, fitsBoth}

@@ -1,8 +1,8 @@
--- `playing::list` meets its contract.
+-- `listing::list` meets its contract.
 use borrow.Author.Needs.{needs}
-use Rattle.playing.proofs.list.Statement.{statement}
-use Rattle.playing.proofs.list.Tie as tie
-use Rattle.playing.proofs.Outcomes.{cells-alone}
+use Rattle.listing.proofs.list.Statement.{statement}
+use Rattle.listing.proofs.list.Tie as tie
+use Rattle.listing.proofs.Outcomes.{cells-alone}
 
 list-within-requires : tie.Need-list-within-requires
 list-within-requires c κs = search needs

@@ -1,4 +1,4 @@
--- `playing::rows` meets its contract: a walk of its code, by hand.
+-- `listing::rows` meets its contract: a walk of its code, by hand.
 -- `list` is opened at the start and closed at the end. Between the two its cells are lent twice, each time for a lifetime of their own: to `list_within`, which fills them, and to `fill_rows`, which reads them.
 -- `rows` is given to `fill_rows` for good.
 use mathlib.Core.Path.{_≡_, refl, sym, ap, subst}
@@ -48,32 +48,32 @@ use denote.Triple.Table.{entered, cited}
 use denote.Triple.Walked.{says, Stays, stay-slice, stay-none-slice, gave-slice, walkOf, goes-none-slice, goes-slice, goes-gave-slice, Walks, ends-at, walked, walk-meets}
 use denote.Exit.{yes}
 use Rattle.sounding.specs.declared.Entry.{Entry}
-use Rattle.playing.specs.declared.Listed.{Listed}
+use Rattle.listing.specs.declared.Listed.{Listed}
 use Rattle.sounding.specs.Sounding.{entriesOf}
 use Rattle.sounding.specs.Listing.{fitsBoth}
-use Rattle.playing.specs.Promise.{entriesIn, ListPromise, RowsPromise}
-use Rattle.playing.proofs.Agreeing.{rows-fit, cells-kept, rows-made}
+use Rattle.listing.specs.Promise.{entriesIn, ListPromise, RowsPromise}
+use Rattle.listing.proofs.Agreeing.{rows-fit, cells-kept, rows-made}
 use Rattle.sounding.proofs.Entry as E
 use Rattle.sounding.proofs.Entry.Laws as E′
-use Rattle.playing.proofs.Listed as L
-use Rattle.playing.proofs.Listed.Laws as L′
-use Rattle.playing.proofs.list_within as list-within
-use Rattle.playing.proofs.list_within.Symbol as list-within-def
-use Rattle.playing.proofs.list_within.Symbol.{name as #playing·list-within}
-use Rattle.playing.proofs.list_within.Met as list-within-thm
-use Rattle.playing.proofs.entries_in as entries-in
-use Rattle.playing.proofs.entries_in.Symbol as entries-in-def
-use Rattle.playing.proofs.entries_in.Symbol.{name as #playing·entries-in}
-use Rattle.playing.proofs.entries_in.Met as entries-in-thm
-use Rattle.playing.proofs.fill_rows as fill-rows
-use Rattle.playing.proofs.fill_rows.Symbol as fill-rows-def
-use Rattle.playing.proofs.fill_rows.Symbol.{name as #playing·fill-rows}
-use Rattle.playing.proofs.fill_rows.Met as fill-rows-thm
-use Rattle.playing.proofs.rows.Key.{name as #playing·rows}
-use Rattle.playing.proofs.rows as f
-use Rattle.playing.proofs.rows.Statement as stated
-use Rattle.playing.proofs.rows.Code as code
-use Rattle.playing.proofs.rows.Code.Mir as body
+use Rattle.listing.proofs.Listed as L
+use Rattle.listing.proofs.Listed.Laws as L′
+use Rattle.listing.proofs.list_within as list-within
+use Rattle.listing.proofs.list_within.Symbol as list-within-def
+use Rattle.listing.proofs.list_within.Symbol.{name as #listing·list-within}
+use Rattle.listing.proofs.list_within.Met as list-within-thm
+use Rattle.listing.proofs.entries_in as entries-in
+use Rattle.listing.proofs.entries_in.Symbol as entries-in-def
+use Rattle.listing.proofs.entries_in.Symbol.{name as #listing·entries-in}
+use Rattle.listing.proofs.entries_in.Met as entries-in-thm
+use Rattle.listing.proofs.fill_rows as fill-rows
+use Rattle.listing.proofs.fill_rows.Symbol as fill-rows-def
+use Rattle.listing.proofs.fill_rows.Symbol.{name as #listing·fill-rows}
+use Rattle.listing.proofs.fill_rows.Met as fill-rows-thm
+use Rattle.listing.proofs.rows.Key.{name as #listing·rows}
+use Rattle.listing.proofs.rows as f
+use Rattle.listing.proofs.rows.Statement as stated
+use Rattle.listing.proofs.rows.Code as code
+use Rattle.listing.proofs.rows.Code.Mir as body
 
 abbrev stayed : Stays (f.ended .signature .params) (f.ended .kept)
 stayed = (stay-none-slice (0 ∷ []) tt (plain (λ _. u8)) yes, (stay-slice (1 ∷ []) tt (plain (λ _. u32)), (gave-slice (2 ∷ []) tt (plain (λ _. E.the-row)), tt)))
@@ -294,7 +294,7 @@ module _ {M : Type 1} (𝓤 : URA M) (H : Heap 𝓤) (A : Atoms 𝓤) (W : Given
     Counted zs u n = ‵ (row u32 fullShare zs b o) ∷ ‵ (flft κ₁ q₁) ∷ ‵ OwnMsg ∷ ‵ (fat fullShare L′.mir l₄ 0 u) ∷ ‵ (fat fullShare word l₅ 0 (vint w64 n)) ∷ ‵ (froom lentRefTy l₆ 0) ∷ ‵ (froom lentTy l₇ 0) ∷ ‵ (froom word l₈ 0) ∷ Rest
 
     -- the rows are filled, the list is closed, and the function returns
-    spreads : Triple 𝓤 (C #playing·fill-rows) (Fills 𝓤 H A mem run) → (r : Listed) (u : Val) (zs : List ℕ) (n : ℕ) → Is L.the-row r (u ∷ []) → n < 2 ^ 64 → Promised r zs → n ≡ entriesIn r
+    spreads : Triple 𝓤 (C #listing·fill-rows) (Fills 𝓤 H A mem run) → (r : Listed) (u : Val) (zs : List ℕ) (n : ℕ) → Is L.the-row r (u ∷ []) → n < 2 ^ 64 → Promised r zs → n ≡ entriesIn r
         → ent 𝓤 (⋆ 𝓤 H A (Counted zs u n)) (Wp 𝓤 H C Λ En body.t-6 (atReturn 𝓤 H En Post))
     spreads known r u zs n is n-fits p k =
         let same = cells-kept (m .now) ys rs p k in
@@ -323,7 +323,7 @@ module _ {M : Type 1} (𝓤 : URA M) (H : Heap 𝓤) (A : Atoms 𝓤) (W : Given
         by ! (exits r u zs ws room same (e .1 .1) (rows-made (m .now) ys rs p k (e .1 .0))))))))
 
     -- the answer's entries are counted
-    counts : Triple 𝓤 (C #playing·entries-in) (Counts 𝓤 H A mem run) → Triple 𝓤 (C #playing·fill-rows) (Fills 𝓤 H A mem run) → (r : Listed) (u : Val) (zs : List ℕ) → Is L.the-row r (u ∷ []) → Promised r zs
+    counts : Triple 𝓤 (C #listing·entries-in) (Counts 𝓤 H A mem run) → Triple 𝓤 (C #listing·fill-rows) (Fills 𝓤 H A mem run) → (r : Listed) (u : Val) (zs : List ℕ) → Is L.the-row r (u ∷ []) → Promised r zs
         → ent 𝓤 (⋆ 𝓤 H A (‵ (L.the-row .own r (u ∷ [])) ∷ ‵ (flft κ₁ q₁) ∷ ‵ OwnMsg ∷ ‵ (row u32 fullShare zs b o) ∷ ‵ (fat fullShare L′.mir l₄ 0 u) ∷ ‵ (froom word l₅ 0) ∷ ‵ (froom lentRefTy l₆ 0) ∷ ‵ (froom lentTy l₇ 0) ∷ ‵ (froom word l₈ 0) ∷ Rest))
         (Wp 𝓤 H C Λ En body.t-5 (atReturn 𝓤 H En Post))
     counts known known-fills r u zs is p =
@@ -338,7 +338,7 @@ module _ {M : Type 1} (𝓤 : URA M) (H : Heap 𝓤) (A : Atoms 𝓤) (W : Given
         toss ! $ move ! (2 ∷ 0 ∷ 1 ∷ []) $ by ! (spreads known-fills r u zs n is (is′ .1) p k)))))
 
     -- the cells are lent and filled
-    makes : Triple 𝓤 (C #playing·list-within) (Makes 𝓤 H A mem run) → Triple 𝓤 (C #playing·entries-in) (Counts 𝓤 H A mem run) → Triple 𝓤 (C #playing·fill-rows) (Fills 𝓤 H A mem run)
+    makes : Triple 𝓤 (C #listing·list-within) (Makes 𝓤 H A mem run) → Triple 𝓤 (C #listing·entries-in) (Counts 𝓤 H A mem run) → Triple 𝓤 (C #listing·fill-rows) (Fills 𝓤 H A mem run)
         → ent 𝓤 (⋆ 𝓤 H A (‵ (row u32 fullShare ys b o) ∷ ‵ (flft κ₁ q₁) ∷ ‵ OwnMsg ∷ ‵ (froom L′.mir l₄ 0) ∷ ‵ (froom word l₅ 0) ∷ ‵ (fat fullShare lentRefTy l₆ 0 (vptr b o)) ∷ ‵ (fat fullShare lentTy l₇ 0 listAt) ∷ ‵ (fat fullShare word l₈ 0 (vint w64 (length rs))) ∷ Rest))
         (Wp 𝓤 H C Λ En body.t-4 (atReturn 𝓤 H En Post))
     makes known known-counts known-fills =
@@ -362,7 +362,7 @@ module _ {M : Type 1} (𝓤 : URA M) (H : Heap 𝓤) (A : Atoms 𝓤) (W : Given
         ∷ (‵ (flft κ₁ q₁) ⊛ ‵ (flft κ₂ q₂) ⊛ ‵ (flft κ₃ q₃) ⊛ ‵ ftrue) ∷ ‵ (owns (ShrSlice (named 0) κ₁ u8 ∷ MutSlice (named 1) κ₂ u32 ∷ MutSlice (named 2) κ₃ E.the-row ∷ []) args at) ∷ []
 
     -- the list is opened
-    opens : Triple 𝓤 (C #playing·list-within) (Makes 𝓤 H A mem run) → Triple 𝓤 (C #playing·entries-in) (Counts 𝓤 H A mem run) → Triple 𝓤 (C #playing·fill-rows) (Fills 𝓤 H A mem run)
+    opens : Triple 𝓤 (C #listing·list-within) (Makes 𝓤 H A mem run) → Triple 𝓤 (C #listing·entries-in) (Counts 𝓤 H A mem run) → Triple 𝓤 (C #listing·fill-rows) (Fills 𝓤 H A mem run)
         → ent 𝓤 (⋆ 𝓤 H A Entered) (Wp 𝓤 H C Λ En body.t-1 (atReturn 𝓤 H En Post))
     opens known-makes known-counts known-fills =
         qed W Entered ∵ exec ! C Λ En body.t-1 (atRet En Post) $
@@ -396,13 +396,13 @@ module _ {M : Type 1} (𝓤 : URA M) (H : Heap 𝓤) (A : Atoms 𝓤) (W : Given
       pass1 ! (init ! 24 refl (tt, (tt, (record { fits = is .0 .1 .0 }, tt)))) $ pass1 ! (init ! 22 refl (tt, (tt, (record { fits = room .0 }, tt)))) $ pass1 ! (init ! 20 refl (tt, (tt, (record { fits = room′ .0 }, tt)))) $ pass0 ! $
       by ! (h l₀ l₁ l₂ l₃ l₄ l₅ l₆ l₇ l₈ l₉ l₁₀ l₁₁ l₁₂ l₁₃)))))))))))))))
 
-  walk : (𝓣 : Tables 𝓤 H) → Triple 𝓤 (𝓣 .C #playing·list-within) (Makes 𝓤 H A mem run) → Triple 𝓤 (𝓣 .C #playing·entries-in) (Counts 𝓤 H A mem run) → Triple 𝓤 (𝓣 .C #playing·fill-rows) (Fills 𝓤 H A mem run)
+  walk : (𝓣 : Tables 𝓤 H) → Triple 𝓤 (𝓣 .C #listing·list-within) (Makes 𝓤 H A mem run) → Triple 𝓤 (𝓣 .C #listing·entries-in) (Counts 𝓤 H A mem run) → Triple 𝓤 (𝓣 .C #listing·fill-rows) (Fills 𝓤 H A mem run)
       → Is (ShrSlice (named 0) κ₁ u8) m (msgAt ∷ []) → Room u32 (length ys) → Room E.the-row (length rs)
       → ent 𝓤 (onEntry 𝓤 H A f.signature κs (q₁, (q₂, (q₃, tt))) args at) (WpFn 𝓤 H (𝓣 .C) (𝓣 .Λ) code.function (msgAt ∷ listAt ∷ rowsAt ∷ []) Post)
   walk 𝓣 known-makes known-counts known-fills is room room′ = begins 𝓣 room room′ is body.t-1 (λ l₀ l₁ l₂ l₃ l₄ l₅ l₆ l₇ l₈ l₉ l₁₀ l₁₁ l₁₂ l₁₃. opens 𝓣 room room′ l₀ l₁ l₂ l₃ l₄ l₅ l₆ l₇ l₈ l₉ l₁₀ l₁₁ l₁₂ l₁₃ known-makes known-counts known-fills)
 
 module _ {M : Type 1} (𝓤 : URA M) (H : Heap 𝓤) (A : Atoms 𝓤) (W : Given 𝓤 H A) (mem : Memory → SProp 𝓤) (run : Routine → Fun 𝓤) (𝓣 : Tables 𝓤 H)
-    (known-makes : Triple 𝓤 (𝓣 .C #playing·list-within) (Makes 𝓤 H A mem run)) (known-counts : Triple 𝓤 (𝓣 .C #playing·entries-in) (Counts 𝓤 H A mem run)) (known-fills : Triple 𝓤 (𝓣 .C #playing·fill-rows) (Fills 𝓤 H A mem run)) where
+    (known-makes : Triple 𝓤 (𝓣 .C #listing·list-within) (Makes 𝓤 H A mem run)) (known-counts : Triple 𝓤 (𝓣 .C #listing·entries-in) (Counts 𝓤 H A mem run)) (known-fills : Triple 𝓤 (𝓣 .C #listing·fill-rows) (Fills 𝓤 H A mem run)) where
   walks : Walks 𝓤 H A f.ended stayed (WpFn 𝓤 H (𝓣 .C) (𝓣 .Λ) code.function) (f.clauses 𝓤 H A mem run)
   walks = walked 𝓤 H A f.ended stayed (f.clauses 𝓤 H A mem run) (WpFn 𝓤 H (𝓣 .C) (𝓣 .Λ) code.function) (λ κs. (slice-vals, (slice-vals, (slice-vals, tt))))
       (λ κs. (shr-slice-tells (named 0) (κs .0) u8, (mut-slice-tells (named 1) (κs .1 .0) u32, (mut-slice-tells (named 2) (κs .1 .1 .0) E.the-row, tt))))
@@ -419,8 +419,8 @@ pub rows-spec : {M : Type 1} → stated.statement M
 unfolding code.routine tablesOf
 rows-spec 𝓤 H 𝓜 𝓖 𝓡 =
     entered 𝓤 H (tripleOf 𝓤 H (𝓖 .A) f.signature (f.spec 𝓤 H (𝓖 .A) (𝓜 .mem) (𝓡 .run)))
-    (tables 𝓤 H 𝓜 𝓡 code.env .C) (tables 𝓤 H 𝓜 𝓡 code.env .Λ) #playing·rows code.function (code.unfolded 𝓤 H 𝓜 𝓡)
+    (tables 𝓤 H 𝓜 𝓡 code.env .C) (tables 𝓤 H 𝓜 𝓡 code.env .Λ) #listing·rows code.function (code.unfolded 𝓤 H 𝓜 𝓡)
     (meets 𝓤 H (𝓖 .A) (givenOf 𝓤 H 𝓜 𝓖) (𝓜 .mem) (𝓡 .run) (tablesOf 𝓤 H 𝓜 (tables 𝓤 H 𝓜 𝓡 code.env))
-    (cited 𝓤 H (Makes 𝓤 H (𝓖 .A) (𝓜 .mem) (𝓡 .run)) 𝓜 𝓡 code.env #playing·list-within list-within-def.routine code.calls-playing·list-within (list-within-thm.met 𝓤 H 𝓜 𝓖 𝓡))
-    (cited 𝓤 H (Counts 𝓤 H (𝓖 .A) (𝓜 .mem) (𝓡 .run)) 𝓜 𝓡 code.env #playing·entries-in entries-in-def.routine code.calls-playing·entries-in (entries-in-thm.met 𝓤 H 𝓜 𝓖 𝓡))
-    (cited 𝓤 H (Fills 𝓤 H (𝓖 .A) (𝓜 .mem) (𝓡 .run)) 𝓜 𝓡 code.env #playing·fill-rows fill-rows-def.routine code.calls-playing·fill-rows (fill-rows-thm.met 𝓤 H 𝓜 𝓖 𝓡)))
+    (cited 𝓤 H (Makes 𝓤 H (𝓖 .A) (𝓜 .mem) (𝓡 .run)) 𝓜 𝓡 code.env #listing·list-within list-within-def.routine code.calls-listing·list-within (list-within-thm.met 𝓤 H 𝓜 𝓖 𝓡))
+    (cited 𝓤 H (Counts 𝓤 H (𝓖 .A) (𝓜 .mem) (𝓡 .run)) 𝓜 𝓡 code.env #listing·entries-in entries-in-def.routine code.calls-listing·entries-in (entries-in-thm.met 𝓤 H 𝓜 𝓖 𝓡))
+    (cited 𝓤 H (Fills 𝓤 H (𝓖 .A) (𝓜 .mem) (𝓡 .run)) 𝓜 𝓡 code.env #listing·fill-rows fill-rows-def.routine code.calls-listing·fill-rows (fill-rows-thm.met 𝓤 H 𝓜 𝓖 𝓡)))

@@ -1,8 +1,8 @@
--- `playing::list_within` meets its contract.
+-- `listing::list_within` meets its contract.
 use borrow.Author.Needs.{needs}
-use Rattle.playing.proofs.list_within.Statement.{statement}
-use Rattle.playing.proofs.list_within.Tie as tie
-use Rattle.playing.proofs.Outcomes.{outcomes}
+use Rattle.listing.proofs.list_within.Statement.{statement}
+use Rattle.listing.proofs.list_within.Tie as tie
+use Rattle.listing.proofs.Outcomes.{outcomes}
 
 judge-requires : tie.Need-judge-requires
 judge-requires c κs = search needs
