@@ -1,15 +1,16 @@
--- The bits at a place of a message are bits of the four octets there.
+-- The bits at a place of a message are bits of the few octets there.
 use Prim.Native.Nat.{ℕ, zero, suc, _+_, _-_, _*_, _/_, _%_, _^_, _≤_, _<_}
 use native.Mathlib.Omega.{arith}
-use native.Mathlib.Nat.{add-zero, zero-add, add-assoc, mod-lt}
+use native.Mathlib.Nat.{add-zero, zero-add, add-assoc, mod-lt, zero-div, zero-mod, eq-or-lt-of-le}
 use mathlib.Core.Path.{_≡_, refl, sym, ap, _∙_}
 use mathlib.Core.Bool.{Bool}
+use mathlib.Core.Logic.{_⊎_, inl, inr}
 use mathlib.Core.List.{List, [], _∷_, _++_}
 use lib.ListN.{replicate, length-take, length-drop, take-append-drop, length, getD, take, drop, length-append}
-use lib.Seq.{drop-drop, getD-drop}
+use lib.Seq.{drop-cons, drop-drop, getD-drop}
 use lib.Pow.{field as pow-field, pow-pos, shl-exact, shl-shr, shr-shr, mod-mod-pow}
 use lib.Dec.{lit<, lit≤}
-use Rattle.bits.specs.Bits.{num, bitsN, bitsOf, field}
+use Rattle.bits.specs.Bits.{num, bitsN, bitsOf, field, octetsBefore, octetsTo, fillerTo}
 use Rattle.bits.specs.Window.{four, eight, Look, Sight}
 use Rattle.bits.proofs.Numbers.{length-bits, field-drop, field-front, field-num, num-append, num-bits, num-lt}
 use Rattle.bits.proofs.Octets.{length-bitsOf, bitsOf-append, drop-bitsOf}
@@ -21,7 +22,11 @@ front n m r o w h k =
     let e : bitsOf m ≡ bitsOf (take n m) ++ bitsOf (drop n m) = ap bitsOf (sym (take-append-drop n m)) ∙ bitsOf-append (take n m) (drop n m) in
     rw (e, bitsOf-append (take n m) r, field-front o w (bitsOf (take n m)) (bitsOf (drop n m)) l, field-front o w (bitsOf (take n m)) (bitsOf r) l)
 
-first-four : (m : List ℕ) → four m 0 ≡ take 4 m ++ replicate (4 - length m) 0
+-- zeros for those of n octets that are past the end
+abbrev padding : ℕ → List ℕ → List ℕ
+padding n m = replicate (n - length m) 0
+
+first-four : (m : List ℕ) → four m 0 ≡ take 4 m ++ padding 4 m
 first-four [] = refl
 first-four (x ∷ []) = refl
 first-four (x ∷ y ∷ []) = refl
@@ -31,7 +36,7 @@ first-four (x ∷ y ∷ z ∷ u ∷ m) = let e : 4 - length (x ∷ y ∷ z ∷ u
 four-drop : (m : List ℕ) (i : ℕ) → four (drop i m) 0 ≡ four m i
 four-drop m i = simp (getD-drop, add-zero)
 
-first-eight : (m : List ℕ) → eight m 0 ≡ take 8 m ++ replicate (8 - length m) 0
+first-eight : (m : List ℕ) → eight m 0 ≡ take 8 m ++ padding 8 m
 first-eight [] = refl
 first-eight (a ∷ []) = refl
 first-eight (a ∷ b ∷ []) = refl
@@ -45,14 +50,14 @@ first-eight (a ∷ b ∷ c ∷ d ∷ e ∷ f ∷ g ∷ h ∷ m) = let z : 8 - le
 eight-drop : (m : List ℕ) (i : ℕ) → eight (drop i m) 0 ≡ eight m i
 eight-drop m i = simp (getD-drop, add-zero, zero-add, add-assoc)
 
--- a field at a place is a field of the first n octets there
-within : (n : ℕ) (m : List ℕ) (i o w : ℕ) {r : List ℕ} → take n (drop i m) ++ replicate (n - length (drop i m)) 0 ≡ r → o + w ≤ 8 * n → 8 * i + o + w ≤ 8 * length m
+-- a field at a place is a field of the first n octets there, whatever follows those
+within : (n : ℕ) (m : List ℕ) (i o w : ℕ) (t : List ℕ) {r : List ℕ} → take n (drop i m) ++ t ≡ r → o + w ≤ 8 * n → 8 * i + o + w ≤ 8 * length m
     → field (bitsOf m) (8 * i + o) w ≡ field (bitsOf r) o w
-within n m i o w e h k =
+within n m i o w t e h k =
     let l : o + w ≤ 8 * length (drop i m) = rw (length-drop i m) (omega arith) in
     sym (field-drop (bitsOf m) (8 * i) o w)
     ∙ ap (λ (b : List Bool). field b o w) (drop-bitsOf i m)
-    ∙ front n (drop i m) (replicate (n - length (drop i m)) 0) o w h l
+    ∙ front n (drop i m) t o w h l
     ∙ ap (λ (x : List ℕ). field (bitsOf x) o w) e
 
 pub num-four : (x y z u : ℕ) → x < 256 → y < 256 → z < 256 → u < 256 → num (bitsOf (x ∷ y ∷ z ∷ u ∷ [])) ≡ x * 16777216 + y * 65536 + z * 256 + u
@@ -68,8 +73,11 @@ pub window-is : (m : List ℕ) (i : ℕ) {x y z u : ℕ} → (x ≡ getD m i 0) 
     → (u ≡ getD m (i + 3) 0) × (u < 256) → x * 16777216 + y * 65536 + z * 256 + u ≡ num (bitsOf (four m i))
 window-is m i {x} {y} {z} {u} hx hy hz hu = rw (← hx .0, ← hy .0, ← hz .0, ← hu .0) (sym (num-four x y z u (hx .1) (hy .1) (hz .1) (hu .1)))
 
+num-two : (x y : ℕ) → x < 256 → y < 256 → num (bitsOf (x ∷ y ∷ [])) ≡ x * 256 + y
+num-two x y hx hy = simp (num-append, length-append, length-bits, num-bits, hx, hy) (omega arith)
+
 -- two octets are enough for one at any place
-first-two : (m : List ℕ) → getD m 0 0 ∷ getD m 1 0 ∷ [] ≡ take 2 m ++ replicate (2 - length m) 0
+first-two : (m : List ℕ) → getD m 0 0 ∷ getD m 1 0 ∷ [] ≡ take 2 m ++ padding 2 m
 first-two [] = refl
 first-two (x ∷ []) = refl
 first-two (x ∷ y ∷ m) = let e : 2 - length (x ∷ y ∷ m) ≡ 0 = omega arith in rw e refl
@@ -81,12 +89,11 @@ octet-is m at i {x} {y} h ei hx hy =
     let f = at % 8 in
     let p : 8 * i + f ≡ at = omega arith in
     let d : getD (drop i m) 0 0 ∷ getD (drop i m) 1 0 ∷ [] ≡ x ∷ y ∷ [] = rw (getD-drop i m 0 0, getD-drop i m 1 0, add-zero i, hx .0, hy .0) refl in
-    let n : num (bitsOf (x ∷ y ∷ [])) ≡ x * 256 + y = simp (num-append, length-append, length-bits, num-bits, hx .1, hy .1) (omega arith) in
     let s : f + 8 + (8 - f) ≡ length (bitsOf (x ∷ y ∷ [])) = rw (length-bitsOf (x ∷ y ∷ [])) (omega arith) in
     sym (ap (λ (q : ℕ). field (bitsOf m) q 8) (sym p)
-    ∙ within 2 m i f 8 (sym (first-two (drop i m)) ∙ d) (omega arith) (omega arith)
+    ∙ within 2 m i f 8 (padding 2 (drop i m)) (sym (first-two (drop i m)) ∙ d) (omega arith) (omega arith)
     ∙ field-num (bitsOf (x ∷ y ∷ [])) f 8 (8 - f) s
-    ∙ ap (λ (q : ℕ). q / 2 ^ (8 - f) % 2 ^ 8) n)
+    ∙ ap (λ (q : ℕ). q / 2 ^ (8 - f) % 2 ^ 8) (num-two x y (hx .1) (hy .1)))
 
 -- a field of the low o + w + q digits
 low-field : (y o w q : ℕ) {t : ℕ} → o + w + q ≡ t → y % 2 ^ t / 2 ^ q % 2 ^ w ≡ y / 2 ^ q % 2 ^ w
@@ -106,7 +113,7 @@ look-is m at i {x} h ei e = record { at = go; small = mod-lt (x / 2 ^ (8 - at % 
         let g : 32 - (f + w) ≡ 8 - at % 8 + q = omega arith in
         field-drop (bitsOf m) at o w
         ∙ ap (λ (n : ℕ). field (bitsOf m) n w) (sym p)
-        ∙ within 4 m i f w (sym (first-four (drop i m)) ∙ four-drop m i) (omega arith) (omega arith)
+        ∙ within 4 m i f w (padding 4 (drop i m)) (sym (first-four (drop i m)) ∙ four-drop m i) (omega arith) (omega arith)
         ∙ field-num (bitsOf (four m i)) f w (32 - (f + w)) s
         ∙ ap (λ (n : ℕ). n / 2 ^ (32 - (f + w)) % 2 ^ w) (sym e)
         ∙ ap (λ (n : ℕ). x / 2 ^ n % 2 ^ w) g
@@ -145,22 +152,42 @@ moved-field n x r o w h =
     let up : x * 2 ^ r / 2 ^ (r + q) ≡ x / 2 ^ q = sym (shr-shr (x * 2 ^ r) r q) ∙ ap (λ (y : ℕ). y / 2 ^ q) (shl-shr x r) in
     low-field (x * 2 ^ r) o w (n - (o + w)) {t = n} (omega arith) ∙ ap (λ (y : ℕ). x * 2 ^ r / 2 ^ y % 2 ^ w) e ∙ ap (λ (y : ℕ). y % 2 ^ w) up
 
--- what `sight` computes
-pub sight-is : (m : List ℕ) (at i : ℕ) {x : ℕ} → at ≤ 8 * length m → i ≡ at / 8 → x ≡ num (bitsOf (eight m i)) → Sight 57 (drop at (bitsOf m)) (x * 2 ^ (at % 8) % 2 ^ 64)
-sight-is m at i {x} h ei e = record { at = go; small = mod-lt (x * 2 ^ (at % 8)) (pow-pos 64) }
+-- the first k bits at a place, out of octets r of which n stand there, moved by s to the top
+sight-of : (n : ℕ) (m : List ℕ) (at i k s : ℕ) (t : List ℕ) {r : List ℕ} {x : ℕ} → at ≤ 8 * length m → i ≡ at / 8 → take n (drop i m) ++ t ≡ r → k + at % 8 ≤ 8 * n → n ≤ length r
+    → s + 8 * length r ≡ 64 + at % 8 → x ≡ num (bitsOf r) → Sight k (drop at (bitsOf m)) (x * 2 ^ s % 2 ^ 64)
+sight-of n m at i k s t {r} {x} h ei er hk hn hs e = record { at = go; small = mod-lt (x * 2 ^ s) (pow-pos 64) }
   where
-    go : (o w : ℕ) → o + w ≤ 57 → o + w ≤ length (drop at (bitsOf m)) → field (drop at (bitsOf m)) o w ≡ x * 2 ^ (at % 8) % 2 ^ 64 / 2 ^ (64 - (o + w)) % 2 ^ w
-    go o w l k =
+    go : (o w : ℕ) → o + w ≤ k → o + w ≤ length (drop at (bitsOf m)) → field (drop at (bitsOf m)) o w ≡ x * 2 ^ s % 2 ^ 64 / 2 ^ (64 - (o + w)) % 2 ^ w
+    go o w l g =
         let f = at % 8 + o in
+        let q = 64 - (s + o + w) in
         let len : length (drop at (bitsOf m)) ≡ 8 * length m - at = length-left m at in
         let p : 8 * i + f ≡ at + o = omega arith in
-        let s : f + w + (64 - (f + w)) ≡ length (bitsOf (eight m i)) = rw (length-bitsOf (eight m i)) (omega arith) in
+        let z : f + w + q ≡ length (bitsOf r) = rw (length-bitsOf r) (omega arith) in
         field-drop (bitsOf m) at o w
-        ∙ ap (λ (n : ℕ). field (bitsOf m) n w) (sym p)
-        ∙ within 8 m i f w (sym (first-eight (drop i m)) ∙ eight-drop m i) (omega arith) (omega arith)
-        ∙ field-num (bitsOf (eight m i)) f w (64 - (f + w)) s
-        ∙ ap (λ (n : ℕ). n / 2 ^ (64 - (f + w)) % 2 ^ w) (sym e)
-        ∙ sym (moved-field 64 x (at % 8) o w (omega arith))
+        ∙ ap (λ (y : ℕ). field (bitsOf m) y w) (sym p)
+        ∙ within n m i f w t er (omega arith) (omega arith)
+        ∙ field-num (bitsOf r) f w q z
+        ∙ ap (λ (y : ℕ). y / 2 ^ q % 2 ^ w) (sym e)
+        ∙ sym (moved-field 64 x s o w (omega arith))
+
+-- what `sight` computes
+pub sight-is : (m : List ℕ) (at i : ℕ) {x : ℕ} → at ≤ 8 * length m → i ≡ at / 8 → x ≡ num (bitsOf (eight m i)) → Sight 57 (drop at (bitsOf m)) (x * 2 ^ (at % 8) % 2 ^ 64)
+sight-is m at i h ei e = sight-of 8 m at i 57 (at % 8) (padding 8 (drop i m)) h ei (sym (first-eight (drop i m)) ∙ eight-drop m i) (omega arith) (lit≤ tt) (omega arith) e
+
+-- what `through_octet` computes: the octet where the place stands and the first whole one, which may be the same
+pub through-is : (m : List ℕ) (at i j : ℕ) {x y : ℕ} → octetsTo at < length m → i ≡ octetsBefore at → j ≡ octetsTo at → (x ≡ getD m i 0) × (x < 256) → (y ≡ getD m j 0) × (y < 256)
+    → Sight (fillerTo at + 8) (drop at (bitsOf m)) ((x * 256 + y) * 2 ^ (48 + at % 8) % 2 ^ 64)
+through-is m at i j {x} {y} h ei ej hx hy =
+    let c = some (eq-or-lt-of-le (omega arith)) in
+    sight-of (c .0) m at i (fillerTo at + 8) (48 + at % 8) (c .1) (omega arith) ei (c .2) (c .3) (c .4) (omega arith) (sym (num-two x y (hx .1) (hy .1)))
+  where
+    -- how many of the two stand there one behind the other, and what follows those
+    some : (i ≡ j) ⊎ (i < j) → (n : ℕ) × (t : List ℕ) × (take n (drop i m) ++ t ≡ x ∷ y ∷ []) × (fillerTo at + 8 + at % 8 ≤ 8 * n) × (n ≤ 2)
+    some (inl e) = (1, y ∷ [], rw (drop-cons m i 0 (omega arith), hx .0) refl, omega arith, lit≤ tt)
+    some (inr l) =
+        let n : j ≡ suc i = omega arith in
+        (2, [], rw (drop-cons m i 0 (omega arith), drop-cons m (suc i) 0 (omega arith), hx .0, hy .0, n) refl, omega arith, lit≤ tt)
 
 -- what is left of a sight behind k bits
 pub sight-on : {n k x : ℕ} {b : List Bool} → Sight n b x → n ≤ 64 → k ≤ n → k ≤ length b → Sight (n - k) (drop k b) (x * 2 ^ k % 2 ^ 64)
@@ -171,3 +198,7 @@ sight-on {n} {k} {x} {b} s h l long = record { at = go; small = mod-lt (x * 2 ^ 
         let len = length-drop k b in
         let e : k + o + w ≡ k + (o + w) = omega arith in
         field-drop b k o w ∙ s .at (k + o) w (omega arith) (omega arith) ∙ sym (moved-field 64 x k o w (omega arith))
+
+-- a sight of 0 has zeros alone
+pub sight-zero : {n x : ℕ} {b : List Bool} (o w : ℕ) → Sight n b x → x ≡ 0 → o + w ≤ n → o + w ≤ length b → field b o w ≡ 0
+sight-zero o w s z h k = s .at o w h k ∙ (rw (z, zero-div (2 ^ (64 - (o + w))), zero-mod (2 ^ w)) refl)

@@ -2,7 +2,7 @@ ghost use mathlib.Core.Path.{_≡_};
 ghost use mathlib.Core.List.{[], _∷_};
 ghost use Prim.Native.Nat.{_+_, _-_, _*_, _/_, _%_, _^_, _≤_, _<_};
 ghost use lib.ListN.{length, getD, drop};
-ghost use Rattle.bits.specs.Bits.{bitsN, bitsOf, num, field, placeAfter, octetsBefore, octetsTo};
+ghost use Rattle.bits.specs.Bits.{bitsN, bitsOf, num, field, placeAfter, octetsBefore, octetsTo, fillerTo};
 ghost use Rattle.bits.specs.Window.{four, eight, Look, Sight};
 ghost use Rattle.bits.specs.Sink.{written, InHand, Stored, Put, Sealed};
 
@@ -114,6 +114,17 @@ pub fn octet_at(s: &[u8], at: BitPlace) -> u8
     let i = octets_before(at).0;
     let two = wide(s[i]) * 256 + wide(s[i + 1]);
     ((two >> (8 - at.0 % 8)) % 256) as u8
+}
+
+// The bits from a place through the first whole octet, on top of a number, whatever stands below them. Two octets hold them.
+pub fn through_octet(s: &[u8], at: BitPlace) -> u64
+    requires { ⌜ (at .0 < 2 ^ 63) × (octetsTo (at .0) < length (now s)) ⌝ }
+    ensures { λ r. ⌜ Sight (fillerTo (at .0) + 8) (drop (at .0) (bitsOf (now (s .entry)))) r ⌝ }
+{
+    let i = octets_before(at).0;
+    let j = octets_to(at).0;
+    let two = wide(s[i]) * 256 + wide(s[j]);
+    (two as u64) << (48 + at.0 % 8)
 }
 
 // The `w` bits that stand `o` bits into 24.

@@ -14,9 +14,10 @@ use Rattle.bits.specs.Choice.{pick}
 use Rattle.bits.specs.Bits.{bitsOf, field, fillerTo, placeAfter, octetsTo}
 use Rattle.bits.specs.declared.BitPlace.{BitPlace}
 use Rattle.bits.proofs.Choice.{pick-elim}
-use Rattle.bits.specs.Window.{Look}
+use Rattle.bits.specs.Window.{Look, Sight}
 use Rattle.bits.proofs.Octets.{length-bitsOf}
-use Rattle.bits.proofs.Looking.{seen}
+use Rattle.bits.proofs.Numbers.{field-drop}
+use Rattle.bits.proofs.Looking.{seen, length-left, sight-zero}
 use Rattle.tone.specs.Tone.{Front, perCharacter}
 use Rattle.tone.specs.Writing.{programming, unicodePart, sound}
 use Rattle.tone.specs.Reading.{Got, got, bad, onward, Reader, element, anyOf, part, fillerBit, filled, whetherUnicode, soundPart, parts, command, character, text, title, counted, titled, typed, front, ending}
@@ -357,6 +358,22 @@ module _ (m : List ℕ) (at : ℕ) {x y : ℕ} (ex : x ≡ placeAfter y) (ey : y
     pub ending-next : {v : ℕ} {f : BitPlace} {t : Step} → s ≡ Good v f → t ≡ stepOf (element 8 (eqb 0) 9 (bitsOf m) (f .0)) → t ≡ stepOf (ending (bitsOf m) at)
     unfolding ending
     ending-next g k = let b = step-there (element (fillerTo at) (eqb 0) 8 (bitsOf m) at) (sym g ∙ run) in rw b k
+
+-- both told at once: the bits through the first whole octet, which y octets reach, are zeros
+module _ (m : List ℕ) (at : ℕ) {x y : ℕ} (ey : y ≡ octetsTo at) (hy : y < length m) (s : Sight (fillerTo at + 8) (drop at (bitsOf m)) x) (z : x ≡ 0) where
+  zeros : (o w number : ℕ) → o + w ≤ fillerTo at + 8 → element w (eqb 0) number (bitsOf m) (at + o) ≡ got 0 (at + o + w)
+  zeros o w number h =
+      let k : at + o + w ≤ length (bitsOf m) = rw (length-bitsOf m) (omega arith) in
+      let e : field (bitsOf m) (at + o) w ≡ 0 = sym (field-drop (bitsOf m) at o w) ∙ sight-zero o w s z h (rw (length-left m at) (omega arith)) in
+      rw (element-good w (eqb 0) number (bitsOf m) (at + o) k (rw e refl), e)
+
+  pub ending-told : {p : BitPlace} → p .0 ≡ placeAfter (y + 1) → Good 0 p ≡ stepOf (ending (bitsOf m) at)
+  unfolding ending
+  ending-told {p} ep =
+      let f = fillerTo at in
+      let r : element f (eqb 0) 8 (bitsOf m) at ≡ got 0 (at + f) = rw (add-zero at) at (zeros 0 f 8 (omega arith)) in
+      let e : p .0 ≡ at + f + 8 = omega arith in
+      rw (r, zeros f 8 9 (omega arith)) (ap (λ (q : ℕ). Good 0 (place q)) e)
 
 pub ruleset commands = (element-within, filled-bad, filled-next, filled-within, sound-bad, sound-good, parts-bad, parts-plain, parts-unicode-bad, parts-unicode, any-within, command-cut, command-two, command-three, command-other, command-plain)
 

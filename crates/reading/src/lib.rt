@@ -553,8 +553,8 @@ pub fn open(msg: &[u8], at: BitPlace) -> Opening
 
 // ---- the end
 
-// Filler to an octet's boundary, and the end octet.
-pub fn ending(msg: &[u8], at: BitPlace) -> Step
+// Filler to an octet's boundary, and the end octet, element by element.
+fn ended(msg: &[u8], at: BitPlace) -> Step
     requires { ⌜ Within (now msg) (at .0) ⌝ }
     ensures { λ r. ⌜ r ≡ stepOf (endingDue (bitsOf (now (msg .entry))) (at .0)) ⌝ }
 {
@@ -567,6 +567,23 @@ pub fn ending(msg: &[u8], at: BitPlace) -> Step
         Step::Bad { number, at: fault } => Step::Bad { number, at: fault },
         Step::Good { value: _, next } => due(msg, next, 8, 0, 9),
     }
+}
+
+// The same. Where both are there and 0, it is told by two octets.
+pub fn ending(msg: &[u8], at: BitPlace) -> Step
+    requires { ⌜ Within (now msg) (at .0) ⌝ }
+    ensures { λ r. ⌜ r ≡ stepOf (endingDue (bitsOf (now (msg .entry))) (at .0)) ⌝ }
+{
+    let reached = bits::octets_to(at).0;
+    if reached < msg.len() {
+        if bits::through_octet(msg, at) == 0 {
+            return Step::Good {
+                value: 0,
+                next: bits::place_after(OctetCount(reached + 1)),
+            };
+        }
+    }
+    ended(msg, at)
 }
 
 // ---- what stands in a message that was judged

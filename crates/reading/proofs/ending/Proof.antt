@@ -2,57 +2,37 @@
 use borrow.Author.Needs.{needs}
 use Rattle.reading.proofs.ending.Statement.{statement}
 use Rattle.reading.proofs.ending.Tie as tie
-use Rattle.reading.proofs.Openings.{endings}
+use Rattle.reading.proofs.Openings.{ending-told}
 
 octets-to-requires : tie.Need-octets-to-requires
 octets-to-requires c κs = search needs
 
+through-octet-requires : tie.Need-through-octet-requires
+through-octet-requires c κs = search needs
+
+add-t10 : tie.Need-add-t10
+add-t10 c = search needs
+
 place-after-requires : tie.Need-place-after-requires
 place-after-requires c κs = search needs
 
-sub-filler : tie.Need-sub-filler
-sub-filler c = search needs
-
-cast-filler : tie.Need-cast-filler
-cast-filler c = search needs
-
-due-requires : tie.Need-due-requires
-due-requires c κs = search needs
-
 returns : tie.Need-returns
-returns c = search (endings, needs)
+returns c = search (ending-told, needs)
 
-due-requires-2 : tie.Need-due-requires-2
-due-requires-2 c κs = search needs
-
-enum-known-number : tie.Need-enum-known-number
-enum-known-number c = search needs
-
-enum-known-next : tie.Need-enum-known-next
-enum-known-next c = search needs
-
-due-requires-3 : tie.Need-due-requires-3
-due-requires-3 c κs = search (endings, needs)
+ended-requires : tie.Need-ended-requires
+ended-requires c κs = search needs
 
 returns-2 : tie.Need-returns-2
-returns-2 c = search (endings, needs)
-
-returns-3 : tie.Need-returns-3
-returns-3 c = search (endings, needs)
+returns-2 c = search needs
 
 pub ending-spec : {M : Type 1} → statement M
 ending-spec =
     tie.close
     (tie.spec
     octets-to-requires
+    through-octet-requires
+    add-t10
     place-after-requires
-    sub-filler
-    cast-filler
-    due-requires
     returns
-    due-requires-2
-    enum-known-number
-    enum-known-next
-    due-requires-3
-    returns-2
-    returns-3)
+    ended-requires
+    returns-2)
