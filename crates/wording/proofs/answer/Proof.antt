@@ -1,9 +1,9 @@
--- `play::answer` meets its contract.
+-- `wording::answer` meets its contract.
 use borrow.Author.Needs.{needs}
 use native.Mathlib.Omega.{arith}
-use Rattle.play.proofs.Answering.{made-fits, made-text, refused-small, refused-text}
-use Rattle.play.proofs.answer.Statement.{statement}
-use Rattle.play.proofs.answer.Tie as tie
+use Rattle.wording.proofs.Answering.{made-fits, made-text, refused-small, refused-text}
+use Rattle.wording.proofs.answer.Statement.{statement}
+use Rattle.wording.proofs.answer.Tie as tie
 
 list-requires : tie.Need-list-requires
 list-requires c κs = search needs

@@ -1,9 +1,8 @@
--- `play::put_mark` meets its contract.
+-- `wording::put_mark` meets its contract.
 use borrow.Author.Needs.{needs}
-use Rattle.play.proofs.Texts.{mark-none, mark-some}
-use borrow.Author.Needs.{needs}
-use Rattle.play.proofs.put_mark.Statement.{statement}
-use Rattle.play.proofs.put_mark.Tie as tie
+use Rattle.wording.proofs.Texts.{mark-none, mark-some}
+use Rattle.wording.proofs.put_mark.Statement.{statement}
+use Rattle.wording.proofs.put_mark.Tie as tie
 
 slice-aggregate-put-text : tie.Need-slice-aggregate-put-text
 slice-aggregate-put-text c = search needs

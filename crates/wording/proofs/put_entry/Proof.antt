@@ -1,9 +1,9 @@
--- `play::put_entry` meets its contract: five numbers are a line.
+-- `wording::put_entry` meets its contract: five numbers are a line.
 use borrow.Author.Needs.{needs}
 use native.Mathlib.Omega.{arith}
-use Rattle.play.proofs.Texts.{line-put}
-use Rattle.play.proofs.put_entry.Statement.{statement}
-use Rattle.play.proofs.put_entry.Tie as tie
+use Rattle.wording.proofs.Texts.{line-put}
+use Rattle.wording.proofs.put_entry.Statement.{statement}
+use Rattle.wording.proofs.put_entry.Tie as tie
 
 put-number-requires : tie.Need-put-number-requires
 put-number-requires c κs = search (line-put, needs)

@@ -7,7 +7,7 @@ use mathlib.Core.List.{List, [], _∷_, _++_, append-nil, append-assoc}
 use lib.ListN.{length, getD, take, drop, set, length-set, length-append}
 use lib.Seq.{getD-drop, take-add, take-suc, take-length, drop-cons, getD-set-same, drop-set-lt, take-set-le, take-suc-set, append-snoc, drop-drop}
 use borrow.Author.Tests.{eq-eqb, ne-eqb}
-use Rattle.play.specs.Text.{Added, digits, places, number, line, lines, markText, opening, refusal}
+use Rattle.wording.specs.Text.{Added, digits, places, number, line, lines, markText, opening, refusal}
 
 -- one octet more
 pub added-one : (out : List ℕ) (at v : ℕ) → at < length out → Added out at (v ∷ []) (set out at v) (at + 1)

@@ -1,9 +1,9 @@
--- `play::places` meets its contract: the tests of the code are those of the rule.
+-- `wording::places` meets its contract: the tests of the code are those of the rule.
 use borrow.Author.Needs.{needs}
 use Rattle.bits.proofs.Choice.{tests}
-use Rattle.play.specs.Text.{places}
-use Rattle.play.proofs.places.Statement.{statement}
-use Rattle.play.proofs.places.Tie as tie
+use Rattle.wording.specs.Text.{places}
+use Rattle.wording.proofs.places.Statement.{statement}
+use Rattle.wording.proofs.places.Tie as tie
 
 returns : tie.Need-returns
 unfolding places

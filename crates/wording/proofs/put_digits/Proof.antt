@@ -1,8 +1,8 @@
--- `play::put_digits` meets its contract. The digits are put from the last; those left fall.
-use Rattle.play.proofs.put_digits.Statement.{statement}
-use Rattle.play.proofs.put_digits.Tie as tie
+-- `wording::put_digits` meets its contract. The digits are put from the last; those left fall.
+use Rattle.wording.proofs.put_digits.Statement.{statement}
+use Rattle.wording.proofs.put_digits.Tie as tie
 use borrow.Author.Needs.{needs}
-use Rattle.play.proofs.Texts.{Spelling, spelling}
+use Rattle.wording.proofs.Texts.{Spelling, spelling}
 
 abbrev Inv-loop : tie.InvT-loop
 Inv-loop out₀ at k n i₀ rest₀ out i rest = Spelling out₀ at k n out i rest

@@ -1,9 +1,9 @@
--- `play::put_entries` meets its contract. Each turn puts one line more; the entries left fall.
-use Rattle.play.proofs.put_entries.Statement.{statement}
-use Rattle.play.proofs.put_entries.Tie as tie
+-- `wording::put_entries` meets its contract. Each turn puts one line more; the entries left fall.
+use Rattle.wording.proofs.put_entries.Statement.{statement}
+use Rattle.wording.proofs.put_entries.Tie as tie
 use borrow.Author.Needs.{needs}
 use Prim.Native.Nat.{_-_}
-use Rattle.play.proofs.Texts.{Lining, lining}
+use Rattle.wording.proofs.Texts.{Lining, lining}
 
 abbrev Inv-loop : tie.InvT-loop
 Inv-loop out₀ start list entries at₀ i₀ out at i = Lining out₀ start list entries out at i

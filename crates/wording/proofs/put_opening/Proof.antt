@@ -1,10 +1,9 @@
--- `play::put_opening` meets its contract.
+-- `wording::put_opening` meets its contract.
 use borrow.Author.Needs.{needs}
 use native.Mathlib.Omega.{arith}
-use Rattle.play.proofs.Texts.{opening-put}
-use borrow.Author.Needs.{needs}
-use Rattle.play.proofs.put_opening.Statement.{statement}
-use Rattle.play.proofs.put_opening.Tie as tie
+use Rattle.wording.proofs.Texts.{opening-put}
+use Rattle.wording.proofs.put_opening.Statement.{statement}
+use Rattle.wording.proofs.put_opening.Tie as tie
 
 slice-aggregate-put-text : tie.Need-slice-aggregate-put-text
 slice-aggregate-put-text c = search needs

@@ -22,8 +22,8 @@ use Rattle.playing.specs.declared.Listed.the-variants.{Made, Refused}
 use Rattle.sounding.specs.Playing.{Listing, playingList}
 use Rattle.sounding.specs.Listing.{listTone, listed, anyTooLong, fitsNumbers}
 use Rattle.playing.specs.Promise.{ListPromise, listAnswer}
-use Rattle.play.specs.Text.{Added, lines, opening, refusal, textOf, answerOf}
-use Rattle.play.proofs.Texts.{added-two}
+use Rattle.wording.specs.Text.{Added, lines, opening, refusal, textOf, answerOf}
+use Rattle.wording.proofs.Texts.{added-two}
 
 -- ---- a list that was made fits
 

@@ -1,11 +1,11 @@
--- `play::put_number` meets its contract.
+-- `wording::put_number` meets its contract.
 use borrow.Author.Needs.{needs}
-use Rattle.play.proofs.Texts.{number-put}
-use Rattle.play.proofs.put_number.Statement.{statement}
-use Rattle.play.proofs.put_number.Tie as tie
+use Rattle.wording.proofs.Texts.{number-put}
+use Rattle.wording.proofs.put_number.Statement.{statement}
+use Rattle.wording.proofs.put_number.Tie as tie
 
 places-requires : tie.Need-places-requires
-places-requires c κs = search (number-put, needs)
+places-requires c κs = search needs
 
 put-digits-requires : tie.Need-put-digits-requires
 put-digits-requires c κs = search (number-put, needs)
@@ -23,7 +23,7 @@ add-result-2 : tie.Need-add-result-2
 add-result-2 c = search (number-put, needs)
 
 same-length : tie.Need-same-length
-same-length c = search (number-put, needs)
+same-length c = search needs
 
 returns : tie.Need-returns
 returns c = search (number-put, needs)

@@ -1,10 +1,10 @@
--- `play::put_text` meets its contract. Each turn puts one octet more; the octets left fall.
-use Rattle.play.proofs.put_text.Statement.{statement}
-use Rattle.play.proofs.put_text.Tie as tie
+-- `wording::put_text` meets its contract. Each turn puts one octet more; the octets left fall.
+use Rattle.wording.proofs.put_text.Statement.{statement}
+use Rattle.wording.proofs.put_text.Tie as tie
 use borrow.Author.Needs.{needs}
 use Prim.Native.Nat.{_-_}
 use lib.ListN.{length}
-use Rattle.play.proofs.Texts.{Putting, putting}
+use Rattle.wording.proofs.Texts.{Putting, putting}
 
 abbrev Inv-loop : tie.InvT-loop
 Inv-loop out₀ at src i₀ out i = Putting out₀ at src out i

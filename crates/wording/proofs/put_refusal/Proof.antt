@@ -1,10 +1,9 @@
--- `play::put_refusal` meets its contract.
+-- `wording::put_refusal` meets its contract.
 use borrow.Author.Needs.{needs}
 use native.Mathlib.Omega.{arith}
-use Rattle.play.proofs.Texts.{refusal-put}
-use borrow.Author.Needs.{needs}
-use Rattle.play.proofs.put_refusal.Statement.{statement}
-use Rattle.play.proofs.put_refusal.Tie as tie
+use Rattle.wording.proofs.Texts.{refusal-put}
+use Rattle.wording.proofs.put_refusal.Statement.{statement}
+use Rattle.wording.proofs.put_refusal.Tie as tie
 
 slice-aggregate-put-text : tie.Need-slice-aggregate-put-text
 slice-aggregate-put-text c = search needs
