@@ -1,11 +1,30 @@
-// Runs the cases of labels and prints what the calls answer, two lines for each case.
+// Runs the cases of labels and prints what the calls answer, two lines for each case. What it must print was worked out
+// from the rules by other means.
+//
+// The cases are lines of standard input, each a letter, a space and what it says:
+//
+//   # ..      a remark, passed over
+//   t HEX     puts a title in hand
+//   s HEX     puts a stand-in in hand
+//   l NAME    takes the label of what is in hand, with characters of 8 bits and of 16
+//
+// A call leaves nothing in hand.
+//
+// A line of output has the name, the width, the numbers of the answer (0 for the title or 1 for the stand-in, and the
+// label's octets), and the label itself.
+//
+//   NAME, WIDTH bits: supplier octets: label
+ghost use Prim.Native.Nat.{_≤_};
+ghost use lib.ListN.{length};
 use label::Supplier;
 
-// Prints a number, and a space ahead of it.
-fn number(n: u64) {
-    io::write_all(1, b" ");
-    io::print_decimal(1, n);
+// How many octets of a title and of a stand-in are in hand.
+struct InHand {
+    title: usize,
+    stand_in: usize,
 }
+
+// ---- printing
 
 // Prints an octet as two hexadecimal digits, and a space ahead of them.
 fn octet(x: u8) {
@@ -22,16 +41,16 @@ fn octets(s: &[u8]) {
     }
 }
 
-// Prints the numbers of the answer: 0 for the title or 1 for the stand-in, and the label's octets.
+// Prints the numbers of the answer.
 fn show_supplied(title: &[u8], unicode: bool, stand_in: &[u8]) {
     match label::supplied(title, unicode, stand_in) {
         Supplier::Title(n) => {
-            number(0);
-            number(n.0 as u64);
+            io::write_all(1, b" 0");
+            vectors::number(n.0 as u64);
         }
         Supplier::StandIn(n) => {
-            number(1);
-            number(n.0 as u64);
+            io::write_all(1, b" 1");
+            vectors::number(n.0 as u64);
         }
     }
 }
@@ -54,59 +73,72 @@ fn case<'a, 'b: 'a>(name: &[u8], title: &'a [u8], stand_in: &'b [u8]) {
     show(title, true, stand_in);
 }
 
-// Nothing is left, in one width or in both.
-fn nothing() {
-    case(b"empty", b"", b"Tune");
-    case(b"one space", b"\x20", b"Tune");
-    case(b"spaces", b"\x20\x20\x20\x20", b"Tune");
-    case(b"16-bit spaces", b"\x00\x20\x00\x20", b"Tune");
-    case(b"forty spaces", &[32; 40], b"Tune");
+// ---- the text
+
+// Takes the label of what is in hand, as a line says.
+fn label_case<'a, 'b: 'a>(line: &[u8], hand: InHand, title: &'a [u8], stand_in: &'b [u8])
+    requires { ⌜ 2 ≤ length (now line) ⌝ }
+{
+    let title_end = hand.title;
+    let stand_in_end = hand.stand_in;
+    if title.len() < title_end {
+        return;
+    }
+    if stand_in.len() < stand_in_end {
+        return;
+    }
+    case(&line[2..], &title[0..title_end], &stand_in[0..stand_in_end]);
 }
 
-// Spaces inside and ahead stay.
-fn inner() {
-    case(b"inner", b"a\x20b", b"Tune");
-    case(b"inner and trailing", b"a\x20b\x20\x20\x20", b"Tune");
-    case(
-        b"16-bit inner and trailing",
-        b"\x00a\x00\x20\x00b\x00\x20\x00\x20",
-        b"Tune",
-    );
-    case(b"leading", b"\x20A", b"Tune");
+// Does what a line says, and answers what is then in hand.
+fn act(line: &[u8], hand: InHand, title: &mut [u8], stand_in: &mut [u8]) -> InHand {
+    if line.len() < 2 {
+        return hand;
+    }
+    let letter = line[0];
+    if letter == b't' {
+        return InHand {
+            title: vectors::add_octets(line, 2, title, 0),
+            stand_in: hand.stand_in,
+        };
+    }
+    if letter == b's' {
+        return InHand {
+            title: hand.title,
+            stand_in: vectors::add_octets(line, 2, stand_in, 0),
+        };
+    }
+    if letter == b'l' {
+        label_case(line, hand, title, stand_in);
+        return InHand {
+            title: 0,
+            stand_in: 0,
+        };
+    }
+    hand
 }
 
-// Other characters at the end stay.
-fn others() {
-    case(b"plain", b"A", b"Tune");
-    case(b"20 00", b"\x00A\x20\x00", b"Tune");
-    case(b"01 20", b"\x00A\x01\x20", b"Tune");
-    case(b"20 20", b"\x00A\x20\x20", b"Tune");
-    case(b"160", b"A\xa0", b"Tune");
-    case(b"16-bit 160", b"\x00A\x00\xa0", b"Tune");
-    case(b"tab", b"AB\x09", b"Tune");
-    case(b"zero", b"AB\x20\x00", b"Tune");
-}
-
-// Octets that are odd under UNICODE.
-fn odd() {
-    case(b"three octets", b"\x00A\x00", b"Tune");
-    case(b"odd spaces", b"\x00\x20\x20", b"Tune");
-    case(b"odd, spaces behind", b"\x00A\x00\x20\x20", b"Tune");
-}
-
-// Other stand-ins.
-fn stand_ins() {
-    case(b"empty stand-in", b"\x20\x20\x20", b"");
-    case(b"both empty", b"", b"");
-    case(b"stand-in of spaces", b"\x00\x20", b"\x20\x20\x20");
-    case(b"the same octets", b"Tune", b"Tune");
-    case(b"the same but for spaces", b"Tune\x20\x20", b"Tune");
+// Does what each line of a text says.
+fn run(text: &[u8]) {
+    let mut title = [0u8; 64];
+    let mut stand_in = [0u8; 64];
+    let mut hand = InHand {
+        title: 0,
+        stand_in: 0,
+    };
+    let mut at = 0;
+    while at < text.len() {
+        let end = vectors::line_end(text, at);
+        hand = act(&text[at..end], hand, &mut title, &mut stand_in);
+        at = end + 1;
+    }
 }
 
 fn main() {
-    nothing();
-    inner();
-    others();
-    odd();
-    stand_ins();
+    let mut text = [0u8; 2048];
+    let n = io::read_full(0, &mut text);
+    run(&text[..n]);
+    if n == text.len() {
+        io::write_all(1, b"there may be more cases than there is room for\n");
+    }
 }

@@ -40,7 +40,7 @@ fn octets(s: &[u8]) {
 }
 
 // Prints cells.
-fn cells(s: &[u32]) {
+pub fn cells(s: &[u32]) {
     let mut i = 0;
     while i < s.len() {
         number(wider(s[i]));

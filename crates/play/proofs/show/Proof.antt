@@ -1,7 +1,8 @@
--- `play::show` is safe.
-use borrow.Author.Needs.{needs}
+-- `play::show` is safe. The buffers are long: how long they are is a law, and not counted.
 use mathlib.Core.Path.{sym}
+use lib.Dec.{lit≤}
 use lib.Seq.{length-take-le}
+use Rattle.play.proofs.Rooms.{zeros-long, still-long, text-room}
 use Rattle.play.proofs.show.Statement.{statement}
 use Rattle.play.proofs.show.Tie as tie
 
@@ -9,22 +10,22 @@ slice-aggregate-answer : tie.Need-slice-aggregate-answer
 slice-aggregate-answer c = sym (length-take-le _ _ (c .before .before .pre))
 
 slice-aggregate-answer-2 : tie.Need-slice-aggregate-answer-2
-slice-aggregate-answer-2 c = search needs
+slice-aggregate-answer-2 c = zeros-long 8192
 
 slice-aggregate-answer-3 : tie.Need-slice-aggregate-answer-3
-slice-aggregate-answer-3 c = search needs
+slice-aggregate-answer-3 c = zeros-long 229440
 
 answer-requires : tie.Need-answer-requires
-answer-requires c κs = search needs
+answer-requires c κs = text-room 8192 229440 (lit≤ tt)
 
 slice-aggregate-write-text : tie.Need-slice-aggregate-write-text
-slice-aggregate-write-text c = search needs
+slice-aggregate-write-text c = still-long 229440 (c .before .before .before .answer .ensures .0)
 
 write-text-requires : tie.Need-write-text-requires
-write-text-requires c κs = search needs
+write-text-requires c κs = c .before .before .before .answer .ensures .1
 
 returns : tie.Need-returns
-returns c = search needs
+returns c = tt
 
 pub show-spec : {M : Type 1} → statement M
 show-spec =
