@@ -21,15 +21,9 @@ use Rattle.listing.specs.declared.Listed.{Listed}
 use Rattle.listing.specs.declared.Listed.the-variants.{Made, Refused}
 use Rattle.sounding.specs.Playing.{Listing, playingList}
 use Rattle.sounding.specs.Listing.{listTone, listed, anyTooLong, fitsNumbers}
-<<<<<<< HEAD:crates/play/proofs/Answering.antt
-use Rattle.listing.specs.Promise.{ListPromise, listAnswer}
-use Rattle.play.specs.Text.{Added, lines, opening, refusal, textOf, answerOf}
-use Rattle.play.proofs.Texts.{added-two}
-=======
 use Rattle.listing.specs.Promise.{ListPromise, listAnswer}
 use Rattle.wording.specs.Text.{Added, lines, opening, refusal, textOf, answerOf}
 use Rattle.wording.proofs.Texts.{added-two}
->>>>>>> play:crates/wording/proofs/Answering.antt
 
 -- ---- a list that was made fits
 
