@@ -222,6 +222,21 @@ fn edit_answer(answer: Answer) -> EditAnswer
     }
 }
 
+// Edits, and answers by the numbers. The three exports differ in the edit alone.
+fn edited(
+    buf: &mut [u8],
+    used: usize,
+    edit: Edit,
+    pattern: usize,
+    instruction: usize,
+    list: &mut [u32],
+) -> EditAnswer
+    ensures { λ r. ⌜ EditExport edit (now (buf .entry)) used pattern instruction (now (list .entry)) (now (buf .exit)) (now (list .exit)) r ⌝ }
+{
+    let used = OctetCount(used);
+    edit_answer(editing::edit_message(buf, used, edit, pattern, instruction, list))
+}
+
 // Puts another instruction in an instruction's place.
 #[no_mangle]
 pub extern "C" fn ohakelm_replace(
@@ -234,14 +249,7 @@ pub extern "C" fn ohakelm_replace(
 ) -> EditAnswer
     ensures { λ r. ⌜ EditExport (Replace cell) (now (buf .entry)) used pattern instruction (now (list .entry)) (now (buf .exit)) (now (list .exit)) r ⌝ }
 {
-    edit_answer(editing::edit_message(
-        buf,
-        OctetCount(used),
-        Edit::Replace(cell),
-        pattern,
-        instruction,
-        list,
-    ))
+    edited(buf, used, Edit::Replace(cell), pattern, instruction, list)
 }
 
 // Inserts an instruction before another one, or behind the last.
@@ -256,14 +264,7 @@ pub extern "C" fn ohakelm_insert(
 ) -> EditAnswer
     ensures { λ r. ⌜ EditExport (Insert cell) (now (buf .entry)) used pattern instruction (now (list .entry)) (now (buf .exit)) (now (list .exit)) r ⌝ }
 {
-    edit_answer(editing::edit_message(
-        buf,
-        OctetCount(used),
-        Edit::Insert(cell),
-        pattern,
-        instruction,
-        list,
-    ))
+    edited(buf, used, Edit::Insert(cell), pattern, instruction, list)
 }
 
 // Deletes an instruction.
@@ -277,14 +278,7 @@ pub extern "C" fn ohakelm_delete(
 ) -> EditAnswer
     ensures { λ r. ⌜ EditExport Delete (now (buf .entry)) used pattern instruction (now (list .entry)) (now (buf .exit)) (now (list .exit)) r ⌝ }
 {
-    edit_answer(editing::edit_message(
-        buf,
-        OctetCount(used),
-        Edit::Delete,
-        pattern,
-        instruction,
-        list,
-    ))
+    edited(buf, used, Edit::Delete, pattern, instruction, list)
 }
 
 // ---- bitmaps
