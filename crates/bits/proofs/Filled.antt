@@ -1,11 +1,11 @@
 -- A lent buffer that is filled from the front, one cell a turn.
-use Prim.Native.Nat.{ℕ, zero, suc, _+_, _≤_, _<_}
+use Prim.Native.Nat.{ℕ, suc, _+_, _≤_, _<_}
 use native.Mathlib.Omega.{arith}
 use native.Mathlib.Numerals.{add-one}
-use mathlib.Core.Path.{_≡_, refl, sym, ap, ap₂, _∙_}
-use mathlib.Core.List.{List, [], _∷_, _++_}
+use mathlib.Core.Path.{_≡_, sym, ap, ap₂, _∙_}
+use mathlib.Core.List.{List, _++_}
 use lib.ListN.{length, getD, take, drop, set, length-append, length-drop}
-use lib.Seq.{take-suc, drop-cons, take-length, take-all, append-snoc, set-at, length-take-le}
+use lib.Seq.{take-suc, drop-cons, take-length, append-snoc, set-at, length-take-le}
 use Rattle.bits.specs.Lent.{over}
 
 -- with i cells of t written over the old ones

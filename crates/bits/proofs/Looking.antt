@@ -1,5 +1,5 @@
 -- The bits at a place of a message are bits of the few octets there.
-use Prim.Native.Nat.{ℕ, zero, suc, _+_, _-_, _*_, _/_, _%_, _^_, _≤_, _<_}
+use Prim.Native.Nat.{ℕ, suc, _+_, _-_, _*_, _/_, _%_, _^_, _≤_, _<_}
 use native.Mathlib.Omega.{arith}
 use native.Mathlib.Nat.{add-zero, zero-add, add-assoc, mod-lt, zero-div, zero-mod, eq-or-lt-of-le}
 use mathlib.Core.Path.{_≡_, refl, sym, ap, _∙_}
@@ -7,7 +7,7 @@ use mathlib.Core.Bool.{Bool}
 use mathlib.Core.Logic.{_⊎_, inl, inr}
 use mathlib.Core.List.{List, [], _∷_, _++_}
 use lib.ListN.{replicate, length-take, length-drop, take-append-drop, length, getD, take, drop, length-append}
-use lib.Seq.{drop-cons, drop-drop, getD-drop}
+use lib.Seq.{drop-cons, getD-drop}
 use lib.Pow.{field as pow-field, pow-pos, shl-exact, shl-shr, shr-shr, mod-mod-pow}
 use lib.Dec.{lit<, lit≤}
 use Rattle.bits.specs.Bits.{num, bitsN, bitsOf, field, octetsBefore, octetsTo, fillerTo}

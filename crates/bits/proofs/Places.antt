@@ -1,8 +1,8 @@
 -- Places and counts of octets.
-use Prim.Native.Nat.{ℕ, _+_, _-_, _*_, _/_, _≤_, _<_}
+use Prim.Native.Nat.{ℕ, _+_, _-_, _<_}
 use native.Mathlib.Omega.{arith}
 use mathlib.Core.Path.{_≡_}
-use Rattle.bits.specs.Bits.{placeAfter, octetsBefore, octetsTo, fillerTo}
+use Rattle.bits.specs.Bits.{placeAfter, octetsTo, fillerTo}
 
 -- the filler ends at an octet's boundary
 pub filled : (p : ℕ) → p + fillerTo p ≡ placeAfter (octetsTo p)

@@ -1,9 +1,9 @@
 -- Bits that are written one after the other: whole octets in a buffer, and fewer than 32 bits in hand.
-use Prim.Native.Nat.{ℕ, _+_, _*_, _^_, _≤_, _<_}
+use Prim.Native.Nat.{ℕ, _+_, _^_, _<_}
 use mathlib.Core.Path.{_≡_}
 use mathlib.Core.Bool.{Bool, false}
 use mathlib.Core.List.{List, _++_}
-use lib.ListN.{length, take, drop, replicate}
+use lib.ListN.{take, drop, replicate}
 use Rattle.bits.specs.Bits.{bitsN, bitsOf, placeAfter, octetsTo, fillerTo}
 
 -- the bits of the octets written, and the n bits in hand, which spell acc

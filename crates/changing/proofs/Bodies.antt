@@ -1,22 +1,19 @@
 -- A tone stays well formed when one body is edited.
-use Prim.Native.Nat.{ℕ, zero, suc, _+_, _-_, _*_, _/_, _%_, _^_, _≤_, _<_}
+use Prim.Native.Nat.{ℕ, zero, suc, _+_, _-_, _^_, _≤_, _<_}
 use native.Mathlib.Omega.{arith}
-use native.Mathlib.Nat.{add-zero}
-use native.Mathlib.Numerals.{add-one}
 use mathlib.Core.Path.{_≡_, refl, sym, ap, ap₂, subst, _∙_}
 use mathlib.Core.Bool.{Bool, true, false, _&&_}
 use mathlib.Core.List.{List, [], _∷_, _++_, append-assoc}
-use lib.ListN.{length, getD, take, drop, set, length-append, length-take, length-drop, length-set}
+use lib.ListN.{length, take, drop, set, length-append, length-drop, length-set}
 use lib.Seq.{length-take-le}
-use lib.Dec.{leb, ltb, eqb}
+use lib.Dec.{ltb}
 use borrow.Author.Tests.{ltb-true, leb-true, eqb-false, ne-eqb}
-use Rattle.bits.specs.Choice.{pick}
-use Rattle.tone.specs.Table.{kind, payload, width, allowed, isInstruction, InTable, Instruction}
-use Rattle.tone.specs.Tone.{Pattern, Tone, Front, frontOf, specifier, partOf, header, cells, recallable, learn, noneKnown, Instructions, Sound, Sequence, Formed}
-use Rattle.tone.proofs.Rows.{and-true, is-instruction, header-small}
+use Rattle.tone.specs.Table.{kind, payload, width, allowed, isInstruction, Instruction}
+use Rattle.tone.specs.Tone.{Pattern, Tone, frontOf, specifier, partOf, header, cells, recallable, learn, noneKnown, Instructions, Sound, Sequence, Formed}
+use Rattle.tone.proofs.Rows.{and-true, is-instruction}
 use Rattle.changing.specs.declared.Edit.{Edit}
 use Rattle.changing.specs.declared.Edit.the-variants.{Replace, Insert, Delete}
-use Rattle.changing.specs.Change.{carried, removed, bodyAfter, withBody, patternAt, patternsAfter, changed, isNew, carriesNew, inBody, isThere, empties, overfills}
+use Rattle.changing.specs.Change.{carried, removed, bodyAfter, withBody, patternAt, changed, isNew, carriesNew, inBody, empties, overfills}
 
 -- ---- instructions
 

@@ -1,19 +1,18 @@
 -- The instruction that an edit carries: judged, as bits, and its notes.
-use Prim.Native.Nat.{ℕ, zero, suc, _+_, _-_, _*_, _/_, _%_, _^_, _≤_, _<_}
+use Prim.Native.Nat.{ℕ, _+_, _-_, _*_, _%_, _^_, _≤_, _<_}
 use native.Mathlib.Omega.{arith}
 use native.Mathlib.Nat.{lt-of-lt-of-le}
-use mathlib.Core.Path.{_≡_, refl, sym, ap, ap₂, subst, _∙_}
-use mathlib.Core.Bool.{Bool, true, false, _&&_}
-use mathlib.Core.List.{List, [], _∷_, append-nil}
-use lib.Dec.{leb, ltb}
-use lib.Pow.{pow-mono, pow-pos, shl-exact}
+use mathlib.Core.Path.{_≡_, refl, sym, ap, _∙_}
+use mathlib.Core.Bool.{Bool, true, false}
+use mathlib.Core.List.{[], _∷_, append-nil}
+use lib.Pow.{pow-mono, shl-exact}
 use borrow.Author.Tests.{le-leb, lt-leb, lt-ltb, le-ltb}
 use mir.Val.{Fits}
 use mir.Syntax.{w32}
 use Rattle.bits.specs.Bits.{bitsN}
 use Rattle.bits.proofs.Numbers.{bits-append, join-lt, shl-one}
-use Rattle.tone.specs.Table.{kind, payload, width, allowed, Instruction}
-use Rattle.tone.specs.Writing.{entryBits, tableBits}
+use Rattle.tone.specs.Table.{kind, payload, width, allowed}
+use Rattle.tone.specs.Writing.{entryBits}
 use Rattle.reading.specs.Answers.{noteIn, notes}
 use Rattle.changing.specs.declared.Edit.{Edit}
 use Rattle.changing.specs.declared.Edit.the-variants.{Replace, Insert, Delete}

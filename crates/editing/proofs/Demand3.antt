@@ -1,31 +1,27 @@
 -- Demand 3 of the rules: an edit is as good as starting over.
-use Prim.Native.Nat.{ℕ, zero, suc, _+_, _-_, _*_, _/_, _%_, _^_, _≤_, _<_}
+use Prim.Native.Nat.{ℕ, suc, _+_, _-_, _*_, _^_, _≤_, _<_}
 use native.Mathlib.Omega.{arith}
-use native.Mathlib.Nat.{add-assoc}
-use native.Mathlib.Numerals.{add-one}
 use mathlib.Core.Path.{_≡_, refl, sym, ap, ap₂, subst, _∙_}
-use mathlib.Core.Logic.{_↔_}
 use mathlib.Core.Bool.{Bool, true, false, _&&_}
-use mathlib.Core.List.{List, [], _∷_, _++_, append-assoc, append-nil}
+use mathlib.Core.List.{List, [], _∷_, _++_, append-assoc}
 use lib.ListN.{length, getD, take, drop, set, length-append, length-set, take-append-drop}
-use lib.Seq.{set-split, split-at, drop-cons, take-at, drop-at, take-set-le, getD-set-same, drop-drop}
-use lib.Dec.{leb, ltb, eqb}
-use borrow.Author.Tests.{ltb-true, leb-true, eqb-true, eqb-false, le-leb, lt-leb, lt-ltb, eq-eqb, ne-eqb}
-use Rattle.bits.specs.Choice.{pick}
-use Rattle.bits.specs.Bits.{bitsN, bitsOf, Octets}
+use lib.Seq.{split-at, drop-cons, take-at, drop-at, take-set-le, getD-set-same, drop-drop}
+use lib.Dec.{leb, ltb}
+use borrow.Author.Tests.{ltb-true, leb-true, eqb-false, le-leb, lt-ltb, ne-eqb}
+use Rattle.bits.specs.Bits.{bitsN}
 use Rattle.bits.specs.Outcome.{Outcome, accepted, refused}
 use Rattle.bits.proofs.Choice.{pick-elim}
 use Rattle.bits.proofs.Numbers.{length-bits, bits-append}
-use Rattle.tone.specs.Table.{kind, payload, width, InTable, Instruction}
+use Rattle.tone.specs.Table.{kind, payload, width, Instruction}
 use Rattle.tone.specs.Tone.{Pattern, Tone, frontOf, header, cells, noneKnown, Instructions, Sound, Formed}
-use Rattle.tone.specs.Writing.{entryBits, tableBits, frontBits, songBits, endBits, toneBits, toneLength, toneOctets, mostOctets, WellFormed}
+use Rattle.tone.specs.Writing.{entryBits, tableBits, frontBits, songBits, endBits, toneBits, toneLength, toneOctets, mostOctets}
 use Rattle.tone.specs.Reading.{readTone}
-use Rattle.tone.proofs.Rows.{and-true, tableBits-append, header-small}
+use Rattle.tone.proofs.Rows.{and-true, tableBits-append}
 use Rattle.tone.proofs.Demand2.{written-is-accepted}
 use Rattle.changing.specs.declared.Edit.{Edit}
 use Rattle.changing.specs.declared.Edit.the-variants.{Replace, Insert, Delete}
-use Rattle.changing.specs.Change.{carried, removed, bodyAfter, withBody, patternAt, patternsAfter, changed, isNew, carriesNew, inBody, isThere, empties, overfills, headerPlace, instructionPlace}
-use Rattle.changing.proofs.Bodies.{cells-append, Fits, fits, carried-instructions, changed-formed, sound-at, front-same}
+use Rattle.changing.specs.Change.{carried, removed, bodyAfter, withBody, patternAt, changed, isNew, carriesNew, inBody, isThere, empties, overfills, headerPlace, instructionPlace}
+use Rattle.changing.proofs.Bodies.{cells-append, fits, carried-instructions, changed-formed, sound-at, front-same}
 use Rattle.editing.specs.Editing.{bodyLength, editTone}
 
 -- ---- the bits ahead of the edited instruction

@@ -1,19 +1,15 @@
 -- Demand 3 of the rules, for a whole message: when an edit is accepted, and as what.
 use Prim.Native.Nat.{ℕ, _*_, _≤_}
-use native.Mathlib.Omega.{arith}
 use mathlib.Core.Path.{_≡_, refl, sym, ap, subst, _∙_}
 use mathlib.Core.Logic.{_↔_}
-use mathlib.Core.Bool.{Bool}
-use mathlib.Core.List.{List, _++_, append-nil}
-use lib.ListN.{length, take, drop-of-length-le}
+use mathlib.Core.List.{List}
+use lib.ListN.{length, take}
 use lib.Dec.{leb}
 use borrow.Author.Tests.{leb-true, le-leb}
-use Rattle.bits.specs.Bits.{bitsOf}
 use Rattle.bits.specs.Outcome.{Outcome, accepted, refused}
 use Rattle.bits.proofs.Choice.{pick-elim}
-use Rattle.bits.proofs.Octets.{length-bitsOf}
-use Rattle.tone.specs.Tone.{Tone, Formed}
-use Rattle.tone.specs.Writing.{toneBits, toneLength, mostOctets}
+use Rattle.tone.specs.Tone.{Tone}
+use Rattle.tone.specs.Writing.{toneLength, mostOctets}
 use Rattle.tone.specs.Reading.{readTone}
 use Rattle.tone.proofs.Demand2.{read-formed}
 use Rattle.sounding.specs.Playing.{Listing, playingList}

@@ -4,7 +4,7 @@ use native.Mathlib.Omega.{arith}
 use mathlib.Core.Path.{_≡_, refl, sym, ap, ap₂, subst, _∙_}
 use mathlib.Core.Bool.{Bool}
 use mathlib.Core.List.{List, _++_}
-use lib.ListN.{length, take, replicate, length-append}
+use lib.ListN.{length, take, replicate}
 use lib.Seq.{take-length, length-take-le}
 use lib.Dec.{leb}
 use lib.IntN.{ℤ, pos, _-ℤ_}
@@ -14,10 +14,8 @@ use Rattle.bits.specs.Bits.{bitsOf, octetsTo}
 use Rattle.bits.specs.Lent.{over}
 use Rattle.bits.specs.Outcome.{Outcome, accepted, refused}
 use Rattle.bits.specs.declared.BitPlace.{BitPlace}
-use Rattle.bits.specs.declared.OctetCount.{OctetCount}
-use Rattle.bits.proofs.Octets.{length-bitsOf}
-use Rattle.tone.specs.Tone.{Pattern, Tone, frontOf, cells, noneKnown, Formed}
-use Rattle.tone.specs.Writing.{tableBits, frontBits, songBits, endBits, toneBits, toneLength, toneOctets, mostOctets, WellFormed}
+use Rattle.tone.specs.Tone.{Pattern, Tone, frontOf, cells, noneKnown}
+use Rattle.tone.specs.Writing.{tableBits, frontBits, endBits, toneBits, toneLength, toneOctets, mostOctets, WellFormed}
 use Rattle.tone.specs.Reading.{got, patternsDue, readTone}
 use Rattle.tone.proofs.Demand2.{octets-are, one-tone, written-is-accepted, length-toneOctets}
 use Rattle.reading.specs.Answers.{Within, place, octetCount}

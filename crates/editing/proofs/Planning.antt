@@ -1,17 +1,16 @@
 -- What each return of the functions that plan an edit shows.
 use Prim.Native.Nat.{ℕ, suc, _+_, _-_, _*_, _%_, _≤_, _<_}
 use native.Mathlib.Omega.{arith}
-use mathlib.Core.Path.{_≡_, refl, sym, ap, ap₂, subst, _∙_}
+use mathlib.Core.Path.{_≡_, refl, sym, ap, ap₂, _∙_}
 use mathlib.Core.Bool.{Bool, true, false, not, _&&_}
 use mathlib.Core.List.{List, [], _∷_, _++_}
 use lib.ListN.{length, take, drop, set, length-append, length-set, take-append-drop}
-use lib.Seq.{split-at, drop-drop, take-add}
+use lib.Seq.{split-at, take-add}
 use lib.Dec.{leb, ltb}
-use borrow.Author.Tests.{not-true, not-false, le-ltb, lt-ltb, ltb-true, ltb-false, eq-eqb}
+use borrow.Author.Tests.{not-true, not-false, le-ltb, lt-ltb, ltb-true, eq-eqb}
 use mir.Val.{Fits}
 use mir.Syntax.{w32}
 use Rattle.bits.specs.Choice.{pick}
-use Rattle.bits.specs.Bits.{bitsOf}
 use Rattle.bits.specs.Outcome.{Outcome, accepted, refused}
 use Rattle.bits.specs.declared.BitPlace.{BitPlace}
 use Rattle.bits.specs.declared.OctetCount.{OctetCount}
@@ -28,7 +27,7 @@ use Rattle.judging.specs.declared.Judged.{Judged}
 use Rattle.judging.specs.declared.Judged.the-variants.{Sound, Faulty}
 use Rattle.counting.specs.Bodies.{noBodies}
 use Rattle.counting.specs.Counting.{entryCount, markFrom}
-use Rattle.judging.specs.Wishes.{grants, granted, wished, placeIn, cutOf, noCut}
+use Rattle.judging.specs.Wishes.{grants, wished, placeIn, cutOf, noCut}
 use Rattle.judging.specs.Answers.{totalOf, judgedFor}
 use Rattle.reader.proofs.Told.{Told, told}
 use Rattle.changing.specs.declared.Edit.{Edit}

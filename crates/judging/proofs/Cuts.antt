@@ -6,24 +6,22 @@ use mathlib.Core.Bool.{Bool, true, false}
 use mathlib.Core.List.{List, _++_}
 use lib.ListN.{length, take, drop, length-append, length-drop}
 use lib.Seq.{drop-drop, take-add}
-use lib.Dec.{eqb}
 use borrow.Author.Tests.{eq-eqb, ne-eqb}
-use Rattle.bits.specs.Choice.{pick}
 use Rattle.bits.specs.declared.BitPlace.{BitPlace}
 use Rattle.tone.specs.Writing.{tableBits}
 use Rattle.tone.proofs.Rows.{tableBits-append}
-use Rattle.reading.specs.Answers.{place, notes}
+use Rattle.reading.specs.Answers.{notes}
 use Rattle.reading.proofs.Walks.{notes-more}
 use Rattle.changing.specs.Change.{carried, removed, bodyAfter}
 use Rattle.changing.specs.Answers.{groundOf}
-use Rattle.changing.proofs.Bodies.{Fits, length-after}
+use Rattle.changing.proofs.Bodies.{Fits}
 use Rattle.changing.proofs.Grounds.{no-ground}
 use Rattle.judging.specs.declared.Wish.{Wish}
 use Rattle.judging.specs.declared.Cut.{Cut}
 use Rattle.judging.specs.declared.Own.{Own}
 use Rattle.judging.specs.declared.Gone.{Gone}
 use Rattle.reading.specs.Standing.{bodyIn, behindIn, BodyAt, PartAt}
-use Rattle.judging.specs.Wishes.{grants, granted, placeIn, cutOf, OwnOf, Owned}
+use Rattle.judging.specs.Wishes.{grants, placeIn, OwnOf, Owned}
 use Rattle.counting.proofs.Bodies.{notes-most}
 use Rattle.judging.proofs.Overs.{Standing, known-of, drop-stands, may-go, went-to, went-notes, notes-cut}
 

@@ -1,13 +1,12 @@
 -- What each return of `rest`, `judge_for` and `judge` shows.
-use Prim.Native.Nat.{ℕ, zero, suc, _+_, _-_, _*_, _/_, _%_, _^_, _≤_, _<_}
+use Prim.Native.Nat.{ℕ, _+_, _-_, _≤_, _<_}
 use native.Mathlib.Omega.{arith}
 use native.Mathlib.Nat.{zero-add}
 use mathlib.Core.Path.{_≡_, refl, sym, ap, ap₂, _∙_}
-use mathlib.Core.Bool.{Bool, true, false}
-use mathlib.Core.List.{List, [], _∷_}
-use lib.ListN.{length, take, set}
+use mathlib.Core.Bool.{Bool}
+use mathlib.Core.List.{List}
+use lib.ListN.{length, take}
 use lib.Seq.{set-out}
-use lib.Dec.{ltb, eqb}
 use borrow.Author.Tests.{lt-ltb, le-ltb, eq-eqb, ne-eqb}
 use Rattle.bits.specs.Bits.{bitsOf, placeAfter}
 use Rattle.bits.specs.Choice.{pick}
@@ -28,13 +27,13 @@ use Rattle.reading.specs.declared.Opening.{Opening}
 use Rattle.reading.specs.declared.Opening.the-variants.{Opened, Closed}
 use Rattle.judging.specs.declared.Judged.{Judged}
 use Rattle.judging.specs.declared.Judged.the-variants.{Sound, Faulty}
-use Rattle.reading.specs.Answers.{Within, place, stepOf, entries, openingOf, octetCount}
+use Rattle.reading.specs.Answers.{Within, place, stepOf, openingOf, octetCount}
 use Rattle.judging.specs.declared.Tally.{Tally}
 use Rattle.judging.specs.declared.Tally.the-variants.{Counted, Stopped}
 use Rattle.judging.specs.declared.Wish.{Wish}
 use Rattle.judging.specs.declared.Total.{Total}
 use Rattle.judging.specs.Wishes.{granted, noWish, noCut, cutOf}
-use Rattle.judging.specs.Answers.{totalAs, plainly, totalOf, tallyAs, judgedAs, judgedFor, judgedOf}
+use Rattle.judging.specs.Answers.{totalAs, plainly, totalOf, tallyAs, judgedFor, judgedOf}
 use Rattle.reading.proofs.Steps.{step-there, step-bad}
 use Rattle.reading.proofs.Walks.{stays}
 

@@ -1,5 +1,5 @@
 -- Going over instructions.
-use Prim.Native.Nat.{ℕ, _+_, _-_, _*_, _≤_, _<_}
+use Prim.Native.Nat.{ℕ, _+_, _-_, _≤_, _<_}
 use native.Mathlib.Omega.{arith}
 use native.Mathlib.Nat.{zero-add}
 use mathlib.Core.Path.{_≡_, refl, sym, ap, subst, _∙_}
@@ -7,7 +7,6 @@ use mathlib.Core.Bool.{Bool}
 use mathlib.Core.List.{List, [], _∷_, _++_, append-assoc}
 use lib.ListN.{length, take, drop, length-append, take-append-drop}
 use lib.Seq.{length-take-le}
-use lib.Dec.{eqb}
 use Rattle.bits.specs.Bits.{bitsOf}
 use Rattle.bits.proofs.Octets.{length-bitsOf}
 use Rattle.tone.specs.Tone.{Instructions}

@@ -1,18 +1,17 @@
 -- Patterns are judged and counted, one a turn.
-use Prim.Native.Nat.{ℕ, zero, suc, _+_, _-_, _*_, _≤_, _<_}
+use Prim.Native.Nat.{ℕ, suc, _+_, _-_, _*_, _≤_, _<_}
 use native.Mathlib.Omega.{arith}
-use native.Mathlib.Nat.{add-zero, zero-add, add-assoc, mul-one, mul-le-mul, le-trans}
+use native.Mathlib.Nat.{add-zero, zero-add, add-assoc, le-trans}
 use mathlib.Core.Path.{_≡_, refl, sym, ap, ap₂, subst, _∙_}
 use mathlib.Core.Bool.{Bool, true, false}
-use mathlib.Core.List.{List, [], _∷_, _++_, map}
-use lib.ListN.{length, getD, set, replicate, length-append, length-map, List·getD-map}
-use lib.Seq.{getD-set-same, set-getD}
+use mathlib.Core.List.{List, [], _∷_}
+use lib.ListN.{length, getD, set, replicate, length-append, length-map}
+use lib.Seq.{getD-set-same}
 use lib.Dec.{eqb}
-use borrow.Author.Tests.{eqb-true, eq-eqb, ne-eqb}
 use Rattle.bits.specs.Choice.{pick}
 use Rattle.bits.specs.Bits.{bitsOf}
 use Rattle.bits.specs.declared.BitPlace.{BitPlace}
-use Rattle.bits.proofs.Choice.{pick-cong, pick-elim}
+use Rattle.bits.proofs.Choice.{pick-elim}
 use Rattle.bits.proofs.Octets.{length-bitsOf}
 use Rattle.tone.specs.Tone.{Pattern, cells, specifier, loopOf, partOf, header, pattern, noneKnown, learn}
 use Rattle.tone.specs.Writing.{entryBits, tableBits}
@@ -32,7 +31,7 @@ use Rattle.judging.specs.declared.Cut.{Cut}
 use Rattle.judging.specs.declared.Own.{Own}
 use Rattle.judging.specs.declared.Total.{Total}
 use Rattle.judging.specs.declared.Tally.the-variants.{Counted, Stopped}
-use Rattle.counting.specs.Bodies.{Remembered, unknown, known, recalled, noBodies, noMark, passesOf, bodyOf, remember}
+use Rattle.counting.specs.Bodies.{Remembered, noBodies, passesOf, bodyOf, remember}
 use Rattle.counting.specs.Counting.{entryCount, markOf, markFrom, noCount, counted}
 use Rattle.reading.specs.Standing.{bodyIn, PartAt}
 use Rattle.judging.specs.Wishes.{wished, leftAt, noCut, cutOf, cutIn, Owned}

@@ -8,7 +8,7 @@ use mathlib.Core.List.{List, [], _∷_, _++_}
 use lib.ListN.{length, take, set, length-append}
 use lib.Seq.{set-out}
 use lib.Dec.{eqb, ltb}
-use borrow.Author.Tests.{eq-eqb, ne-eqb, eqb-true, lt-ltb, le-ltb, ltb-true, ltb-false}
+use borrow.Author.Tests.{eq-eqb, ne-eqb, eqb-true, ltb-true, ltb-false}
 use Rattle.bits.specs.Choice.{pick}
 use Rattle.bits.proofs.Choice.{pick-elim}
 use Rattle.tone.specs.Tone.{Pattern, header, cells}

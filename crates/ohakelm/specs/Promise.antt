@@ -1,12 +1,11 @@
 -- What each export promises: its answer holds the numbers of document 01, and every lent cell is as the rules say.
 use Prim.Native.Nat.{ℕ}
 use mathlib.Core.Path.{_≡_}
-use mathlib.Core.Bool.{Bool, true, false}
+use mathlib.Core.Bool.{Bool}
 use mathlib.Core.List.{List}
 use lib.ListN.{length, take, drop}
 use Rattle.bits.specs.Choice.{pick}
-use Rattle.bits.specs.Outcome.{Outcome, accepted, refused}
-use Rattle.tone.specs.Tone.{Tone}
+use Rattle.bits.specs.Outcome.{Outcome}
 use Rattle.reader.specs.Promise.{Numbers as ReadNumbers, readNumbers, readInto, tableAfter, titleAfter}
 use Rattle.writing.specs.Judging.{writeTone}
 use Rattle.writing.specs.Promise.{Numbers as WriteNumbers, writeNumbers, octetsAfter}
@@ -18,7 +17,7 @@ use Rattle.listing.specs.Promise.{Numbers as ListNumbers, listNumbers, cellsAft
 use Rattle.changing.specs.declared.Edit.{Edit}
 use Rattle.editing.specs.Editing.{Edited, editMessage, bufferAfter, listAfter}
 use Rattle.editing.specs.Promise.{Numbers as EditNumbers, editNumbers}
-use Rattle.bitmap.specs.Bitmap.{Bitmap, reading, writingInto}
+use Rattle.bitmap.specs.Bitmap.{reading, writingInto}
 use Rattle.bitmap.specs.Promises.{ReadNumbers as BitmapNumbers, readNumbers as bitmapNumbers, imageOf, imageStart, WriteNumbers as BitmapWritten, writeNumbers as bitmapWritten, lentAfter}
 use Rattle.ohakelm.specs.declared.ToneAnswer.{ToneAnswer}
 use Rattle.ohakelm.specs.declared.WrittenAnswer.{WrittenAnswer}

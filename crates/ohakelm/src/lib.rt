@@ -1,5 +1,4 @@
 ghost use mathlib.Core.Path.{_≡_};
-ghost use Prim.Native.Nat.{_+_};
 ghost use lib.ListN.{length};
 ghost use Rattle.listing.specs.Promise.{numbersOf as listedNumbers};
 ghost use Rattle.editing.specs.Promise.{numbersOf as editNumbers};

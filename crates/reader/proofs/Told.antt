@@ -1,27 +1,25 @@
 -- What each return of `read` shows.
-use Prim.Native.Nat.{ℕ, zero, suc, _+_, _-_, _*_, _/_, _%_, _^_, _≤_, _<_}
+use Prim.Native.Nat.{ℕ, zero, suc, _+_, _-_, _*_, _/_, _^_, _≤_, _<_}
 use native.Mathlib.Omega.{arith}
-use native.Mathlib.Nat.{lt-of-lt-of-le}
 use mathlib.Core.Path.{_≡_, refl, sym, ap, ap₂, subst, _∙_}
 use mathlib.Core.Bool.{Bool, true, false, _&&_}
-use mathlib.Core.List.{List, [], _∷_, _++_, append-assoc, append-nil}
+use mathlib.Core.List.{List, [], _∷_, _++_, append-assoc}
 use lib.ListN.{length, drop, length-append}
 use lib.Seq.{drop-at}
 use lib.Dec.{leb, eqb}
-use lib.Pow.{pow-pos}
 use borrow.Author.Tests.{le-leb, lt-leb, eq-eqb, ne-eqb}
 use Rattle.bits.specs.Choice.{pick}
-use Rattle.bits.specs.Bits.{bitsN, bitsOf, Octets}
+use Rattle.bits.specs.Bits.{bitsN, bitsOf}
 use Rattle.bits.specs.Lent.{over}
 use Rattle.bits.specs.Outcome.{Outcome, accepted, refused}
 use Rattle.bits.specs.declared.BitPlace.{BitPlace}
 use Rattle.bits.specs.declared.OctetCount.{OctetCount}
 use Rattle.bits.proofs.Numbers.{length-bits}
 use Rattle.bits.proofs.Octets.{length-bitsOf}
-use Rattle.tone.specs.Table.{kind, payload, width, allowed, InTable}
+use Rattle.tone.specs.Table.{kind, width, allowed, InTable}
 use Rattle.tone.specs.Tone.{Pattern, Tone, Front, frontOf, header, cells, characters, perCharacter, learn, Instructions, Sequence, Formed, FrontFormed}
-use Rattle.tone.specs.Writing.{commandBits, titleBits, tableBits, frontBits, songBits, endBits, toneBits, toneLength, mostOctets}
-use Rattle.tone.specs.Reading.{wholeTone, got, readTone}
+use Rattle.tone.specs.Writing.{commandBits, titleBits, tableBits, frontBits, songBits, endBits, toneBits, mostOctets}
+use Rattle.tone.specs.Reading.{readTone}
 use Rattle.tone.proofs.Rows.{header-small}
 use Rattle.tone.proofs.Demand2.{Says, read-says, core-reads}
 use Rattle.judging.specs.declared.Total.{Total}
@@ -32,7 +30,7 @@ use Rattle.reader.specs.declared.Reading.the-variants.{Read, Refused}
 use Rattle.reading.specs.Answers.{Within, place, entries, octetCount}
 use Rattle.judging.specs.Answers.{plainly, judgedOf}
 use Rattle.reader.specs.Judging.{Entries, TableAt, OctetsAt, tableOf, titleOf}
-use Rattle.reader.specs.Promise.{roomed, readInto, numbers, readNumbers, readAnswer, tableAfter, titleAfter, ReadPromise}
+use Rattle.reader.specs.Promise.{readInto, numbers, readNumbers, readAnswer, tableAfter, titleAfter, ReadPromise}
 
 -- ---- what stands where in a message that was accepted
 

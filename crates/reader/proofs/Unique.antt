@@ -1,15 +1,14 @@
 -- The promise of `read` decides every number returned and every cell lent.
 use Prim.Native.Nat.{ℕ}
 use native.Mathlib.Omega.{arith}
-use mathlib.Core.Path.{_≡_, refl, sym, ap, _∙_}
-use mathlib.Core.Bool.{Bool}
+use mathlib.Core.Path.{_≡_, sym, _∙_}
 use mathlib.Core.List.{List}
 use lib.ListN.{length}
 use Rattle.bits.specs.Outcome.{Outcome, accepted, refused}
 use Rattle.bits.specs.declared.BitPlace.{BitPlace}
 use Rattle.tone.specs.Tone.{Tone}
 use Rattle.reader.specs.declared.Reading.{Reading}
-use Rattle.reader.specs.declared.Reading.the-variants.{Read, Refused}
+use Rattle.reader.specs.declared.Reading.the-variants.{Refused}
 use Rattle.reader.specs.Promise.{readInto, numbers, readAnswer, tableAfter, titleAfter, ReadPromise}
 
 module _ {m table title : List ℕ} where

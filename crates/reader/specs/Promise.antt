@@ -1,9 +1,9 @@
 -- The promise of `read`.
 use Prim.Native.Nat.{ℕ}
 use mathlib.Core.Path.{_≡_}
-use mathlib.Core.Bool.{Bool, true, false, _&&_}
-use mathlib.Core.List.{List, [], _∷_, _++_}
-use lib.ListN.{length, drop}
+use mathlib.Core.Bool.{Bool, false, _&&_}
+use mathlib.Core.List.{List}
+use lib.ListN.{length}
 use lib.Dec.{leb}
 use Rattle.bits.specs.Choice.{pick}
 use Rattle.bits.specs.Lent.{over}

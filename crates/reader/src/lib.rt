@@ -1,9 +1,7 @@
 ghost use mathlib.Core.Path.{_≡_};
-ghost use mathlib.Core.Bool.{Bool};
-ghost use mathlib.Core.List.{List};
-ghost use Prim.Native.Nat.{ℕ, _+_, _*_, _/_, _^_, _≤_, _<_};
+ghost use Prim.Native.Nat.{_+_, _*_, _/_, _^_, _≤_, _<_};
 ghost use lib.ListN.{length};
-ghost use Rattle.bits.specs.Bits.{bitsOf, placeAfter};
+ghost use Rattle.bits.specs.Bits.{placeAfter};
 ghost use Rattle.bits.specs.Lent.{over};
 ghost use Rattle.tone.specs.Tone.{perCharacter};
 ghost use Rattle.reading.specs.Answers.{Within};

@@ -1,29 +1,26 @@
 -- What each return of the functions that read an element shows.
 use Prim.Native.Nat.{ℕ, zero, suc, _+_, _-_, _*_, _/_, _%_, _^_, _≤_, _<_}
 use native.Mathlib.Omega.{arith}
-use native.Mathlib.Nat.{add-zero, add-assoc, lt-of-lt-of-le}
-use mathlib.Core.Path.{_≡_, refl, sym, ap, ap₂, _∙_}
-use mathlib.Core.Bool.{Bool, true, false, _&&_}
-use mathlib.Core.List.{List, [], _∷_}
+use native.Mathlib.Nat.{add-zero, lt-of-lt-of-le}
+use mathlib.Core.Path.{_≡_, refl, sym, ap, _∙_}
+use mathlib.Core.Bool.{Bool, true, false}
+use mathlib.Core.List.{List}
 use lib.ListN.{length, getD, drop}
-use lib.Dec.{leb, ltb, eqb, lit≤}
+use lib.Dec.{eqb, lit≤}
 use lib.Pow.{pow-mono}
 use borrow.Author.Tests.{eq-eqb, ne-eqb, le-leb, lt-leb}
 use mir.Val.{Fits}
 use mir.Syntax.{w32}
-use Rattle.bits.specs.Choice.{pick}
 use Rattle.bits.specs.Bits.{bitsOf, field}
 use Rattle.bits.specs.Window.{Look}
 use Rattle.bits.proofs.Octets.{length-bitsOf}
 use Rattle.bits.proofs.Looking.{seen}
-use Rattle.reading.specs.declared.Step.{Step}
 use Rattle.reading.specs.declared.Step.the-variants.{Good, Bad}
-use Rattle.tone.specs.Table.{entry, width, allowed, isInstruction}
+use Rattle.tone.specs.Table.{width, allowed, isInstruction}
 use Rattle.tone.specs.Tone.{specifier, partOf, recallable}
-use Rattle.tone.specs.Reading.{got, bad, element, headerDue, instructionDue}
+use Rattle.tone.specs.Reading.{got, element, headerDue, instructionDue}
 use Rattle.reading.specs.Answers.{place, stepOf}
 use Rattle.tone.proofs.Exact.{element-good, element-bad, element-cut}
-use Rattle.tone.proofs.Rows.{width-most}
 
 -- r bits are left at a place
 module _ (m : List ℕ) (at : ℕ) {r : ℕ} (hr : r + at ≡ 8 * length m) where

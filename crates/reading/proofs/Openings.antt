@@ -18,7 +18,7 @@ use Rattle.bits.specs.Window.{Look, Sight}
 use Rattle.bits.proofs.Octets.{length-bitsOf}
 use Rattle.bits.proofs.Numbers.{field-drop}
 use Rattle.bits.proofs.Looking.{seen, length-left, sight-zero}
-use Rattle.tone.specs.Tone.{Front, perCharacter}
+use Rattle.tone.specs.Tone.{perCharacter}
 use Rattle.tone.specs.Writing.{programming, unicodePart, sound}
 use Rattle.tone.specs.Reading.{Got, got, bad, onward, Reader, element, anyOf, part, fillerBit, filled, whetherUnicode, soundPart, parts, command, character, text, title, counted, titled, typed, front, ending}
 use Rattle.tone.proofs.Exact.{element-inside, element-small, element-good, element-cut, judged-cut, judged-good, judged-bad}

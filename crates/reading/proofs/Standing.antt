@@ -1,24 +1,19 @@
 -- The entry that stands at a place of a message.
-use Prim.Native.Nat.{ℕ, zero, suc, _+_, _-_, _*_, _/_, _%_, _^_, _≤_, _<_}
+use Prim.Native.Nat.{ℕ, _+_, _-_, _*_, _/_, _%_, _^_, _≤_, _<_}
 use native.Mathlib.Omega.{arith}
-use native.Mathlib.Nat.{add-zero, add-assoc}
-use native.Mathlib.Numerals.{add-one}
-use mathlib.Core.Path.{_≡_, refl, sym, ap, ap₂, subst, _∙_}
+use native.Mathlib.Nat.{add-zero}
+use mathlib.Core.Path.{_≡_, refl, sym, ap, _∙_}
 use mathlib.Core.Bool.{Bool}
-use mathlib.Core.List.{List, [], _∷_, _++_, append-assoc}
-use lib.ListN.{length, getD, take, drop, set, length-append, length-drop}
-use lib.Seq.{take-at, drop-at, drop-drop, drop-cons}
-use mir.Val.{Fits}
-use mir.Syntax.{w64}
-use Rattle.bits.specs.Bits.{num, bitsN, bitsOf, field, Octets}
-use Rattle.bits.specs.Lent.{over}
+use mathlib.Core.List.{List, _++_, append-assoc}
+use lib.ListN.{length, drop, length-append, length-drop}
+use lib.Seq.{take-at, drop-at, drop-drop}
+use Rattle.bits.specs.Bits.{num, bitsN, bitsOf, field}
 use Rattle.bits.specs.Window.{Look}
 use Rattle.bits.proofs.Numbers.{length-bits, num-bits}
 use Rattle.bits.proofs.Octets.{length-bitsOf}
 use Rattle.bits.proofs.Looking.{seen}
-use Rattle.bits.proofs.Filled.{filledTo, filled-more, filled-all, length-filled}
-use Rattle.tone.specs.Table.{kind, payload, width, InTable}
-use Rattle.tone.specs.Writing.{entryBits, tableBits}
+use Rattle.tone.specs.Table.{kind, payload, width}
+use Rattle.tone.specs.Writing.{entryBits}
 use Rattle.tone.proofs.Rows.{width-most, length-entryBits}
 use Rattle.reading.specs.Answers.{Within, EntryAt, SomeEntry, Passed}
 use Rattle.reading.proofs.Elements.{note-width}

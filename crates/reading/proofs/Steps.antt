@@ -1,10 +1,8 @@
 -- What an answer of the code says of the reading behind it.
-use Prim.Native.Nat.{ℕ, zero, suc, _+_, _-_, _*_, _/_, _%_, _^_, _≤_, _<_}
+use Prim.Native.Nat.{ℕ, _-_}
 use native.Mathlib.Omega.{arith}
 use mathlib.Core.Path.{_≡_, refl, sym, ap, _∙_}
-use mathlib.Core.List.{List}
 use Rattle.bits.specs.declared.BitPlace.{BitPlace}
-use Rattle.reading.specs.declared.Step.{Step}
 use Rattle.reading.specs.declared.Step.the-variants.{Good, Bad}
 use Rattle.tone.specs.Reading.{Got, got, bad, onward}
 use Rattle.reading.specs.Answers.{place, stepAs, stepOf}

@@ -1,16 +1,15 @@
 -- What the code answers of an element that was due.
-use Prim.Native.Nat.{ℕ, _+_, _*_, _^_, _≤_, _<_}
-use mathlib.Core.Bool.{Bool, true, false}
+use Prim.Native.Nat.{ℕ, _+_, _^_, _≤_, _<_}
+use mathlib.Core.Bool.{Bool}
 use mathlib.Core.Path.{_≡_}
 use mathlib.Core.List.{List, [], _∷_, _++_}
 use lib.ListN.{length, drop}
 use lib.Dec.{eqb}
 use Rattle.bits.specs.Choice.{pick}
-use Rattle.bits.specs.Bits.{bitsOf, Octets, placeAfter}
+use Rattle.bits.specs.Bits.{bitsOf, placeAfter}
 use Rattle.bits.specs.declared.BitPlace.{BitPlace}
 use Rattle.bits.specs.declared.OctetCount.{OctetCount}
 use Rattle.bits.specs.Window.{Sight}
-use Rattle.bits.specs.Outcome.{Outcome, accepted, refused}
 use Rattle.reading.specs.declared.Step.{Step}
 use Rattle.reading.specs.declared.Step.the-variants.{Good, Bad}
 use Rattle.reading.specs.declared.Command.{Command}
@@ -19,8 +18,8 @@ use Rattle.reading.specs.declared.Opening.{Opening}
 use Rattle.reading.specs.declared.Opening.the-variants.{Opened, Closed}
 use Rattle.tone.specs.Table.{kind}
 use Rattle.tone.specs.Table.{InTable}
-use Rattle.tone.specs.Tone.{Pattern, Tone, Front, frontOf, cells}
-use Rattle.tone.specs.Writing.{entryBits, tableBits, frontBits}
+use Rattle.tone.specs.Tone.{Pattern, Front, cells}
+use Rattle.tone.specs.Writing.{entryBits}
 use Rattle.tone.specs.Reading.{Got, got, bad, instructionDue}
 
 -- a place within a message, whose bits a place can count

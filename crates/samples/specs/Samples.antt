@@ -1,20 +1,19 @@
 -- P1 to P12 of document 01, one collection with a single claim.
 use Prim.Native.Nat.{ℕ}
 use mathlib.Core.Path.{_≡_}
-use mathlib.Core.Bool.{Bool, true, false}
+use mathlib.Core.Bool.{false}
 use mathlib.Core.List.{List, [], _∷_, _++_}
 use lib.IntN.{pos, negsuc}
 use Rattle.bits.specs.Outcome.{Outcome, accepted, refused}
 use Rattle.tone.specs.Tone.{Tone, cells}
 use Rattle.tone.specs.Writing.{toneOctets}
 use Rattle.tone.specs.Reading.{readTone}
-use Rattle.sounding.specs.declared.Entry.{Entry}
 use Rattle.sounding.specs.Duration.{beats, units, microseconds}
 use Rattle.sounding.specs.Playing.{Listing, playingList}
 use Rattle.counting.specs.Bodies.{noMark}
 use Rattle.changing.specs.declared.Edit.the-variants.{Insert, Delete}
 use Rattle.editing.specs.Editing.{Edited, editMessage, bufferAfter}
-use Rattle.editing.specs.Promise.{Numbers, editNumbers}
+use Rattle.editing.specs.Promise.{editNumbers}
 use Rattle.bitmap.specs.Samples.{P11, P12}
 
 -- P1: a temporary song with part A: tempo code 14, then A, quarter

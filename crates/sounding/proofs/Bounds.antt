@@ -1,11 +1,11 @@
 -- The bounds of a tone's list: its settings, its entries and their number.
-use Prim.Native.Nat.{ℕ, zero, suc, _+_, _*_, _^_, _≤_, _<_}
+use Prim.Native.Nat.{ℕ, zero, suc, _+_, _*_, _^_, _≤_}
 use native.Mathlib.Omega.{arith}
 use native.Mathlib.Nat.{mul-le-mul, le-trans}
 use mathlib.Core.Path.{_≡_, refl}
 use mathlib.Core.Bool.{Bool, true, false}
 use mathlib.Core.List.{List, [], _∷_, _++_}
-use lib.ListN.{length, getD, set}
+use lib.ListN.{length}
 use lib.Dec.{eqb, leb}
 use borrow.Author.Tests.{eqb-true, leb-true, lt-leb}
 use Rattle.bits.proofs.Choice.{pick-elim}
@@ -16,12 +16,12 @@ use Rattle.sounding.specs.declared.Entry.{Entry}
 use Rattle.sounding.specs.Sounding.{atStart, applied, sounded}
 use Rattle.sounding.specs.Ranges.{InRange, Bounded, AllBounded}
 use Rattle.sounding.specs.Playing.{Played, step, pass, passes, Listing, patternPlayed, play, playingList}
-use Rattle.counting.specs.Bodies.{passesOf, Remembered, unknown, known, recalled, noBodies, isRecall, bodyOf, remember}
+use Rattle.counting.specs.Bodies.{passesOf, Remembered, noBodies, bodyOf, remember}
 use Rattle.reading.specs.Answers.{notes}
 use Rattle.counting.specs.Counting.{entryCount}
 use Rattle.counting.proofs.Bodies.{Each, each-start, each-sounds, each-kept, Body, none-body, sound-body, notes-most, passes-most}
 use Rattle.sounding.specs.Listing.{anyTooLong}
-use Rattle.sounding.proofs.Below.{both, at-each}
+use Rattle.sounding.proofs.Below.{both}
 use Rattle.sounding.proofs.Durations.{duration-most}
 use Rattle.sounding.proofs.Counts.{list-count}
 

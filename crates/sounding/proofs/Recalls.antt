@@ -1,16 +1,15 @@
 -- A recall is listed as a definition with the nearest earlier body of its id.
-use native.Mathlib.Omega.{arith}
-use Prim.Native.Nat.{ℕ, zero, suc, _<_}
+use Prim.Native.Nat.{ℕ, _<_}
 use mathlib.Core.Path.{_≡_, refl, sym, ap, _∙_}
 use mathlib.Core.Bool.{Bool, true, false}
-use mathlib.Core.List.{List, [], _∷_, _++_, map}
-use lib.ListN.{length, getD, set, length-set, getD-replicate, List·getD-map}
+use mathlib.Core.List.{List, [], _∷_, _++_}
+use lib.ListN.{length, getD, set, getD-replicate, List·getD-map}
 use lib.Seq.{getD-set-same, getD-set-other, set-getD}
 use lib.Dec.{eqb}
 use borrow.Author.Tests.{eqb-true, eqb-false}
 use Rattle.bits.specs.Choice.{pick}
 use Rattle.bits.proofs.Choice.{pick-elim}
-use Rattle.tone.specs.Tone.{Pattern, specifier, partOf, pattern, header, noneKnown, learn, Sound, Sequence}
+use Rattle.tone.specs.Tone.{Pattern, header, noneKnown, learn, Sound, Sequence}
 use Rattle.tone.proofs.Rows.{header-small, pattern-header}
 use Rattle.sounding.specs.Sounding.{atStart}
 use Rattle.sounding.specs.Playing.{patternPlayed, play}

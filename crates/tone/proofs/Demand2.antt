@@ -1,17 +1,15 @@
 -- Demand 2 of the rules: a message is accepted exactly if it is the writing of a well-formed tone.
-use Prim.Native.Nat.{ℕ, zero, suc, _+_, _-_, _*_, _/_, _%_, _^_, _≤_, _<_}
+use Prim.Native.Nat.{ℕ, _+_, _-_, _*_, _≤_, _<_}
 use native.Mathlib.Omega.{arith}
 use native.Mathlib.Nat.{zero-add}
-use mathlib.Core.Path.{_≡_, refl, sym, ap, ap₂, subst, _∙_}
-use mathlib.Core.Logic.{_⊎_, inl, inr, ⊎-elim, _↔_}
-use mathlib.Core.Bool.{Bool, true, false}
-use mathlib.Core.List.{List, [], _∷_, _++_, append-nil}
-use lib.ListN.{length, drop, take, length-append, length-replicate, drop-of-length-le}
-use lib.Seq.{take-at}
+use mathlib.Core.Path.{_≡_, refl, sym, ap, subst, _∙_}
+use mathlib.Core.Logic.{_⊎_, inl, inr, _↔_}
+use mathlib.Core.Bool.{Bool, false}
+use mathlib.Core.List.{List, [], _++_, append-nil}
+use lib.ListN.{length, drop, length-append, length-replicate, drop-of-length-le}
 use lib.Dec.{ltb, eqb}
 use borrow.Author.Tests.{ltb-false, ltb-true, eqb-true, eqb-false, le-ltb, eq-eqb}
-use Rattle.bits.specs.Choice.{pick}
-use Rattle.bits.specs.Bits.{bitsOf, octets, Octets, octetsTo, fillerTo}
+use Rattle.bits.specs.Bits.{bitsOf, Octets, fillerTo}
 use Rattle.bits.specs.Outcome.{Outcome, accepted, refused}
 use Rattle.bits.proofs.Choice.{pick-elim}
 use Rattle.bits.proofs.Octets.{length-bitsOf, bitsOf-append, bits-octets, octets-bits, octets-octets, length-octets}

@@ -1,14 +1,14 @@
 -- Readers that read exactly what was written: what they accept, what they refuse, and what they look at.
-use Prim.Native.Nat.{ℕ, zero, suc, _+_, _-_, _*_, _/_, _%_, _^_, _≤_, _<_}
+use Prim.Native.Nat.{ℕ, _+_, _-_, _^_, _≤_, _<_}
 use native.Mathlib.Omega.{arith}
 use native.Mathlib.Nat.{add-assoc, add-zero}
 use mathlib.Core.Path.{_≡_, refl, sym, ap, ap₂, subst, fun-ext, _∙_}
 use mathlib.Core.Bool.{Bool, true, false}
-use mathlib.Core.List.{List, [], _∷_, _++_, append-assoc, append-nil}
-use lib.ListN.{length, drop, take, length-append, length-drop, length-take, take-append-drop}
-use lib.Seq.{take-at, drop-at, drop-drop, length-take-le, take-append-le, take-append-add, drop-append-le, take-take}
+use mathlib.Core.List.{List, [], _++_, append-assoc}
+use lib.ListN.{length, drop, take, length-append, length-drop, take-append-drop}
+use lib.Seq.{take-at, drop-at, drop-drop, length-take-le, take-append-le, take-append-add, drop-append-le}
 use lib.Dec.{ltb, eqb}
-use borrow.Author.Tests.{ltb-false, ltb-true, le-ltb, lt-ltb, eq-eqb, eqb-true}
+use borrow.Author.Tests.{ltb-false, le-ltb, lt-ltb, eq-eqb, eqb-true}
 use Rattle.bits.specs.Choice.{pick}
 use Rattle.bits.specs.Bits.{num, bitsN, field}
 use Rattle.bits.proofs.Choice.{pick-elim}

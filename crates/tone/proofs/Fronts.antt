@@ -1,24 +1,23 @@
 -- The front of a message is read exactly: the command, the song type and the title.
-use Prim.Native.Nat.{ℕ, zero, suc, _+_, _-_, _*_, _/_, _%_, _^_, _≤_, _<_}
+use Prim.Native.Nat.{ℕ, zero, suc, _+_, _-_, _*_, _/_, _%_, _≤_, _<_}
 use native.Mathlib.Omega.{arith}
 use native.Mathlib.Nat.{add-assoc}
 use mathlib.Core.Path.{_≡_, refl, sym, ap, ap₂, subst, _∙_}
 use mathlib.Core.Bool.{Bool, true, false, _||_}
 use mathlib.Core.List.{List, [], _∷_, _++_, append-assoc, append-nil}
 use mathlib.Core.Logic.{_⊎_, inl, inr, ⊎-elim}
-use lib.ListN.{length, getD, drop, take, length-append, length-drop, length-take, take-append-drop}
+use lib.ListN.{length, getD, drop, take, length-append, length-drop, take-append-drop}
 use lib.Seq.{take-at, drop-at, length-take-le}
-use lib.Dec.{leb, ltb, eqb, lit<}
-use lib.Pow.{pow-pos}
-use borrow.Author.Tests.{eq-eqb, ne-eqb, eqb-true, eqb-false, leb-true, le-leb}
+use lib.Dec.{leb, eqb, lit<}
+use borrow.Author.Tests.{eqb-true, eqb-false, leb-true, le-leb}
 use Rattle.bits.specs.Choice.{pick}
-use Rattle.bits.specs.Bits.{num, bitsN, bitsOf, field, Octets}
+use Rattle.bits.specs.Bits.{bitsN, bitsOf, Octets}
 use Rattle.bits.proofs.Choice.{pick-elim}
-use Rattle.bits.proofs.Numbers.{length-bits, bits-append}
+use Rattle.bits.proofs.Numbers.{bits-append}
 use Rattle.bits.proofs.Octets.{bitsOf-append, octets-append, octets-take, octets-drop}
 use Rattle.tone.specs.Tone.{Front, perCharacter, characters, Titled, FrontFormed}
 use Rattle.tone.specs.Writing.{programming, unicodePart, sound, commandLength, filledPart, commandBits, titleBits, frontBits}
-use Rattle.tone.specs.Reading.{Reader, _>>=_, _>>_, return, element, anyOf, part, fillerBit, lengthOctet, filled, whetherUnicode, soundPart, parts, command, songType, allowedCharacter, character, text, title, patternCount, counted, titled, typed, front}
+use Rattle.tone.specs.Reading.{Reader, _>>=_, _>>_, return, anyOf, part, fillerBit, filled, whetherUnicode, soundPart, parts, command, allowedCharacter, character, text, title, counted, titled, typed, front}
 use Rattle.tone.proofs.Exact.{Exact, Fine, exact-as, return-exact, element-exact, then-exact, then-assoc, fixed-exact}
 
 pub or-true : (a b : Bool) → (a || b) ≡ true → (a ≡ true) ⊎ (b ≡ true)

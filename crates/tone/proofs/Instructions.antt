@@ -1,15 +1,15 @@
 -- The instruction table of document 01, row by row: the bits of each instruction, and which codes are allowed.
-use Prim.Native.Nat.{ℕ, zero, suc, _+_, _-_, _*_, _/_, _%_, _^_, _≤_, _<_}
+use Prim.Native.Nat.{ℕ, _+_, _-_, _*_, _≤_, _<_}
 use native.Mathlib.Omega.{arith}
-use mathlib.Core.Path.{_≡_, refl, sym, ap, _∙_}
+use mathlib.Core.Path.{_≡_, refl, ap, _∙_}
 use mathlib.Core.Logic.{_↔_}
-use mathlib.Core.Bool.{Bool, true, false, _&&_}
-use mathlib.Core.List.{List, _++_, append-assoc}
-use lib.Dec.{leb, eqb}
+use mathlib.Core.Bool.{Bool, true}
+use mathlib.Core.List.{List, _++_}
+use lib.Dec.{leb}
 use borrow.Author.Tests.{le-leb, leb-true, ne-eqb}
 use Rattle.bits.specs.Bits.{bitsN}
-use Rattle.bits.proofs.Numbers.{bits-append, join-lt}
-use Rattle.tone.specs.Table.{entry, kind, payload, width, noteOf, durationOf, specifierOf, allowed, InTable}
+use Rattle.bits.proofs.Numbers.{bits-append}
+use Rattle.tone.specs.Table.{entry, kind, payload, width, noteOf, durationOf, allowed}
 use Rattle.tone.specs.Writing.{entryBits}
 use Rattle.tone.proofs.Rows.{and-true}
 

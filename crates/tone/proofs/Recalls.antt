@@ -1,8 +1,8 @@
 -- A recall is allowed exactly where its id was defined earlier.
-use Prim.Native.Nat.{ℕ, zero, suc, _+_, _-_, _*_, _/_, _%_, _≤_, _<_}
+use Prim.Native.Nat.{ℕ, zero, suc, _-_, _≤_, _<_}
 use native.Mathlib.Omega.{arith}
 use native.Mathlib.Decide.{ℕ-discrete}
-use mathlib.Core.Path.{_≡_, refl, sym, ap, subst, _∙_}
+use mathlib.Core.Path.{_≡_, refl, sym, _∙_}
 use mathlib.Core.Logic.{_⊎_, inl, inr, ⊎-elim, _↔_}
 use mathlib.Core.Bool.{Bool, true, false}
 use mathlib.Core.List.{List, [], _∷_}
@@ -12,7 +12,7 @@ use lib.Dec.{eqb}
 use borrow.Author.Tests.{eq-eqb, ne-eqb, eqb-true, eqb-false}
 use Rattle.bits.specs.Choice.{pick}
 use Rattle.bits.proofs.Choice.{pick-elim}
-use Rattle.tone.specs.Tone.{Pattern, specifier, partOf, header, noneKnown, recallable, learn, Sound, Sequence}
+use Rattle.tone.specs.Tone.{Pattern, specifier, partOf, header, noneKnown, recallable, learn, Sound}
 use Rattle.tone.proofs.Rows.{header-small}
 
 -- patterns that are each sound

@@ -1,19 +1,19 @@
 -- Refusals are where they should be.
-use Prim.Native.Nat.{ℕ, zero, suc, _+_, _-_, _*_, _/_, _%_, _^_, _≤_, _<_}
+use Prim.Native.Nat.{ℕ, _+_, _-_, _*_, _≤_, _<_}
 use native.Mathlib.Omega.{arith}
-use mathlib.Core.Path.{_≡_, refl, sym, ap, ap₂, subst, _∙_}
-use mathlib.Core.Logic.{_⊎_, inl, inr, ⊎-elim}
-use mathlib.Core.Bool.{Bool, true, false}
-use mathlib.Core.List.{List, [], _∷_, _++_, append-nil}
+use mathlib.Core.Path.{_≡_, refl, sym, ap, subst, _∙_}
+use mathlib.Core.Logic.{_⊎_, ⊎-elim}
+use mathlib.Core.Bool.{Bool}
+use mathlib.Core.List.{List, [], _++_, append-nil}
 use lib.ListN.{length, drop, take}
-use lib.Seq.{take-at, length-take-le}
+use lib.Seq.{take-at}
 use borrow.Author.Tests.{le-ltb}
-use Rattle.bits.specs.Bits.{bitsOf, Octets}
-use Rattle.bits.specs.Outcome.{Outcome, accepted, refused}
+use Rattle.bits.specs.Bits.{bitsOf}
+use Rattle.bits.specs.Outcome.{accepted, refused}
 use Rattle.bits.proofs.Octets.{length-bitsOf}
 use Rattle.tone.specs.Tone.{Tone, Formed}
-use Rattle.tone.specs.Writing.{toneBits, toneLength, toneOctets, mostOctets, WellFormed}
-use Rattle.tone.specs.Reading.{got, bad, wholeTone, readTone}
+use Rattle.tone.specs.Writing.{toneBits, toneOctets, mostOctets, WellFormed}
+use Rattle.tone.specs.Reading.{readTone}
 use Rattle.tone.proofs.Rows.{whole-exact}
 use Rattle.tone.proofs.Demand2.{Says, Cut, Followed, read-says, bits-from-start, core-reads, written-is-accepted, length-toneBits, length-toneOctets}
 

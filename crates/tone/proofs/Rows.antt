@@ -1,23 +1,22 @@
 -- Patterns, the end and the whole tone are read exactly.
-use Prim.Native.Nat.{ℕ, zero, suc, _+_, _-_, _*_, _/_, _%_, _^_, _≤_, _<_}
+use Prim.Native.Nat.{ℕ, zero, suc, _+_, _-_, _^_, _≤_, _<_}
 use native.Mathlib.Omega.{arith}
 use native.Mathlib.Nat.{lt-of-lt-of-le, add-assoc}
 use mathlib.Core.Path.{_≡_, refl, sym, ap, ap₂, subst, _∙_}
-use mathlib.Core.Bool.{Bool, true, false, _&&_, _||_}
+use mathlib.Core.Bool.{Bool, true, false, _&&_}
 use mathlib.Core.List.{List, [], _∷_, _++_, append-assoc, append-nil}
-use lib.ListN.{length, getD, drop, take, replicate, length-append, length-replicate, replicate-append-replicate}
-use lib.Dec.{leb, ltb, eqb, lit<}
+use lib.ListN.{length, getD, drop, length-append, replicate-append-replicate}
+use lib.Dec.{leb, eqb, lit<}
 use lib.Pow.{pow-pos, pow-mono}
-use borrow.Author.Tests.{eq-eqb, ne-eqb, eqb-true, eqb-false, leb-true, le-leb}
-use Rattle.bits.specs.Choice.{pick}
-use Rattle.bits.specs.Bits.{num, bitsN, bitsOf, field, fillerTo}
+use borrow.Author.Tests.{eqb-true, leb-true, le-leb}
+use Rattle.bits.specs.Bits.{bitsN, fillerTo}
 use Rattle.bits.proofs.Choice.{pick-elim}
 use Rattle.bits.proofs.Numbers.{length-bits, zero-bits}
-use Rattle.tone.specs.Table.{entry, kind, payload, width, noteOf, durationOf, allowed, isInstruction, InTable, Instruction}
+use Rattle.tone.specs.Table.{entry, kind, payload, width, allowed, isInstruction, Instruction}
 use Rattle.tone.specs.Tone.{Pattern, Tone, Front, frontOf, specifier, loopOf, partOf, header, pattern, cells, noneKnown, recallable, learn, Instructions, Sound, Sequence, Formed}
 use Rattle.tone.specs.Writing.{entryBits, tableBits, frontBits, songBits, endBits}
-use Rattle.tone.specs.Reading.{Got, got, bad, Reader, _>>=_, _>>_, return, element, headerDue, instructionDue, bodyDue, patternsDue, fillerRun, endOctet, ending, rest, wholeTone}
-use Rattle.tone.proofs.Exact.{Exact, Fine, exact-as, return-exact, element-exact, then-exact, then-assoc, fixed-exact}
+use Rattle.tone.specs.Reading.{Reader, _>>_, return, element, headerDue, instructionDue, bodyDue, patternsDue, fillerRun, endOctet, ending, rest, wholeTone}
+use Rattle.tone.proofs.Exact.{Exact, exact-as, return-exact, element-exact, then-exact, then-assoc, fixed-exact}
 use Rattle.tone.proofs.Fronts.{front-exact}
 
 pub and-true : (a b : Bool) → (a && b) ≡ true → (a ≡ true) × (b ≡ true)

@@ -1,15 +1,12 @@
 -- The table and the tone determine each other.
-use Prim.Native.Nat.{ℕ, zero, suc, _+_, _-_, _*_, _/_, _%_, _≤_, _<_}
+use Prim.Native.Nat.{ℕ, _+_, _-_}
 use native.Mathlib.Omega.{arith}
-use mathlib.Core.Path.{_≡_, refl, sym, ap, ap₂, _∙_}
-use mathlib.Core.Bool.{Bool, true, false}
+use mathlib.Core.Path.{_≡_, refl, sym, ap, _∙_}
+use mathlib.Core.Bool.{Bool}
 use mathlib.Core.List.{List, [], _∷_, _++_, append-nil}
-use lib.ListN.{length}
-use lib.Dec.{eqb}
 use borrow.Author.Tests.{eq-eqb, ne-eqb}
-use Rattle.bits.specs.Choice.{pick}
-use Rattle.tone.specs.Table.{kind, Instruction}
-use Rattle.tone.specs.Tone.{Pattern, header, pattern, cells, Gathered, gatherOne, gather, patternsOf, learn, Instructions, Sound, Sequence}
+use Rattle.tone.specs.Table.{kind}
+use Rattle.tone.specs.Tone.{Pattern, header, cells, Gathered, gather, patternsOf, learn, Instructions, Sequence}
 use Rattle.tone.proofs.Rows.{header-small, pattern-header}
 
 -- instructions ahead of a table stay loose

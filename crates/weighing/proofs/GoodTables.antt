@@ -1,22 +1,21 @@
 -- A table is judged good exactly if it is the cells of a sequence of 1 to 255 patterns.
-use Prim.Native.Nat.{ℕ, zero, suc, _+_, _-_, _*_, _/_, _%_, _^_, _≤_, _<_}
+use Prim.Native.Nat.{ℕ, zero, suc, _+_, _-_, _≤_, _<_}
 use native.Mathlib.Omega.{arith}
 use native.Mathlib.Nat.{zero-add, add-zero}
-use mathlib.Core.Path.{_≡_, refl, sym, ap, ap₂, subst, _∙_}
+use mathlib.Core.Path.{_≡_, refl, sym, ap, ap₂, _∙_}
 use mathlib.Core.Logic.{_↔_}
 use mathlib.Core.Bool.{Bool, true, false}
 use mathlib.Core.List.{List, [], _∷_, _++_}
-use lib.ListN.{length, take, drop, length-append, length-drop, take-append-drop}
-use lib.Seq.{take-at, drop-at, length-take-le}
-use lib.Dec.{leb, eqb}
-use borrow.Author.Tests.{le-leb, eq-eqb, ne-eqb, eqb-true, eqb-false, leb-true}
-use Rattle.bits.specs.Choice.{pick}
+use lib.ListN.{length, take, drop, length-drop, take-append-drop}
+use lib.Seq.{drop-at, length-take-le}
+use lib.Dec.{leb}
+use borrow.Author.Tests.{le-leb, eq-eqb, leb-true}
 use Rattle.bits.specs.Outcome.{Outcome, accepted, refused}
-use Rattle.tone.specs.Table.{kind, payload, width, InTable, Instruction}
-use Rattle.tone.specs.Tone.{Pattern, specifier, header, pattern, cells, patternsOf, noneKnown, recallable, learn, Instructions, Sound, Sequence}
+use Rattle.tone.specs.Table.{kind, Instruction}
+use Rattle.tone.specs.Tone.{Pattern, specifier, header, pattern, cells, patternsOf, noneKnown, recallable, learn, Instructions, Sequence}
 use Rattle.tone.proofs.Rows.{header-small, header-pattern}
 use Rattle.tone.proofs.Tables.{patterns-of-cells}
-use Rattle.weighing.specs.Weighing.{andThen, demand, entryFine, entriesJudged, endJudged, start, judgeTable}
+use Rattle.weighing.specs.Weighing.{andThen, demand, entriesJudged, endJudged, judgeTable}
 use Rattle.weighing.specs.Answers.{entryLength, headerLength, instructionLength, bodyLength}
 use Rattle.weighing.proofs.Weights.{in-table-fine, header-in-table}
 use Rattle.weighing.proofs.Walks.{stage, fromStage, at-header, at-body, not-refused, header-told, body-told, BodyTold}

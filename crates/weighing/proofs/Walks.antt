@@ -1,31 +1,29 @@
 -- A table is judged pattern by pattern.
-use Prim.Native.Nat.{ℕ, zero, suc, _+_, _-_, _*_, _/_, _%_, _^_, _≤_, _<_, min}
+use Prim.Native.Nat.{ℕ, zero, suc, _+_, _-_, _*_, _≤_, _<_}
 use native.Mathlib.Omega.{arith}
-use native.Mathlib.Nat.{zero-add, add-assoc}
+use native.Mathlib.Nat.{add-assoc}
 use native.Mathlib.Numerals.{add-one, one-add}
-use mathlib.Core.Path.{_≡_, refl, sym, ap, ap₂, subst, _∙_}
-use mathlib.Core.Bool.{Bool, true, false, _&&_}
+use mathlib.Core.Path.{_≡_, refl, sym, ap, ap₂, _∙_}
+use mathlib.Core.Bool.{Bool, true, false}
 use mathlib.Core.List.{List, [], _∷_, _++_}
 use lib.ListN.{length, getD, set, take, drop, length-append, length-drop, drop-of-length-le}
 use lib.Seq.{drop-cons, drop-drop, take-add, take-all}
-use lib.Dec.{leb, ltb, eqb}
-use borrow.Author.Tests.{le-leb, lt-leb, eq-eqb, ne-eqb, eqb-true, leb-true}
+use lib.Dec.{leb, eqb}
+use borrow.Author.Tests.{le-leb, lt-leb, ne-eqb, eqb-true, leb-true}
 use mir.Val.{Fits}
 use mir.Syntax.{w32, w64}
-use Rattle.bits.specs.Choice.{pick}
 use Rattle.bits.specs.Outcome.{Outcome, accepted, refused}
-use Rattle.tone.specs.Table.{kind, payload, width, allowed, InTable, Instruction}
+use Rattle.tone.specs.Table.{kind, Instruction}
 use Rattle.tone.specs.Tone.{specifier, partOf, noneKnown, recallable, learn, Instructions}
 use Rattle.tone.specs.Writing.{entryBits, tableBits}
 use Rattle.tone.proofs.Rows.{tableBits-append, length-entryBits, width-most}
 use Rattle.tone.proofs.Recalls.{learn-set}
 use Rattle.weighing.specs.declared.Weighed.{Weighed}
 use Rattle.weighing.specs.declared.Weighed.the-variants.{Bits, Fault}
-use Rattle.weighing.specs.declared.Judged.{Judged}
 use Rattle.weighing.specs.declared.Judged.the-variants.{Sound, Faulty}
-use Rattle.weighing.specs.Weighing.{andThen, demand, entryFine, Stage, headerJudged, instructionJudged, entryJudged, entriesJudged, endJudged, start, judgeTable}
+use Rattle.weighing.specs.Weighing.{andThen, demand, entryFine, Stage, entryJudged, entriesJudged, endJudged, judgeTable}
 use Rattle.weighing.specs.Answers.{entryLength, headerLength, instructionLength, bodyLength, weighedOf, atMost, judgedOf}
-use Rattle.weighing.proofs.Weights.{fine-in-table, header-bound, weighed-bits, weighed-fault}
+use Rattle.weighing.proofs.Weights.{fine-in-table, header-bound, weighed-bits}
 
 -- how far a table was judged
 abbrev pub stage : ℕ → List Bool → ℕ → Stage

@@ -1,24 +1,23 @@
 -- Writing accepts exactly the song types, titles and tables of well-formed tones that have room.
-use Prim.Native.Nat.{ℕ, suc, _+_, _-_, _*_, _/_, _%_, _^_, _≤_, _<_}
+use Prim.Native.Nat.{ℕ, _-_, _*_, _%_, _≤_}
 use native.Mathlib.Omega.{arith}
-use mathlib.Core.Path.{_≡_, refl, sym, ap, ap₂, subst, _∙_}
+use mathlib.Core.Path.{_≡_, refl, sym, ap, _∙_}
 use mathlib.Core.Logic.{_⊎_, inl, inr, ⊎-elim, _↔_}
-use mathlib.Core.Bool.{Bool, true, false, _&&_, _||_}
-use mathlib.Core.List.{List, [], _∷_, _++_}
+use mathlib.Core.Bool.{Bool, true, false, _||_}
+use mathlib.Core.List.{List, [], _∷_}
 use lib.ListN.{length}
 use lib.Dec.{leb, eqb}
-use borrow.Author.Tests.{le-leb, eq-eqb, ne-eqb, eqb-true, eqb-false, leb-true}
-use Rattle.bits.specs.Choice.{pick}
+use borrow.Author.Tests.{le-leb, eq-eqb, eqb-true, eqb-false, leb-true}
 use Rattle.bits.specs.Bits.{Octets}
 use Rattle.bits.specs.Outcome.{Outcome, accepted, refused}
-use Rattle.tone.specs.Tone.{Tone, frontOf, cells, patternsOf, perCharacter, characters, Titled, FrontFormed, Formed}
+use Rattle.tone.specs.Tone.{Tone, frontOf, cells, patternsOf, perCharacter, characters, Titled, FrontFormed}
 use Rattle.tone.specs.Writing.{toneLength, mostOctets, WellFormed}
 use Rattle.tone.proofs.Fronts.{or-true, one-or-two, song-fine}
 use Rattle.tone.proofs.Rows.{and-true, and-is}
 use Rattle.tone.proofs.Tables.{patterns-of-cells}
 use Rattle.weighing.specs.Weighing.{andThen, demand, judgeTable}
 use Rattle.weighing.proofs.Walks.{not-refused}
-use Rattle.weighing.proofs.Places.{AtZero, none, then-zero, demand-zero, table-zero, place-zero}
+use Rattle.weighing.proofs.Places.{none, then-zero, demand-zero, table-zero, place-zero}
 use Rattle.weighing.proofs.GoodTables.{GoodTable, judged-is-good, good-is-judged}
 use Rattle.writing.specs.Judging.{songFine, titleFine, sized, toneOf, writeTone}
 

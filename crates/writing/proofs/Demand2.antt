@@ -1,10 +1,10 @@
 -- Demand 2 of the calls, from their promises alone: what reading and writing accept, and that each undoes the other.
-use Prim.Native.Nat.{ℕ, zero, suc, _+_, _-_, _*_, _/_, _%_, _^_, _≤_, _<_}
+use Prim.Native.Nat.{ℕ, _-_, _*_, _≤_}
 use native.Mathlib.Omega.{arith}
-use mathlib.Core.Path.{_≡_, refl, sym, ap, ap₂, subst, _∙_}
+use mathlib.Core.Path.{_≡_, refl, sym, ap, ap₂, _∙_}
 use mathlib.Core.Logic.{_↔_}
 use mathlib.Core.Bool.{Bool, true, false, _&&_}
-use mathlib.Core.List.{List, [], _∷_, _++_}
+use mathlib.Core.List.{List}
 use lib.ListN.{length, take, drop}
 use lib.Seq.{take-at}
 use lib.Dec.{leb}
@@ -17,18 +17,18 @@ use Rattle.bits.specs.declared.OctetCount.{OctetCount}
 use Rattle.tone.specs.Tone.{Tone, cells, patternsOf, characters, perCharacter}
 use Rattle.tone.specs.Writing.{toneLength, toneOctets, WellFormed}
 use Rattle.tone.specs.Reading.{readTone}
-use Rattle.tone.proofs.Rows.{and-true, and-is}
+use Rattle.tone.proofs.Rows.{and-true}
 use Rattle.tone.proofs.Tables.{patterns-of-cells}
-use Rattle.tone.proofs.Demand2.{accepted-is-written, written-is-accepted, length-toneOctets, octets-toneOctets}
+use Rattle.tone.proofs.Demand2.{accepted-is-written, written-is-accepted, length-toneOctets}
 use Rattle.reading.specs.Answers.{octetCount, entries}
 use Rattle.reader.specs.declared.Reading.{Reading}
-use Rattle.reader.specs.declared.Reading.the-variants.{Read, Refused}
-use Rattle.reader.specs.Promise.{roomed, readInto, readAnswer, tableAfter, titleAfter, ReadPromise}
+use Rattle.reader.specs.declared.Reading.the-variants.{Read}
+use Rattle.reader.specs.Promise.{roomed, readInto, readAnswer, ReadPromise}
 use Rattle.weighing.proofs.Walks.{not-refused}
 use Rattle.writing.specs.declared.Writing.{Writing}
-use Rattle.writing.specs.declared.Writing.the-variants.{Written, Refused as Rejected}
-use Rattle.writing.specs.Judging.{toneOf, writeTone}
-use Rattle.writing.specs.Promise.{writeAnswer, octetsAfter, WritePromise}
+use Rattle.writing.specs.declared.Writing.the-variants.{Written}
+use Rattle.writing.specs.Judging.{writeTone}
+use Rattle.writing.specs.Promise.{writeAnswer, WritePromise}
 use Rattle.writing.proofs.Accepting.{Writable, accepted-is-writable, writable-is-accepted}
 
 -- ---- reading

@@ -1,10 +1,9 @@
 -- A tone that has room is written whole.
-use Prim.Native.Nat.{ℕ, zero, suc, _+_, _-_, _*_, _/_, _%_, _^_, _≤_, _<_}
+use Prim.Native.Nat.{ℕ, _+_, _-_, _*_, _≤_, _<_}
 use native.Mathlib.Omega.{arith}
-use native.Mathlib.Nat.{zero-add}
-use mathlib.Core.Path.{_≡_, refl, sym, ap, ap₂, subst, _∙_}
-use mathlib.Core.Bool.{Bool, true, false}
-use mathlib.Core.List.{List, [], _∷_, _++_, append-assoc}
+use mathlib.Core.Path.{_≡_, sym, ap, ap₂, subst, _∙_}
+use mathlib.Core.Bool.{Bool, false}
+use mathlib.Core.List.{List, [], _++_, append-assoc}
 use lib.ListN.{length, getD, take, drop, replicate, length-append, take-append-drop}
 use lib.Dec.{leb}
 use borrow.Author.Tests.{leb-true}
@@ -12,13 +11,13 @@ use mir.Val.{Fits}
 use mir.Syntax.{w8}
 use Rattle.bits.specs.Bits.{bitsN, bitsOf, Octets, placeAfter, octetsTo, fillerTo}
 use Rattle.bits.specs.Lent.{over}
-use Rattle.bits.specs.Outcome.{Outcome, accepted, refused}
-use Rattle.bits.specs.Sink.{written, InHand, Put, Sealed}
+use Rattle.bits.specs.Outcome.{accepted}
+use Rattle.bits.specs.Sink.{written, Put, Sealed}
 use Rattle.bits.proofs.Numbers.{length-bits}
 use Rattle.bits.proofs.Octets.{octets-of, octets-take}
 use Rattle.bits.proofs.Putting.{nothing, drop-further, put-then}
-use Rattle.tone.specs.Tone.{Tone, frontOf, cells, patternsOf, characters}
-use Rattle.tone.specs.Writing.{commandBits, titleBits, tableBits, frontBits, songBits, endBits, toneBits, toneLength, toneOctets}
+use Rattle.tone.specs.Tone.{Tone, cells, patternsOf, characters}
+use Rattle.tone.specs.Writing.{commandBits, titleBits, tableBits, frontBits, songBits, toneBits, toneLength, toneOctets}
 use Rattle.tone.proofs.Rows.{and-true}
 use Rattle.tone.proofs.Demand2.{length-toneOctets, octets-are}
 use Rattle.reader.specs.Judging.{Entries}

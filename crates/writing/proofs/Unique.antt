@@ -10,7 +10,7 @@ use Rattle.bits.specs.declared.BitPlace.{BitPlace}
 use Rattle.tone.specs.Tone.{Tone}
 use Rattle.reading.specs.Answers.{place}
 use Rattle.writing.specs.declared.Writing.{Writing}
-use Rattle.writing.specs.declared.Writing.the-variants.{Written, Refused}
+use Rattle.writing.specs.declared.Writing.the-variants.{Refused}
 use Rattle.writing.specs.Judging.{writeTone}
 use Rattle.writing.specs.Promise.{numbers, writeAnswer, octetsAfter, WritePromise}
 use Rattle.writing.proofs.Accepting.{write-place}

@@ -1,13 +1,13 @@
 ghost use mathlib.Core.Path.{_≡_};
-ghost use mathlib.Core.Bool.{Bool, true};
-ghost use mathlib.Core.List.{List, [], _++_};
-ghost use Prim.Native.Nat.{ℕ, _+_, _*_, _^_, _≤_, _<_};
+ghost use mathlib.Core.Bool.{true};
+ghost use mathlib.Core.List.{_++_};
+ghost use Prim.Native.Nat.{_+_, _^_, _≤_, _<_};
 ghost use lib.ListN.{length};
 ghost use Rattle.bits.specs.Choice.{pick};
-ghost use Rattle.bits.specs.Bits.{bitsN, bitsOf, placeAfter, octetsTo};
+ghost use Rattle.bits.specs.Bits.{bitsN, bitsOf, placeAfter};
 ghost use Rattle.bits.specs.Lent.{over};
 ghost use Rattle.bits.specs.Outcome.{accepted};
-ghost use Rattle.bits.specs.Sink.{written, InHand, Put};
+ghost use Rattle.bits.specs.Sink.{InHand};
 ghost use Rattle.tone.specs.Table.{InTable};
 ghost use Rattle.tone.specs.Tone.{characters};
 ghost use Rattle.tone.specs.Writing.{commandBits, titleBits, frontBits, entryBits, tableBits, toneLength, toneOctets};

@@ -4,7 +4,6 @@ use Rattle.ohakelm.proofs.edited.Statement.{statement}
 use Rattle.ohakelm.proofs.edited.Tie as tie
 use Rattle.ohakelm.proofs.Exits.{edits}
 
-
 edit-message-requires : tie.Need-edit-message-requires
 edit-message-requires c κs = search (edits, needs)
 
