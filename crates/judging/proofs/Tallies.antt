@@ -30,12 +30,14 @@ use Rattle.judging.specs.declared.Wish.{Wish}
 use Rattle.judging.specs.declared.Cut.{Cut}
 use Rattle.judging.specs.declared.Own.{Own}
 use Rattle.judging.specs.declared.Total.{Total}
+use Rattle.judging.specs.declared.Single.{Single}
+use Rattle.judging.specs.declared.Single.the-variants.{Fine, Fault}
 use Rattle.judging.specs.declared.Tally.the-variants.{Counted, Stopped}
 use Rattle.counting.specs.Bodies.{Remembered, noBodies, passesOf, bodyOf, remember}
 use Rattle.counting.specs.Counting.{entryCount, markOf, markFrom, noCount, counted}
 use Rattle.reading.specs.Standing.{bodyIn, PartAt}
 use Rattle.judging.specs.Wishes.{wished, leftAt, noCut, cutOf, cutIn, Owned}
-use Rattle.judging.specs.Answers.{totalOf, tallyAs}
+use Rattle.judging.specs.Answers.{singleOf, totalOf, tallyAs}
 use Rattle.counting.proofs.Bodies.{knownOf, remember-length, learn-read, Each, each-start, each-sounds, each-kept, Brief, none-brief, notes-most}
 use Rattle.counting.proofs.Counts.{notesOf, allNotes, noted-remembers, notes-sounding, counted-most, Unmarked, counted-unmarked}
 use Rattle.judging.proofs.Wishing.{granted-length, behindPart, part-bits, bodyWished, wishedFrom, cutPast, cutFrom, wished-is, cut-is}
@@ -121,6 +123,70 @@ resumed-none t c bodies z k h =
     (λ _. λ i. record { table = add-zero t i; list = c .entries; mark = c .mark; end = place z; cut = k })
     (λ e. λ i. record { table = add-zero t i; list = add-zero (c .entries) i; mark = sym (h e) i; end = place z; cut = k })
 
+-- ---- one pattern by itself
+
+-- a pattern that is fine: where its header ends, and its instructions
+record SingleThere (seen l : List Bool) (p v q own : ℕ) : Type 0 where
+  behind : ℕ
+  header : headerDue seen l p ≡ got v behind
+  body : List ℕ
+  reads : bodyDue (specifier v) l behind ≡ got body q
+  noted : own ≡ notes body
+
+single-fine : (seen l : List Bool) (p : ℕ) {v own : ℕ} {f : BitPlace} → Fine v f own ≡ singleOf seen l p → SingleThere seen l p v (f .0) own
+single-fine seen l p {v} {own} {f} e = go (headerDue seen l p) refl e
+  where
+    inner : (h q : ℕ) → headerDue seen l p ≡ got h q → (x : Got (List ℕ)) → bodyDue (specifier h) l q ≡ x → Fine v f own ≡ onward x (λ b r. Fine h (place r) (notes b)) (λ n z e. Fault n (place z)) → SingleThere seen l p v (f .0) own
+    inner h q g (got b r) k z =
+        let e₁ : v ≡ h = cc in
+        let e₂ : f ≡ place r = cc in
+        let e₃ : own ≡ notes b = cc in
+        record { behind = q; header = rw e₁ g; body = b; reads = rw (e₁, e₂) k; noted = e₃ }
+    inner h q g (bad n z x) k u = let w : _≡_ {A = ℕ} 0 1 = cc in absurd (omega arith)
+
+    go : (x : Got ℕ) → headerDue seen l p ≡ x
+        → Fine v f own ≡ onward x (λ h q. onward (bodyDue (specifier h) l q) (λ b r. Fine h (place r) (notes b)) (λ n z e. Fault n (place z))) (λ n z e. Fault n (place z)) → SingleThere seen l p v (f .0) own
+    go (got h q) g z = inner h q g (bodyDue (specifier h) l q) refl z
+    go (bad n z x) g u = let w : _≡_ {A = ℕ} 0 1 = cc in absurd (omega arith)
+
+-- one that is not stops the row
+single-fault : (a : List Pattern → Total) (k : ℕ) (seen l : List Bool) (p : ℕ) {x : ℕ} {f : BitPlace} → Fault x f ≡ singleOf seen l p → tallyAs a (patternsDue (suc k) seen l p) ≡ Stopped f x
+unfolding patternsDue
+single-fault a k seen l p {x} {f} e = go (headerDue seen l p) e
+  where
+    inner : (h : ℕ) (y : Got (List ℕ)) → Fault x f ≡ onward y (λ b r. Fine h (place r) (notes b)) (λ n z e. Fault n (place z)) → tallyAs a (onward y (λ b r. onward (patternsDue k (learn seen h) l r) (λ ps z. got (pattern h b ∷ ps) z) bad) bad) ≡ Stopped f x
+    inner h (got b r) z = let w : _≡_ {A = ℕ} 0 1 = cc in absurd (omega arith)
+    inner h (bad n z y) u = let e₁ : x ≡ n = cc in let e₂ : f ≡ place z = cc in rw (e₁, e₂) refl
+
+    go : (y : Got ℕ) → Fault x f ≡ onward y (λ h q. onward (bodyDue (specifier h) l q) (λ b r. Fine h (place r) (notes b)) (λ n z e. Fault n (place z))) (λ n z e. Fault n (place z))
+        → tallyAs a (onward y (λ h q. onward (bodyDue (specifier h) l q) (λ b r. onward (patternsDue k (learn seen h) l r) (λ ps z. got (pattern h b ∷ ps) z) bad) bad) bad) ≡ Stopped f x
+    go (got h q) z = inner h (bodyDue (specifier h) l q) z
+    go (bad n z y) u = let e₁ : x ≡ n = cc in let e₂ : f ≡ place z = cc in rw (e₁, e₂) refl
+
+single-made : (seen l : List Bool) (p : ℕ) {v q r : ℕ} {b : List ℕ} → headerDue seen l p ≡ got v q → bodyDue (specifier v) l q ≡ got b r → Fine v (place r) (notes b) ≡ singleOf seen l p
+single-made seen l p e f = rw (e, f) refl
+
+-- in the code's terms: what each return of `pattern` shows
+module _ (seen : List Bool) (m : List ℕ) (p : ℕ) {s : Step} (q : s ≡ stepOf (headerDue seen (bitsOf m) p)) where
+  pub pattern-unheaded : {x : ℕ} {f : BitPlace} → s ≡ Bad x f → Fault x f ≡ singleOf seen (bitsOf m) p
+  pattern-unheaded g = let b = step-bad (λ v. v) (headerDue seen (bitsOf m) p) (sym g ∙ q) in rw (b .1) refl
+
+  module _ {v : ℕ} {f : BitPlace} (g : s ≡ Good v f) where
+    there : headerDue seen (bitsOf m) p ≡ got v (f .0)
+    there = step-there (headerDue seen (bitsOf m) p) (sym g ∙ q)
+
+    pub pattern-inside : Within m p → Within m (f .0)
+    pattern-inside i = record { inside = stays (header-exact seen) m p (i .inside) there; counted = i .counted }
+
+    module _ {s′ : Step} (q′ : s′ ≡ stepAs notes (bodyDue (specifier v) (bitsOf m) (f .0))) where
+      pub pattern-bad : {x : ℕ} {f′ : BitPlace} → s′ ≡ Bad x f′ → Fault x f′ ≡ singleOf seen (bitsOf m) p
+      pattern-bad g′ = let b = step-bad notes (bodyDue (specifier v) (bitsOf m) (f .0)) (sym g′ ∙ q′) in rw (there, b .1) refl
+
+      pub pattern-good : {own : ℕ} {f′ : BitPlace} → s′ ≡ Good own f′ → Fine v f′ own ≡ singleOf seen (bitsOf m) p
+      pattern-good {f′ = f′} g′ = let b = step-good notes (bodyDue (specifier v) (bitsOf m) (f .0)) (sym g′ ∙ q′) in ap (λ (z : ℕ). Fine v f′ z) (b .2) ∙ single-made seen (bitsOf m) p there (b .1)
+
+pub ruleset singles = (pattern-unheaded, pattern-inside, pattern-bad, pattern-good)
+
 -- ---- the loop
 
 -- with `left` patterns to come at p, from the bodies that are remembered, the entries of the table, what is counted and where the wish has cut
@@ -163,123 +229,115 @@ module _ {w : Wish} {named : ℕ} {m : List ℕ} {n at : ℕ} {seen : List Bool}
   pub tally-within : Within m p
   tally-within = y .inside
 
-  module _ {s : Step} (h : 0 < left) (q : s ≡ stepOf (headerDue seen (bitsOf m) p)) where
+  module _ {s : Single} (h : 0 < left) (q : s ≡ singleOf seen (bitsOf m) p) where
     one-less : left ≡ suc (left - 1)
     one-less = omega arith
 
-    pub tally-bad : {x : ℕ} {f : BitPlace} → s ≡ Bad x f → Stopped f x ≡ tallyAs (totalOf w at) (patternsDue n noneKnown (bitsOf m) at)
-    unfolding patternsDue
-    tally-bad g =
-        let b = step-bad (λ v. v) (headerDue seen (bitsOf m) p) (sym g ∙ q) in
-        sym (y .goes ∙ (rw (one-less, b .1)))
+    pub tally-bad : {x : ℕ} {f : BitPlace} → s ≡ Fault x f → Stopped f x ≡ tallyAs (totalOf w at) (patternsDue n noneKnown (bitsOf m) at)
+    tally-bad g = sym (y .goes ∙ ap (λ (z : ℕ). tallyAs (summed w named left p k t c (y .bodies)) (patternsDue z seen (bitsOf m) p)) one-less ∙ single-fault (summed w named left p k t c (y .bodies)) (left - 1) seen (bitsOf m) p (sym g ∙ q))
 
-    module _ {v : ℕ} {f : BitPlace} (g : s ≡ Good v f) where
-      header-there : headerDue seen (bitsOf m) p ≡ got v (f .0)
-      header-there = step-there (headerDue seen (bitsOf m) p) (sym g ∙ q)
+    module _ {v own : ℕ} {f′ : BitPlace} (g : s ≡ Fine v f′ own) where
+      single : SingleThere seen (bitsOf m) p v (f′ .0) own
+      single = single-fine seen (bitsOf m) p (sym g ∙ q)
 
-      header-is : Accepted (Header seen) (λ _ x. entryBits x) (bitsOf m) p v (f .0)
-      header-is = header-exact seen .sound (bitsOf m) p (rw (length-bitsOf m) (y .inside .inside)) header-there
+      abbrev f : ℕ
+      f = single .behind
 
-      pub tally-inside : Within m (f .0)
-      tally-inside = record { inside = stays (header-exact seen) m p (y .inside .inside) header-there; counted = y .inside .counted }
+      abbrev b : List ℕ
+      b = single .body
+
+      header-is : Accepted (Header seen) (λ _ x. entryBits x) (bitsOf m) p v f
+      header-is = header-exact seen .sound (bitsOf m) p (rw (length-bitsOf m) (y .inside .inside)) (single .header)
+
+      inside : Within m f
+      inside = record { inside = stays (header-exact seen) m p (y .inside .inside) (single .header); counted = y .inside .counted }
 
       -- a header has 17 bits
-      behind-header : f .0 ≡ p + 17
+      behind-header : f ≡ p + 17
       behind-header = header-is .end ∙ ap (λ (x : ℕ). p + x) (header-wide v (header-is .good .small))
 
-      module _ {s′ : Step} (q′ : s′ ≡ stepAs notes (bodyDue (specifier v) (bitsOf m) (f .0))) where
-        pub tally-body-bad : {x : ℕ} {f′ : BitPlace} → s′ ≡ Bad x f′ → Stopped f′ x ≡ tallyAs (totalOf w at) (patternsDue n noneKnown (bitsOf m) at)
-        unfolding patternsDue
-        tally-body-bad g′ =
-            let b = step-bad notes (bodyDue (specifier v) (bitsOf m) (f .0)) (sym g′ ∙ q′) in
-            sym (y .goes ∙ (rw (one-less, header-there, b .1)))
+      body-is : Accepted (Body (specifier v)) (λ _ x. tableBits x) (bitsOf m) f b (f′ .0)
+      body-is = body-exact (specifier v) .sound (bitsOf m) f (rw (length-bitsOf m) (inside .inside)) (single .reads)
 
-        module _ {own : ℕ} {f′ : BitPlace} (g′ : s′ ≡ Good own f′) where
-          read : (b : List ℕ) × (bodyDue (specifier v) (bitsOf m) (f .0) ≡ got b (f′ .0)) × (own ≡ notes b)
-          read = step-good notes (bodyDue (specifier v) (bitsOf m) (f .0)) (sym g′ ∙ q′)
+      size : length b ≡ specifier v
+      size = body-is .good .size
 
-          body-is : Accepted (Body (specifier v)) (λ _ x. tableBits x) (bitsOf m) (f .0) (read .0) (f′ .0)
-          body-is = body-exact (specifier v) .sound (bitsOf m) (f .0) (rw (length-bitsOf m) (tally-inside .inside)) (read .1)
+      -- the body that was read stands behind the header
+      reads : bodyDue (specifier v) (bitsOf m) (p + 17) ≡ got b (f′ .0)
+      reads = ap (bodyDue (specifier v) (bitsOf m)) (sym behind-header) ∙ single .reads
 
-          size : length (read .0) ≡ specifier v
-          size = body-is .good .size
+      pub tally-part : PartAt m p v own
+      tally-part = record {
+        stands = record { within = subst (Within m) behind-header inside; short = omega arith; reads = rw reads refl };
+        noted = single .noted ∙ (rw reads refl);
+      }
 
-          -- the body that was read stands behind the header
-          reads : bodyDue (specifier v) (bitsOf m) (p + 17) ≡ got (read .0) (f′ .0)
-          reads = ap (bodyDue (specifier v) (bitsOf m)) (sym behind-header) ∙ read .1
+      module _ {o : Own} (u : Owned (eqb left named) w p v (bodyIn m (p + 17) (specifier v)) k o) {heard : ℕ} (e : heard ≡ pick (eqb (specifier v) 0) (getD noteds (partOf v) 0) (o .notes)) where
+        wish : List ℕ
+        wish = bodyWished w named left b
 
-          pub tally-part : PartAt m p v own
-          tally-part = record {
-            stands = record { within = subst (Within m) behind-header tally-inside; short = omega arith; reads = rw reads refl };
-            noted = read .2 ∙ (rw reads refl);
-          }
+        wish-length : (eqb (length wish) 0 ≡ eqb (specifier v) 0) × (length wish ≤ 255)
+        unfolding wish
+        wish-length =
+            let short : length b ≤ 255 = omega (arith, size) in
+            rw (← size) (pick-elim (λ (x : List ℕ). (eqb (length x) 0 ≡ eqb (length b) 0) × (length x ≤ 255)) (eqb left named) (λ _. granted-length w b short) (λ _. (refl, short)))
 
-          module _ {o : Own} (u : Owned (eqb left named) w p v (bodyIn m (p + 17) (specifier v)) k o) {heard : ℕ} (e : heard ≡ pick (eqb (specifier v) 0) (getD noteds (partOf v) 0) (o .notes)) where
-            wish : List ℕ
-            wish = bodyWished w named left (read .0)
+        own-is : (o .notes ≡ notes wish) × (o .cut ≡ cutPast w named left p (pattern v b) k)
+        unfolding wish
+        own-is =
+            let x : bodyIn m (p + 17) (specifier v) ≡ b = rw reads refl in
+            let z : header (pattern v b) ≡ v = header-pattern v b (header-is .good .small) size in (
+              u .0 ∙ ap (λ (z : List ℕ). notes (bodyWished w named left z)) x,
+              u .1 ∙ ap₂ (λ (u : List ℕ) (h : ℕ). pick (eqb left named) (cutOf w p h u) k) x (sym z),
+            )
 
-            wish-length : (eqb (length wish) 0 ≡ eqb (specifier v) 0) × (length wish ≤ 255)
-            unfolding wish
-            wish-length =
-                let short : length (read .0) ≤ 255 = omega (arith, size) in
-                rw (← size) (pick-elim (λ (x : List ℕ). (eqb (length x) 0 ≡ eqb (length (read .0)) 0) × (length x ≤ 255)) (eqb left named) (λ _. granted-length w (read .0) short) (λ _. (refl, short)))
+        after : List Remembered
+        after = remember (y .bodies) (pattern v wish)
 
-            own-is : (o .notes ≡ notes wish) × (o .cut ≡ cutPast w named left p (pattern v (read .0)) k)
-            unfolding wish
-            own-is =
-                let x : bodyIn m (p + 17) (specifier v) ≡ read .0 = rw reads refl in
-                let z : header (pattern v (read .0)) ≡ v = header-pattern v (read .0) (header-is .good .small) size in (
-                  u .0 ∙ ap (λ (b : List ℕ). notes (bodyWished w named left b)) x,
-                  u .1 ∙ ap₂ (λ (b : List ℕ) (h : ℕ). pick (eqb left named) (cutOf w p h b) k) x (sym z),
-                )
+        hummed-after : set noteds (partOf v) heard ≡ allNotes after
+        unfolding after
+        hummed-after =
+            ap (set noteds (partOf v)) e
+            ∙ ap₂ (λ (l : List ℕ) (x : ℕ). set l (partOf v) (pick (eqb (specifier v) 0) (getD l (partOf v) 0) x)) (y .hummed) (own-is .0) ∙ noted-remembers (y .bodies) v wish (wish-length .0)
 
-            after : List Remembered
-            after = remember (y .bodies) (pattern v wish)
+        sounds : heard ≡ notes (bodyOf (y .bodies) (pattern v wish))
+        unfolding after
+        sounds =
+            let four : length noteds ≡ 4 = ap length (y .hummed) ∙ length-map (y .bodies) notesOf ∙ y .four in
+            sym (getD-set-same noteds (partOf v) heard 0 (omega arith)) ∙ ap (λ (l : List ℕ). getD l (partOf v) 0) hummed-after ∙ notes-sounding (y .bodies) v wish (y .four)
 
-            hummed-after : set noteds (partOf v) heard ≡ allNotes after
-            unfolding after
-            hummed-after =
-                ap (set noteds (partOf v)) e
-                ∙ ap₂ (λ (l : List ℕ) (x : ℕ). set l (partOf v) (pick (eqb (specifier v) 0) (getD l (partOf v) 0) x)) (y .hummed) (own-is .0) ∙ noted-remembers (y .bodies) v wish (wish-length .0)
+        -- what sounds has few notes
+        pub tally-notes : heard ≤ 255
+        tally-notes = rw sounds (le-trans (notes-most (bodyOf (y .bodies) (pattern v wish))) (each-sounds Brief none-brief (y .bodies) (y .brief) (pattern v wish) (wish-length .1)))
 
-            sounds : heard ≡ notes (bodyOf (y .bodies) (pattern v wish))
-            unfolding after
-            sounds =
-                let four : length noteds ≡ 4 = ap length (y .hummed) ∙ length-map (y .bodies) notesOf ∙ y .four in
-                sym (getD-set-same noteds (partOf v) heard 0 (omega arith)) ∙ ap (λ (l : List ℕ). getD l (partOf v) 0) hummed-after ∙ notes-sounding (y .bodies) v wish (y .four)
+        behind-part : behindPart p (pattern v b) ≡ f′ .0
+        behind-part =
+            let z : header (pattern v b) ≡ v = header-pattern v b (header-is .good .small) size in
+            omega (arith, ap (λ (x : ℕ). length (entryBits x)) z, header-is .end, body-is .end)
 
-            -- what sounds has few notes
-            pub tally-notes : heard ≤ 255
-            tally-notes = rw sounds (le-trans (notes-most (bodyOf (y .bodies) (pattern v wish))) (each-sounds Brief none-brief (y .bodies) (y .brief) (pattern v wish) (wish-length .1)))
+        pub tally-on : {c′ : Count} → c′ ≡ counted c heard (loopOf v)
+            → TallyWalk w named m n at (set seen (partOf v) true) (set noteds (partOf v) heard) (f′ .0) (left - 1) (t + (1 + specifier v)) c′ (o .cut)
+        unfolding after wish
+        tally-on {c′} j =
+            let l : set seen (partOf v) true ≡ learn seen v = sym (learn-set seen v (header-is .good .recall)) in
+            let j′ : c′ ≡ counted c (notes (bodyOf (y .bodies) (pattern v wish))) (loopOf v) = j ∙ ap (λ (x : ℕ). counted c x (loopOf v)) sounds in
+            let most : c′ .entries ≤ c .entries + 3825 = rw j (counted-most c heard (loopOf v) tally-notes (omega arith)) in
+            record {
+              inside = record { inside = stays (body-exact (specifier v)) m f (inside .inside) (single .reads); counted = y .inside .counted };
+              fewer = omega (arith, y .fewer);
+              small = omega (arith, y .small);
+              least = omega (arith, y .least);
+              bodies = after;
+              four = remember-length (y .bodies) (pattern v wish) ∙ y .four;
+              brief = each-kept Brief (y .bodies) (y .brief) (pattern v wish) (wish-length .1);
+              unmarked = rw j (counted-unmarked c heard (loopOf v) (y .unmarked));
+              heard = l ∙ ap (λ (x : List Bool). learn x v) (y .heard) ∙ learn-read (y .bodies) v wish (wish-length .0);
+              hummed = hummed-after;
+              goes = y .goes
+                  ∙ tally-step w named p k t c (y .bodies) seen (bitsOf m) one-less (single .header) (single .reads)
+                  ∙ ap₂ (λ (x : ℕ) (z : Cut). tallyAs (summed w named (left - 1) x z (t + (1 + length b)) (counted c (notes (bodyOf (y .bodies) (pattern v wish))) (loopOf v)) after) (patternsDue (left - 1) (learn seen v) (bitsOf m) (f′ .0))) behind-part (sym (own-is .1))
+                  ∙ ap (λ (x : ℕ). tallyAs (summed w named (left - 1) (f′ .0) (o .cut) (t + (1 + x)) (counted c (notes (bodyOf (y .bodies) (pattern v wish))) (loopOf v)) after) (patternsDue (left - 1) (learn seen v) (bitsOf m) (f′ .0))) size
+                  ∙ ap₂ (λ (x : Count) (z : List Bool). tallyAs (summed w named (left - 1) (f′ .0) (o .cut) (t + (1 + specifier v)) x after) (patternsDue (left - 1) z (bitsOf m) (f′ .0))) (sym j′) (sym l);
+            }
 
-            behind-part : behindPart p (pattern v (read .0)) ≡ f′ .0
-            behind-part =
-                let z : header (pattern v (read .0)) ≡ v = header-pattern v (read .0) (header-is .good .small) size in
-                omega (arith, ap (λ (x : ℕ). length (entryBits x)) z, header-is .end, body-is .end)
-
-            pub tally-on : {c′ : Count} → c′ ≡ counted c heard (loopOf v)
-                → TallyWalk w named m n at (set seen (partOf v) true) (set noteds (partOf v) heard) (f′ .0) (left - 1) (t + (1 + specifier v)) c′ (o .cut)
-            unfolding after wish
-            tally-on {c′} j =
-                let l : set seen (partOf v) true ≡ learn seen v = sym (learn-set seen v (header-is .good .recall)) in
-                let j′ : c′ ≡ counted c (notes (bodyOf (y .bodies) (pattern v wish))) (loopOf v) = j ∙ ap (λ (x : ℕ). counted c x (loopOf v)) sounds in
-                let most : c′ .entries ≤ c .entries + 3825 = rw j (counted-most c heard (loopOf v) tally-notes (omega arith)) in
-                record {
-                  inside = record { inside = stays (body-exact (specifier v)) m (f .0) (tally-inside .inside) (read .1); counted = y .inside .counted };
-                  fewer = omega (arith, y .fewer);
-                  small = omega (arith, y .small);
-                  least = omega (arith, y .least);
-                  bodies = after;
-                  four = remember-length (y .bodies) (pattern v wish) ∙ y .four;
-                  brief = each-kept Brief (y .bodies) (y .brief) (pattern v wish) (wish-length .1);
-                  unmarked = rw j (counted-unmarked c heard (loopOf v) (y .unmarked));
-                  heard = l ∙ ap (λ (x : List Bool). learn x v) (y .heard) ∙ learn-read (y .bodies) v wish (wish-length .0);
-                  hummed = hummed-after;
-                  goes = y .goes
-                      ∙ tally-step w named p k t c (y .bodies) seen (bitsOf m) one-less header-there (read .1)
-                      ∙ ap₂ (λ (x : ℕ) (z : Cut). tallyAs (summed w named (left - 1) x z (t + (1 + length (read .0))) (counted c (notes (bodyOf (y .bodies) (pattern v wish))) (loopOf v)) after) (patternsDue (left - 1) (learn seen v) (bitsOf m) (f′ .0))) behind-part (sym (own-is .1))
-                      ∙ ap (λ (x : ℕ). tallyAs (summed w named (left - 1) (f′ .0) (o .cut) (t + (1 + x)) (counted c (notes (bodyOf (y .bodies) (pattern v wish))) (loopOf v)) after) (patternsDue (left - 1) (learn seen v) (bitsOf m) (f′ .0))) size
-                      ∙ ap₂ (λ (x : Count) (z : List Bool). tallyAs (summed w named (left - 1) (f′ .0) (o .cut) (t + (1 + specifier v)) x after) (patternsDue (left - 1) z (bitsOf m) (f′ .0))) (sym j′) (sym l);
-                }
-
-pub ruleset tallies = (tally-begins, tally-done, tally-within, tally-bad, tally-inside, tally-body-bad, tally-part, tally-notes, tally-on)
+pub ruleset tallies = (tally-begins, tally-done, tally-within, tally-bad, tally-part, tally-notes, tally-on)

@@ -1,15 +1,18 @@
 -- What the code answers of a message that it judges.
 use Prim.Native.Nat.{ℕ, _+_}
+use mathlib.Core.Bool.{Bool}
 use mathlib.Core.List.{List}
 use lib.ListN.{length}
 use Rattle.bits.specs.Outcome.{Outcome, accepted, refused}
-use Rattle.tone.specs.Tone.{Pattern, Tone, frontOf, cells}
+use Rattle.tone.specs.Tone.{Pattern, Tone, frontOf, cells, specifier}
 use Rattle.tone.specs.Writing.{frontBits, tableBits}
-use Rattle.tone.specs.Reading.{Got, got, bad}
-use Rattle.reading.specs.Answers.{place, octetCount, entries}
+use Rattle.tone.specs.Reading.{Got, got, bad, onward, headerDue, bodyDue}
+use Rattle.reading.specs.Answers.{place, octetCount, notes, entries}
 use Rattle.judging.specs.declared.Wish.{Wish}
 use Rattle.judging.specs.declared.Cut.{Cut}
 use Rattle.judging.specs.declared.Total.{Total}
+use Rattle.judging.specs.declared.Single.{Single}
+use Rattle.judging.specs.declared.Single.the-variants.{Fine, Fault}
 use Rattle.judging.specs.declared.Tally.{Tally}
 use Rattle.judging.specs.declared.Tally.the-variants.{Counted, Stopped}
 use Rattle.judging.specs.declared.Judged.{Judged}
@@ -17,6 +20,13 @@ use Rattle.judging.specs.declared.Judged.the-variants.{Sound, Faulty}
 use Rattle.counting.specs.Bodies.{noBodies}
 use Rattle.counting.specs.Counting.{entryCount, markFrom}
 use Rattle.judging.specs.Wishes.{wished, noCut, cutIn}
+
+-- the pattern at a place: its header, the place behind it, and the notes of its own instructions; or the refusal
+abbrev pub singleOf : List Bool → List Bool → ℕ → Single
+singleOf known l p =
+    onward (headerDue known l p)
+    (λ h q. onward (bodyDue (specifier h) l q) (λ b r. Fine h (place r) (notes b)) (λ n f e. Fault n (place f)))
+    (λ n f e. Fault n (place f))
 
 -- what the patterns ps at a place come to, with the list that qs have
 abbrev pub totalAs : ℕ → List Pattern → List Pattern → Cut → Total

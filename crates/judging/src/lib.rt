@@ -6,7 +6,7 @@ ghost use Rattle.tone.specs.Reading.{readTone, front as frontDue, patternsDue, 
 ghost use Rattle.reading.specs.Answers.{Within, openingOf, notes as notesOf};
 ghost use Rattle.reading.specs.Standing.{bodyIn, behindIn, BodyAt, PartAt};
 ghost use Rattle.judging.specs.Wishes.{noCut, leftAt, OwnOf, Owned};
-ghost use Rattle.judging.specs.Answers.{totalOf, tallyAs, judgedFor, judgedOf};
+ghost use Rattle.judging.specs.Answers.{singleOf, totalOf, tallyAs, judgedFor, judgedOf};
 use bits::BitPlace;
 use bits::OctetCount;
 use changing::Edit;
@@ -44,6 +44,13 @@ pub struct Total {
     pub mark: u32,
     pub end: BitPlace,
     pub cut: Cut,
+}
+
+// A pattern that was judged by itself: its header, the place behind it, and the notes of its own instructions; or the
+// refusal.
+pub enum Single {
+    Fine { cell: u32, next: BitPlace, own: u32 },
+    Fault { number: u32, at: BitPlace },
 }
 
 // Patterns that were judged: the place behind what was read, and what they come to; or the refusal. Here and below the
@@ -204,6 +211,27 @@ fn left_at(n: u32, k: usize) -> u32
 
 // ---- judging
 
+// Judges the pattern at a place: its header, and its instructions. `known` says which of A to D are defined.
+fn pattern(msg: &[u8], at: BitPlace, known: [bool; 4]) -> Single
+    requires { ⌜ Within (now msg) (at .0) ⌝ }
+    ensures { λ r. ⌜ r ≡ singleOf known (bitsOf (now (msg .entry))) (at .0) ⌝ }
+{
+    match reading::header(msg, at, known) {
+        Step::Bad { number, at: fault } => Single::Fault { number, at: fault },
+        Step::Good { value, next } => match reading::body(msg, next, value % 256) {
+            Step::Bad { number, at: fault } => Single::Fault { number, at: fault },
+            Step::Good {
+                value: own,
+                next: behind,
+            } => Single::Fine {
+                cell: value,
+                next: behind,
+                own,
+            },
+        },
+    }
+}
+
 // Judges `n` patterns and counts what they come to.
 fn patterns(msg: &[u8], at: BitPlace, n: u32, wish: Wish) -> Tally
     requires { ⌜ Within (now msg) (at .0) ⌝ }
@@ -219,30 +247,22 @@ fn patterns(msg: &[u8], at: BitPlace, n: u32, wish: Wish) -> Tally
     let mut count = Count::none();
     let mut cut = Cut::none();
     while 0 < left {
-        match reading::header(msg, place, known) {
-            Step::Bad { number, at: fault } => {
+        match pattern(msg, place, known) {
+            Single::Fault { number, at: fault } => {
                 return Tally::Stopped { at: fault, number };
             }
-            Step::Good { value, next } => match reading::body(msg, next, value % 256) {
-                Step::Bad { number, at: fault } => {
-                    return Tally::Stopped { at: fault, number };
-                }
-                Step::Good {
-                    value: own,
-                    next: behind,
-                } => {
-                    let part = own_part(msg, left == named, place, value, own, wish, cut);
-                    let id = (value / 4096 % 4) as usize;
-                    known[id] = true;
-                    let heard = counting::sounding(notes[id], value, part.notes);
-                    notes[id] = heard;
-                    table += 1 + value % 256;
-                    count = count.with(heard, value / 256 % 16);
-                    cut = part.cut;
-                    place = behind;
-                    left -= 1;
-                }
-            },
+            Single::Fine { cell, next, own } => {
+                let part = own_part(msg, left == named, place, cell, own, wish, cut);
+                let id = (cell / 4096 % 4) as usize;
+                known[id] = true;
+                let heard = counting::sounding(notes[id], cell, part.notes);
+                notes[id] = heard;
+                table += 1 + cell % 256;
+                count = count.with(heard, cell / 256 % 16);
+                cut = part.cut;
+                place = next;
+                left -= 1;
+            }
         }
     }
     let total = Total {

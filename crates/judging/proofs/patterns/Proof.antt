@@ -2,7 +2,7 @@
 use Rattle.judging.proofs.patterns.Statement.{statement}
 use Rattle.judging.proofs.patterns.Tie as tie
 use native.Mathlib.Omega.{arith}
-use Rattle.judging.proofs.Tallies.{TallyWalk, tally-inside, tally-notes, tallies}
+use Rattle.judging.proofs.Tallies.{TallyWalk, tally-notes, tallies}
 use borrow.Author.Needs.{needs}
 
 abbrev Inv-loop : tie.InvT-loop
@@ -23,8 +23,8 @@ none-requires-2 c κs = search (tallies, needs)
 loop-holds : tie.Need-loop-holds Inv-loop μ-loop
 loop-holds c = search (tallies, needs)
 
-header-requires : tie.Need-header-requires Inv-loop μ-loop
-header-requires c κs = search (tallies, needs)
+pattern-requires : tie.Need-pattern-requires Inv-loop μ-loop
+pattern-requires c κs = search (tallies, needs)
 
 enum-known-number : tie.Need-enum-known-number Inv-loop μ-loop
 enum-known-number c = search (tallies, needs)
@@ -32,20 +32,8 @@ enum-known-number c = search (tallies, needs)
 returns : tie.Need-returns Inv-loop μ-loop
 returns c = search (tallies, needs)
 
-enum-known-value : tie.Need-enum-known-value Inv-loop μ-loop
-enum-known-value c = search (tallies, needs)
-
-body-requires : tie.Need-body-requires Inv-loop μ-loop
-body-requires c κs = search (tally-inside, needs)
-
-enum-known-number-2 : tie.Need-enum-known-number-2 Inv-loop μ-loop
-enum-known-number-2 c = search (tallies, needs)
-
-returns-2 : tie.Need-returns-2 Inv-loop μ-loop
-returns-2 c = search (tallies, needs)
-
-enum-known-own : tie.Need-enum-known-own Inv-loop μ-loop
-enum-known-own c = search (tallies, needs)
+enum-known-cell : tie.Need-enum-known-cell Inv-loop μ-loop
+enum-known-cell c = search (tallies, needs)
 
 own-part-requires : tie.Need-own-part-requires Inv-loop μ-loop
 own-part-requires c κs = search (tallies, needs)
@@ -76,13 +64,14 @@ add-table c = search (tallies, needs)
 
 add-table-2 : tie.Need-add-table-2 Inv-loop μ-loop
 add-table-2 c =
-    let l = c .before .before .before .before .before .before .before .before .before .before .before in
-    record { fits = omega (arith, l .loop .inv .small, l .before .before .before .before .before .pre .1, c .before .before .before .before .before .before .before .before .before .before .loop-test .taken) }
+    let l = c .before .before .before .before .before .before .before in
+    record { fits = omega (arith, l .loop .inv .small, l .before .before .before .before .before .pre .1, c .before .before .before .before .before .before .loop-test .taken) }
 
 with-requires : tie.Need-with-requires Inv-loop μ-loop
 with-requires c κs =
-    let l = c .before .before .before .before .before .before .before .before .before .before .before in
-    (omega (arith, l .loop .inv .fewer, l .before .before .before .before .before .pre .1, c .before .before .before .before .before .before .before .before .before .before .loop-test .taken), tally-notes (l .loop .inv) (c .before .before .before .before .before .before .before .before .before .before .loop-test .taken) (c .before .before .before .before .before .before .before .before .before .header .ensures) (c .before .before .before .before .before .before .before .value .given .1) (c .before .before .before .before .before .body .ensures) (c .before .before .before .own .given .1) (c .before .own-part .ensures) (c .sounding .ensures), omega arith)
+    let l = c .before .before .before .before .before .before .before in
+    let n = tally-notes (l .loop .inv) (c .before .before .before .before .before .before .loop-test .taken) (c .before .before .before .before .before .pattern .ensures) (c .before .before .before .cell .given .1) (c .before .own-part .ensures) (c .sounding .ensures) in
+    (omega (arith, l .loop .inv .fewer, l .before .before .before .before .before .pre .1, c .before .before .before .before .before .before .loop-test .taken), n, omega arith)
 
 sub-left : tie.Need-sub-left Inv-loop μ-loop
 sub-left c = search (tallies, needs)
@@ -93,8 +82,8 @@ loop-less c = search (tallies, needs)
 loop-again : tie.Need-loop-again Inv-loop μ-loop
 loop-again c = search (tallies, needs)
 
-returns-3 : tie.Need-returns-3 Inv-loop μ-loop
-returns-3 c = search (tallies, needs)
+returns-2 : tie.Need-returns-2 Inv-loop μ-loop
+returns-2 c = search (tallies, needs)
 
 pub patterns-spec : {M : Type 1} → statement M
 patterns-spec =
@@ -106,14 +95,10 @@ patterns-spec =
     none-requires
     none-requires-2
     loop-holds
-    header-requires
+    pattern-requires
     enum-known-number
     returns
-    enum-known-value
-    body-requires
-    enum-known-number-2
-    returns-2
-    enum-known-own
+    enum-known-cell
     own-part-requires
     cast-id
     array-write-known
@@ -128,4 +113,4 @@ patterns-spec =
     sub-left
     loop-less
     loop-again
-    returns-3)
+    returns-2)
