@@ -109,7 +109,7 @@ fn a_few_hundred_messages_play() {
     let seed = seed_set().unwrap_or(5505);
     println!("seed {seed}");
     let mut rng = Rng::new(seed);
-    for _ in 0..400 {
+    for _ in 0..250 {
         let message = inputs::message(&mut rng);
         let piece = rng.pick(&[usize::MAX, 1000, 100, 7]);
         assert_plays(&message, piece, Duration::ZERO);
