@@ -99,7 +99,7 @@ pub ruleset images = (read-long, image-accepted, image-refused)
 -- ---- `write`
 
 -- what the judge of sizes and image finds
-judged-right : (width height : ℕ) (image : List ℕ) {o : Outcome Bitmap} → JudgedCase width height image o → refusalOf o ≡ 0 → o ≡ accepted (bitmap width height image)
+pub judged-right : (width height : ℕ) (image : List ℕ) {o : Outcome Bitmap} → JudgedCase width height image o → refusalOf o ≡ 0 → o ≡ accepted (bitmap width height image)
 judged-right width height image (JudgedCase.outside k) z = let n : ⊥ = omega arith in absurd n
 judged-right width height image (JudgedCase.other-length s k) z = let n : ⊥ = omega arith in absurd n
 judged-right width height image (JudgedCase.right s x) z = refl
@@ -109,7 +109,7 @@ judged-sizes width height image (JudgedCase.outside k) z = let n : ⊥ = omega a
 judged-sizes width height image (JudgedCase.other-length s k) z = let n : ⊥ = omega arith in absurd n
 judged-sizes width height image (JudgedCase.right s x) z = s
 
-judged-wrong : (width height : ℕ) (image : List ℕ) {o : Outcome Bitmap} → JudgedCase width height image o → (refusalOf o ≡ 0 → ⊥) → o ≡ refused (refusalOf o) 0
+pub judged-wrong : (width height : ℕ) (image : List ℕ) {o : Outcome Bitmap} → JudgedCase width height image o → (refusalOf o ≡ 0 → ⊥) → o ≡ refused (refusalOf o) 0
 judged-wrong width height image (JudgedCase.outside k) n = refl
 judged-wrong width height image (JudgedCase.other-length s k) n = refl
 judged-wrong width height image (JudgedCase.right s x) n = absurd (n refl)

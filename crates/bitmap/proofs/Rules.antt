@@ -11,10 +11,11 @@ use borrow.Author.Tests.{ltb-true, ltb-false, leb-true, leb-false, eqb-true, eqb
 use Rattle.bits.specs.Choice.{pick}
 use Rattle.bits.specs.Outcome.{Outcome, accepted, refused}
 use Rattle.bits.specs.Bits.{Octets}
+use Rattle.bits.proofs.Choice.{both}
 use Rattle.bits.proofs.Octets.{octets-drop}
 use Rattle.bitmap.specs.Image.{Sizes, sizesTaken, imageOctets}
 use Rattle.bitmap.specs.Bitmap.{Bitmap, WellFormed, writing, judged, reading, intoRoom, writingInto}
-use Rattle.bitmap.proofs.Sizing.{both, taken-sizes, sizes-taken}
+use Rattle.bitmap.proofs.Sizing.{taken-sizes, sizes-taken}
 
 -- ---- when each outcome is met
 

@@ -51,7 +51,7 @@ fn octets_of(width: u32, height: u32) -> OctetCount
 }
 
 // The number of the refusal that sizes and an image meet, 0 where there is none.
-fn fault(width: u32, height: u32, image: &[u8]) -> u32
+pub fn fault(width: u32, height: u32, image: &[u8]) -> u32
     ensures { λ r. ⌜ r ≡ refusalOf (judged width height (now (image .entry))) ⌝ }
 {
     if !sized(width, height) {
@@ -135,7 +135,7 @@ fn count(s: &[u8]) -> u32
 // ---- A plain bitmap: four octets of header and the image.
 
 // The number of the refusal that a message meets, 0 where it is a bitmap.
-fn judge(msg: &[u8]) -> u32
+pub fn judge(msg: &[u8]) -> u32
     ensures { λ r. ⌜ r ≡ refusalOf (reading (now (msg .entry))) ⌝ }
 {
     if msg.len() < 4 {
@@ -176,7 +176,7 @@ pub fn image(msg: &[u8]) -> &[u8]
 }
 
 // Writes the header and the image to the front of a buffer.
-fn fill(width: u8, height: u8, image: &[u8], out: &mut [u8])
+pub fn fill(width: u8, height: u8, image: &[u8], out: &mut [u8])
     requires { ⌜ length (now image) + 4 ≤ length (now out) ⌝ }
     ensures { λ _. ⌜ now (out .exit) ≡ writing (record { width = width; height = height; image = now (image .entry) }) ++ drop (length (now (image .entry)) + 4) (now (out .entry)) ⌝ }
 {

@@ -1,0 +1,4 @@
+pub mod Rules
+pub mod Stretches
+pub mod Exits
+pub mod Writes
