@@ -140,7 +140,8 @@ write-leaves width height image out n after p =
     let k = kept width height image out n after (writing-is (length out) width height image) (p .answer) (p .lent) in
     (k .octets, k .lent)
 
-same-fault : (n : ℕ) (p : BitPlace) (o : Outcome (List ℕ)) → Unwritten n p ≡ writeAnswer o → o ≡ refused n (p .0)
+-- a refusal that is answered is the outcome
+pub same-fault : (n : ℕ) (p : BitPlace) (o : Outcome (List ℕ)) → Unwritten n p ≡ writeAnswer o → o ≡ refused n (p .0)
 same-fault n p (accepted w) e = let z : _≡_ {A = ℕ} 0 1 = cc in let n : ⊥ = omega arith in absurd n
 same-fault n p (refused k q) e =
     ap₂ (λ (a b : ℕ). refused a b) (sym (ap (λ (r : Writing). numbersOfWriting r .refusal) e)) (sym (ap (λ (r : Writing). numbersOfWriting r .place) e))

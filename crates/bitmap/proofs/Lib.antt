@@ -7,6 +7,7 @@ pub mod Judging
 pub mod Filling
 pub mod Rules
 pub mod Exits
+pub mod Order
 pub mod Calls
 pub mod Unique
 pub mod Samples

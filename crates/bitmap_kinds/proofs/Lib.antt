@@ -2,3 +2,8 @@ pub mod Rules
 pub mod Stretches
 pub mod Exits
 pub mod Writes
+pub mod Unique
+pub mod Order
+pub mod Calls
+pub mod Pixels
+pub mod Samples

@@ -1,3 +1,4 @@
 pub mod Kinds
 pub mod Promises
 pub mod Steps
+pub mod Samples

@@ -39,10 +39,14 @@ use Rattle.bitmap.specs.declared.Writing.{Writing as BitmapWriting}
 use Rattle.bitmap.specs.declared.Writing.the-variants.{Wrote, Refused as Unwritten}
 use Rattle.bitmap.specs.Bitmap.{Bitmap, reading}
 use Rattle.bitmap.specs.Promises.{ReadPromise as BitmapReadPromise, WritePromise as BitmapWritePromise, ImagePromise, readAnswer as bitmapAnswer, readNumbers as bitmapNumbers, numbersOfReading, numbersOfWriting, imageOf, imageStart}
+use Rattle.bitmap_ahead.specs.declared.Kind.{Kind}
+use Rattle.bitmap_ahead.specs.Ahead.{Ahead}
+use Rattle.bitmap_kinds.specs.Promises.{WritePromise as KindWritePromise}
+use Rattle.ohakelm.specs.declared.WrittenAnswer.{WrittenAnswer}
 use Rattle.ohakelm.specs.declared.LabelAnswer.{LabelAnswer}
 use Rattle.ohakelm.specs.declared.ListAnswer.{ListAnswer}
 use Rattle.ohakelm.specs.declared.EditAnswer.{EditAnswer}
-use Rattle.ohakelm.specs.Promise.{readAs, ReadExport, writtenAs, WriteExport, LabelExport, listedAs, ListExport, RowsExport, editedAs, EditExport, bitmapAs, BitmapReadExport, bitmapWrittenAs, BitmapWriteExport}
+use Rattle.ohakelm.specs.Promise.{readAs, ReadExport, writtenAs, WriteExport, LabelExport, listedAs, ListExport, RowsExport, editedAs, EditExport, bitmapAs, BitmapReadExport, bitmapWrittenAs, BitmapWriteExport, KindWriteExport}
 
 -- ---- reading a tone
 
@@ -159,11 +163,22 @@ module _ (m : RefT (List ℕ)) {x : BitmapReading} (p : BitmapReadPromise (now m
       go (accepted b) e h j = (ap₂ (λ y (n : ℕ). bitmapAs y 4 n) h (ap length j), rw j (sym (take-length (drop 4 (now m)))))
       go (refused k q) e h j = let z : _≡_ {A = ℕ} 0 1 = cc in absurd (omega arith)
 
-module _ {width height : ℕ} {image out out′ : List ℕ} {x : BitmapWriting} (p : BitmapWritePromise width height image out x out′) where
-  pub bitmap-unwritten : {n : ℕ} {f : BitPlace} → x ≡ Unwritten n f → BitmapWriteExport width height image out out′ (record { refusal = n; place = f .0; octets = 0 })
-  bitmap-unwritten g = record { answer = ap (λ (y : BitmapWriting). bitmapWrittenAs (numbersOfWriting y)) (sym g) ∙ ap bitmapWrittenAs (p .numbers); leaves = p .lent }
+pub ruleset bitmaps = (bitmap-refused, bitmap-read)
 
-  pub bitmap-written : {n : OctetCount} → x ≡ Wrote n → BitmapWriteExport width height image out out′ (record { refusal = 0; place = 0; octets = n .0 })
-  bitmap-written g = record { answer = ap (λ (y : BitmapWriting). bitmapWrittenAs (numbersOfWriting y)) (sym g) ∙ ap bitmapWrittenAs (p .numbers); leaves = p .lent }
+-- ---- what is written of a bitmap of any kind
 
-pub ruleset bitmaps = (bitmap-refused, bitmap-read, bitmap-unwritten, bitmap-written)
+pub bitmap-unwritten : {x : BitmapWriting} {n : ℕ} {f : BitPlace} → x ≡ Unwritten n f → record { refusal = n; place = f .0; octets = 0 } ≡ bitmapWrittenAs (numbersOfWriting x)
+bitmap-unwritten g = ap (λ (y : BitmapWriting). bitmapWrittenAs (numbersOfWriting y)) (sym g)
+
+pub bitmap-written : {x : BitmapWriting} {n : OctetCount} → x ≡ Wrote n → record { refusal = 0; place = 0; octets = n .0 } ≡ bitmapWrittenAs (numbersOfWriting x)
+bitmap-written g = ap (λ (y : BitmapWriting). bitmapWrittenAs (numbersOfWriting y)) (sym g)
+
+pub bitmap-put : {width height : ℕ} {image out out′ : List ℕ} {x : BitmapWriting} {r : WrittenAnswer} → BitmapWritePromise width height image out x out′
+    → r ≡ bitmapWrittenAs (numbersOfWriting x) → BitmapWriteExport width height image out out′ r
+bitmap-put p e = record { answer = e ∙ ap bitmapWrittenAs (p .numbers); leaves = p .lent }
+
+pub kind-put : {kind : Kind} {a : Ahead} {width height : ℕ} {image out out′ : List ℕ} {x : BitmapWriting} {r : WrittenAnswer}
+    → KindWritePromise kind a width height image out x out′ → r ≡ bitmapWrittenAs (numbersOfWriting x) → KindWriteExport kind a width height image out out′ r
+kind-put p e = record { answer = e ∙ ap bitmapWrittenAs (p .numbers); leaves = p .lent }
+
+pub ruleset written = (bitmap-unwritten, bitmap-written, bitmap-put, kind-put)

@@ -5,13 +5,15 @@ use mathlib.Core.Bool.{Bool}
 use mathlib.Core.List.{List}
 use Rattle.sounding.specs.declared.Entry.{Entry}
 use Rattle.changing.specs.declared.Edit.{Edit}
+use Rattle.bitmap_ahead.specs.declared.Kind.{Kind}
+use Rattle.bitmap_ahead.specs.Ahead.{Ahead}
+use Rattle.bitmap_answers.specs.declared.BitmapAnswer.{BitmapAnswer}
 use Rattle.ohakelm.specs.declared.ToneAnswer.{ToneAnswer}
 use Rattle.ohakelm.specs.declared.WrittenAnswer.{WrittenAnswer}
 use Rattle.ohakelm.specs.declared.LabelAnswer.{LabelAnswer}
 use Rattle.ohakelm.specs.declared.ListAnswer.{ListAnswer}
 use Rattle.ohakelm.specs.declared.EditAnswer.{EditAnswer}
-use Rattle.ohakelm.specs.declared.BitmapAnswer.{BitmapAnswer}
-use Rattle.ohakelm.specs.Promise.{ReadExport, WriteExport, LabelExport, ListExport, RowsExport, EditExport, BitmapReadExport, BitmapWriteExport}
+use Rattle.ohakelm.specs.Promise.{ReadExport, WriteExport, LabelExport, ListExport, RowsExport, EditExport, BitmapReadExport, BitmapWriteExport, KindWriteExport}
 
 -- `ohakelm_read`: the answer, the table and the title
 pub read-decided : (m table title table₁ title₁ table₂ title₂ : List ℕ) (r s : ToneAnswer)
@@ -53,3 +55,8 @@ bitmap-read-decided m r s p q = p .answer ∙ sym (q .answer)
 pub bitmap-write-decided : (width height : ℕ) (image out out₁ out₂ : List ℕ) (r s : WrittenAnswer)
     → BitmapWriteExport width height image out out₁ r → BitmapWriteExport width height image out out₂ s → (r ≡ s) × (out₁ ≡ out₂)
 bitmap-write-decided width height image out out₁ out₂ r s p q = (p .answer ∙ sym (q .answer), p .leaves ∙ sym (q .leaves))
+
+-- `ohakelm_icon_write`, `ohakelm_logo_write`: the answer and the buffer
+pub kind-write-decided : (kind : Kind) (a : Ahead) (width height : ℕ) (image out out₁ out₂ : List ℕ) (r s : WrittenAnswer)
+    → KindWriteExport kind a width height image out out₁ r → KindWriteExport kind a width height image out out₂ s → (r ≡ s) × (out₁ ≡ out₂)
+kind-write-decided kind a width height image out out₁ out₂ r s p q = (p .answer ∙ sym (q .answer), p .leaves ∙ sym (q .leaves))

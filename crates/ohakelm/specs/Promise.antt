@@ -19,12 +19,15 @@ use Rattle.editing.specs.Editing.{Edited, editMessage, bufferAfter, listAfter}
 use Rattle.editing.specs.Promise.{Numbers as EditNumbers, editNumbers}
 use Rattle.bitmap.specs.Bitmap.{reading, writingInto}
 use Rattle.bitmap.specs.Promises.{ReadNumbers as BitmapNumbers, readNumbers as bitmapNumbers, imageOf, imageStart, WriteNumbers as BitmapWritten, writeNumbers as bitmapWritten, lentAfter}
+use Rattle.bitmap_ahead.specs.declared.Kind.{Kind}
+use Rattle.bitmap_ahead.specs.Ahead.{Ahead}
+use Rattle.bitmap_kinds.specs.Kinds.{writingInto as kindInto}
+use Rattle.bitmap_answers.specs.declared.BitmapAnswer.{BitmapAnswer}
 use Rattle.ohakelm.specs.declared.ToneAnswer.{ToneAnswer}
 use Rattle.ohakelm.specs.declared.WrittenAnswer.{WrittenAnswer}
 use Rattle.ohakelm.specs.declared.LabelAnswer.{LabelAnswer}
 use Rattle.ohakelm.specs.declared.ListAnswer.{ListAnswer}
 use Rattle.ohakelm.specs.declared.EditAnswer.{EditAnswer}
-use Rattle.ohakelm.specs.declared.BitmapAnswer.{BitmapAnswer}
 
 -- ---- reading a tone
 
@@ -132,3 +135,10 @@ bitmapWrittenAs n = record { refusal = n .refusal; place = n .place; octets = n 
 pub record BitmapWriteExport (width height : ℕ) (image out out′ : List ℕ) (r : WrittenAnswer) : Type 0 where
   pub answer : r ≡ bitmapWrittenAs (bitmapWritten (writingInto (length out) width height image))
   pub leaves : out′ ≡ lentAfter (writingInto (length out) width height image) out
+
+-- ---- icons and logos
+
+-- `ohakelm_icon_write` and `ohakelm_logo_write`, each with its own kind: every number and every octet of the buffer
+pub record KindWriteExport (kind : Kind) (a : Ahead) (width height : ℕ) (image out out′ : List ℕ) (r : WrittenAnswer) : Type 0 where
+  pub answer : r ≡ bitmapWrittenAs (bitmapWritten (kindInto (length out) kind a width height image))
+  pub leaves : out′ ≡ lentAfter (kindInto (length out) kind a width height image) out

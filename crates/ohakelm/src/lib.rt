@@ -3,7 +3,14 @@ ghost use lib.ListN.{length};
 ghost use Rattle.listing.specs.Promise.{numbersOf as listedNumbers};
 ghost use Rattle.editing.specs.Promise.{numbersOf as editNumbers};
 ghost use Rattle.changing.specs.declared.Edit.the-variants.{Replace, Insert, Delete};
-ghost use Rattle.ohakelm.specs.Promise.{ReadExport, WriteExport, LabelExport, ListExport, RowsExport, EditExport, BitmapReadExport, BitmapWriteExport, listedAs, editedAs};
+ghost use Rattle.bitmap.specs.Promises.{numbersOfWriting as bitmapNumbers};
+ghost use Rattle.bitmap_ahead.specs.declared.Kind.the-variants.{Icon, Logo};
+ghost use Rattle.bitmap_ahead.specs.Ahead.{said, nothing};
+ghost use Rattle.bitmap_answers.specs.Promise.{IconReadExport, LogoReadExport};
+ghost use Rattle.ohakelm.specs.Promise.{ReadExport, WriteExport, LabelExport, ListExport, RowsExport, EditExport, BitmapReadExport, BitmapWriteExport, KindWriteExport, listedAs, editedAs, bitmapWrittenAs};
+use bitmap_ahead::Kind;
+use bitmap_answers::BitmapAnswer;
+use bitmap_answers::LogoAnswer;
 use bits::OctetCount;
 use changing::Edit;
 use editing::Answer;
@@ -61,18 +68,6 @@ pub struct EditAnswer {
     pub entries: usize,
     pub mark: u32,
     pub change: i32,
-}
-
-// What reading a bitmap answers: with the sizes and the black pixels the stretch of the message that is the image.
-#[repr(C)]
-pub struct BitmapAnswer {
-    pub refusal: u32,
-    pub place: usize,
-    pub width: u32,
-    pub height: u32,
-    pub black: u32,
-    pub start: usize,
-    pub length: usize,
 }
 
 // ---- tones
@@ -313,17 +308,11 @@ pub extern "C" fn ohakelm_bitmap_read(msg: &[u8]) -> BitmapAnswer
     }
 }
 
-// Writes a bitmap from its sizes and its image.
-#[no_mangle]
-pub extern "C" fn ohakelm_bitmap_write(
-    width: u32,
-    height: u32,
-    image: &[u8],
-    out: &mut [u8],
-) -> WrittenAnswer
-    ensures { λ r. ⌜ BitmapWriteExport width height (now (image .entry)) (now (out .entry)) (now (out .exit)) r ⌝ }
+// The numbers of a bitmap that was written.
+fn written_answer(answer: bitmap::Writing) -> WrittenAnswer
+    ensures { λ r. ⌜ r ≡ bitmapWrittenAs (bitmapNumbers answer) ⌝ }
 {
-    match bitmap::write(width, height, image, out) {
+    match answer {
         bitmap::Writing::Refused(number, place) => WrittenAnswer {
             refusal: number,
             place: place.0,
@@ -335,4 +324,65 @@ pub extern "C" fn ohakelm_bitmap_write(
             octets: octets.0,
         },
     }
+}
+
+// Writes a bitmap from its sizes and its image.
+#[no_mangle]
+pub extern "C" fn ohakelm_bitmap_write(
+    width: u32,
+    height: u32,
+    image: &[u8],
+    out: &mut [u8],
+) -> WrittenAnswer
+    ensures { λ r. ⌜ BitmapWriteExport width height (now (image .entry)) (now (out .entry)) (now (out .exit)) r ⌝ }
+{
+    written_answer(bitmap::write(width, height, image, out))
+}
+
+// ---- icons and logos
+
+// Reads a CLI icon: its sizes, its black pixels and the stretch of the message that is the image.
+#[no_mangle]
+pub extern "C" fn ohakelm_icon_read(msg: &[u8]) -> BitmapAnswer
+    ensures { λ r. ⌜ IconReadExport (now (msg .entry)) r ⌝ }
+{
+    bitmap_answers::read_icon(msg)
+}
+
+// Writes a CLI icon from its sizes and its image. It says nothing ahead.
+#[no_mangle]
+pub extern "C" fn ohakelm_icon_write(
+    width: u32,
+    height: u32,
+    image: &[u8],
+    out: &mut [u8],
+) -> WrittenAnswer
+    ensures { λ r. ⌜ KindWriteExport Icon nothing width height (now (image .entry)) (now (out .entry)) (now (out .exit)) r ⌝ }
+{
+    let none = &image[0..0];
+    written_answer(bitmap_kinds::write(Kind::Icon, none, none, none, width, height, image, out))
+}
+
+// Reads an operator logo: as an icon, and the stretches that are its two network codes and its date.
+#[no_mangle]
+pub extern "C" fn ohakelm_logo_read(msg: &[u8]) -> LogoAnswer
+    ensures { λ r. ⌜ LogoReadExport (now (msg .entry)) r ⌝ }
+{
+    bitmap_answers::read_logo(msg)
+}
+
+// Writes an operator logo from its codes, its date, its sizes and its image.
+#[no_mangle]
+pub extern "C" fn ohakelm_logo_write(
+    mcc: &[u8],
+    mnc: &[u8],
+    date: &[u8],
+    width: u32,
+    height: u32,
+    image: &[u8],
+    out: &mut [u8],
+) -> WrittenAnswer
+    ensures { λ r. ⌜ KindWriteExport Logo (said (now (mcc .entry)) (now (mnc .entry)) (now (date .entry))) width height (now (image .entry)) (now (out .entry)) (now (out .exit)) r ⌝ }
+{
+    written_answer(bitmap_kinds::write(Kind::Logo, mcc, mnc, date, width, height, image, out))
 }

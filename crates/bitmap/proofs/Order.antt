@@ -1,0 +1,71 @@
+-- The order of the grounds: each is given where it is met and none ahead of it is, whatever else is wrong.
+use Prim.Native.Nat.{ℕ, _≤_, _<_}
+use native.Mathlib.Omega.{arith}
+use mathlib.Core.Path.{_≡_, refl}
+use mathlib.Core.List.{List}
+use lib.ListN.{length, getD, drop}
+use Rattle.bits.specs.Outcome.{Outcome, accepted, refused}
+use Rattle.bitmap.specs.Image.{Sizes, imageOctets}
+use Rattle.bitmap.specs.Bitmap.{Bitmap, judged, reading}
+use Rattle.bitmap.proofs.Rules.{bitmap, Header, JudgedCase, ReadingCase, judged-is, reading-is}
+
+-- ---- reading: 2, 15, 16
+
+-- 2, whatever the octets are that are there
+pub short-first : (m : List ℕ) → length m < 4 → reading m ≡ refused 2 0
+short-first m l = go (reading-is m)
+  where
+    go : {o : Outcome Bitmap} → ReadingCase m o → o ≡ refused 2 0
+    go (ReadingCase.short h) = refl
+    go (ReadingCase.outside h n) = let z : ⊥ = omega arith in absurd z
+    go (ReadingCase.other-length h k n) = let z : ⊥ = omega arith in absurd z
+    go (ReadingCase.right h k e) = let z : ⊥ = omega arith in absurd z
+
+-- 15, however long the image is
+pub header-second : (m : List ℕ) → 4 ≤ length m → (Header m → ⊥) → reading m ≡ refused 15 0
+header-second m l x = go (reading-is m)
+  where
+    go : {o : Outcome Bitmap} → ReadingCase m o → o ≡ refused 15 0
+    go (ReadingCase.short h) = let z : ⊥ = omega arith in absurd z
+    go (ReadingCase.outside h n) = refl
+    go (ReadingCase.other-length h k n) = absurd (x k)
+    go (ReadingCase.right h k e) = absurd (x k)
+
+-- 16
+pub image-third : (m : List ℕ) → 4 ≤ length m → Header m → (length (drop 4 m) ≡ imageOctets (getD m 1 0) (getD m 2 0) → ⊥) → reading m ≡ refused 16 0
+image-third m l x y = go (reading-is m)
+  where
+    go : {o : Outcome Bitmap} → ReadingCase m o → o ≡ refused 16 0
+    go (ReadingCase.short h) = let z : ⊥ = omega arith in absurd z
+    go (ReadingCase.outside h n) = absurd (n x)
+    go (ReadingCase.other-length h k n) = refl
+    go (ReadingCase.right h k e) = absurd (y e)
+
+-- ---- what is to be written: 15, 16, and then 11 for the room
+
+-- 15, however long the image is
+pub sizes-first : (width height : ℕ) (image : List ℕ) → (Sizes width height → ⊥) → judged width height image ≡ refused 15 0
+sizes-first width height image x = go (judged-is width height image)
+  where
+    go : {o : Outcome Bitmap} → JudgedCase width height image o → o ≡ refused 15 0
+    go (JudgedCase.outside n) = refl
+    go (JudgedCase.other-length s n) = absurd (x s)
+    go (JudgedCase.right s e) = absurd (x s)
+
+-- 16
+pub octets-second : (width height : ℕ) (image : List ℕ) → Sizes width height → (length image ≡ imageOctets width height → ⊥) → judged width height image ≡ refused 16 0
+octets-second width height image x y = go (judged-is width height image)
+  where
+    go : {o : Outcome Bitmap} → JudgedCase width height image o → o ≡ refused 16 0
+    go (JudgedCase.outside n) = absurd (n x)
+    go (JudgedCase.other-length s n) = refl
+    go (JudgedCase.right s e) = absurd (y e)
+
+-- else it is accepted
+pub judged-last : (width height : ℕ) (image : List ℕ) → Sizes width height → length image ≡ imageOctets width height → judged width height image ≡ accepted (bitmap width height image)
+judged-last width height image x y = go (judged-is width height image)
+  where
+    go : {o : Outcome Bitmap} → JudgedCase width height image o → o ≡ accepted (bitmap width height image)
+    go (JudgedCase.outside n) = absurd (n x)
+    go (JudgedCase.other-length s n) = absurd (n y)
+    go (JudgedCase.right s e) = refl
