@@ -10,9 +10,10 @@
  *
  * Checks. Both must answer alike and leave the same octets. A refusal must
  * leave all as it was. What was read must write again, what an edit lists must
- * be the list of its octets, and a deletion must undo an insertion. Buffers end
- * at a page that cannot be touched, and guard cells stand ahead of them, so a
- * read or a write past the end ends the run.
+ * be the list of its octets, and a deletion must undo an insertion. An icon and
+ * a logo that were written must read again. Buffers end at a page that cannot
+ * be touched, and guard cells stand ahead of them, so a read or a write past
+ * the end ends the run.
  *
  * Input. One octet names the call, some more are its numbers, and the rest is
  * the message, title or image. */
@@ -40,6 +41,13 @@ struct ohakelm_edited guide_delete(uint8_t *, size_t, size_t, size_t, size_t, ui
 struct ohakelm_bitmap guide_bitmap_read(const uint8_t *, size_t);
 struct ohakelm_written guide_bitmap_write(uint32_t, uint32_t, const uint8_t *, size_t, uint8_t *,
                                           size_t);
+struct ohakelm_bitmap guide_icon_read(const uint8_t *, size_t);
+struct ohakelm_written guide_icon_write(uint32_t, uint32_t, const uint8_t *, size_t, uint8_t *,
+                                        size_t);
+struct ohakelm_logo guide_logo_read(const uint8_t *, size_t);
+struct ohakelm_written guide_logo_write(const uint8_t *, size_t, const uint8_t *, size_t,
+                                        const uint8_t *, size_t, uint32_t, uint32_t,
+                                        const uint8_t *, size_t, uint8_t *, size_t);
 
 #define GUARD 32       /* octets ahead of a buffer */
 #define LARGEST 131072 /* octets of a buffer, at most */
@@ -92,6 +100,15 @@ static bool same_bitmap(struct ohakelm_bitmap a, struct ohakelm_bitmap b)
            a.length == b.length;
 }
 
+static bool same_logo(struct ohakelm_logo a, struct ohakelm_logo b)
+{
+    return a.refusal == b.refusal && a.place == b.place && a.width == b.width &&
+           a.height == b.height && a.black == b.black && a.start == b.start &&
+           a.length == b.length && a.mcc_start == b.mcc_start && a.mcc_length == b.mcc_length &&
+           a.mnc_start == b.mnc_start && a.mnc_length == b.mnc_length &&
+           a.date_start == b.date_start && a.date_length == b.date_length;
+}
+
 /* ---- Buffers */
 
 /* A buffer for the library, one of the same octets for the guide, and what
@@ -104,7 +121,7 @@ struct lent {
     size_t octets;
 };
 
-static struct lent first, second, third;
+static struct lent first, second, third, fourth, fifth;
 
 static void map(struct lent *lent)
 {
@@ -176,6 +193,23 @@ static size_t take_room(struct input *in, size_t ample)
 {
     uint32_t number = take(in, 1);
     return number < 16 ? number : ample;
+}
+
+/* A room that may be too small for a logo by one, or one that is ample. */
+static size_t take_logo_room(struct input *in)
+{
+    uint32_t number = take(in, 1);
+    return number < 64 ? number : 8192;
+}
+
+/* So many octets of the input, or what is left of them. */
+static size_t take_octets(struct input *in, struct lent *lent, size_t octets)
+{
+    size_t count = octets < in->left ? octets : in->left;
+    lend(lent, count, in->at, count);
+    in->at += count;
+    in->left -= count;
+    return count;
 }
 
 /* The rest of the input, at the end of the first buffer. */
@@ -436,12 +470,124 @@ static void fuzz_bitmap_write(struct input *in)
         check_untouched(&second);
 }
 
+static void fuzz_icon_read(struct input *in)
+{
+    static uint8_t out[8192];
+    size_t count = take_rest(in);
+    struct ohakelm_bitmap icon = ohakelm_icon_read(first.ours, count);
+    struct ohakelm_bitmap other = guide_icon_read(first.theirs, count);
+    check(same_bitmap(icon, other), "both read icons alike");
+    check_lent(&first);
+    if (icon.refusal != 0)
+        return;
+    struct ohakelm_bitmap plain = ohakelm_bitmap_read(first.ours + 1, count - 1);
+    plain.start++;
+    check(same_bitmap(icon, plain), "a bitmap is behind the version");
+    struct ohakelm_written done = ohakelm_icon_write(
+        icon.width, icon.height, first.ours + icon.start, icon.length, out, sizeof out);
+    check(done.refusal == 0 && done.octets == count, "an icon that was read is written");
+    check(memcmp(out, first.ours, count) == 0, "it is written to the same octets");
+}
+
+static void fuzz_icon_write(struct input *in)
+{
+    uint32_t width = take(in, 2);
+    uint32_t height = take(in, 2);
+    size_t room = take_room(in, 8192);
+    size_t count = take_rest(in);
+    lend(&second, room, NULL, 0);
+    struct ohakelm_written done =
+        ohakelm_icon_write(width, height, first.ours, count, second.ours, room);
+    struct ohakelm_written other =
+        guide_icon_write(width, height, first.theirs, count, second.theirs, room);
+    check(same_written(done, other), "both write icons alike");
+    check_lent(&first);
+    check_lent(&second);
+    if (done.refusal != 0) {
+        check_untouched(&second);
+        return;
+    }
+    struct ohakelm_bitmap icon = ohakelm_icon_read(second.ours, done.octets);
+    check(icon.refusal == 0 && icon.width == width && icon.height == height,
+          "an icon that was written is read");
+    check(icon.length == count && memcmp(second.ours + icon.start, first.ours, count) == 0,
+          "its image is the same");
+}
+
+static void fuzz_logo_read(struct input *in)
+{
+    static uint8_t out[8192];
+    size_t count = take_rest(in);
+    const uint8_t *msg = first.ours;
+    struct ohakelm_logo logo = ohakelm_logo_read(msg, count);
+    struct ohakelm_logo other = guide_logo_read(first.theirs, count);
+    check(same_logo(logo, other), "both read logos alike");
+    check_lent(&first);
+    if (logo.refusal != 0)
+        return;
+    struct ohakelm_written done = ohakelm_logo_write(
+        msg + logo.mcc_start, logo.mcc_length, msg + logo.mnc_start, logo.mnc_length,
+        msg + logo.date_start, logo.date_length, logo.width, logo.height, msg + logo.start,
+        logo.length, out, sizeof out);
+    check(done.refusal == 0 && done.octets == count, "a logo that was read is written");
+    check(memcmp(out, msg, count) == 0, "it is written to the same octets");
+}
+
+/* Whether a stretch of the second buffer has a buffer's octets. */
+static bool same_stretch(size_t start, size_t length, const struct lent *lent)
+{
+    return length == lent->octets && memcmp(second.ours + start, lent->ours, length) == 0;
+}
+
+/* What was written is read again to the same parts. */
+static void check_logo_again(struct ohakelm_written done, uint32_t width, uint32_t height)
+{
+    struct ohakelm_logo logo = ohakelm_logo_read(second.ours, done.octets);
+    check(logo.refusal == 0 && logo.width == width && logo.height == height,
+          "a logo that was written is read");
+    check(same_stretch(logo.start, logo.length, &first), "its image is the same");
+    check(same_stretch(logo.mcc_start, logo.mcc_length, &third), "its MCC is the same");
+    check(same_stretch(logo.mnc_start, logo.mnc_length, &fourth), "its MNC is the same");
+    check(same_stretch(logo.date_start, logo.date_length, &fifth), "its date is the same");
+}
+
+static void fuzz_logo_write(struct input *in)
+{
+    uint32_t width = take(in, 2);
+    uint32_t height = take(in, 2);
+    size_t room = take_logo_room(in);
+    size_t mcc = take(in, 1) % 8;
+    size_t mnc = take(in, 1) % 8;
+    size_t date = take(in, 1) % 32;
+    mcc = take_octets(in, &third, mcc);
+    mnc = take_octets(in, &fourth, mnc);
+    date = take_octets(in, &fifth, date);
+    size_t count = take_rest(in);
+    lend(&second, room, NULL, 0);
+    struct ohakelm_written done =
+        ohakelm_logo_write(third.ours, mcc, fourth.ours, mnc, fifth.ours, date, width, height,
+                           first.ours, count, second.ours, room);
+    struct ohakelm_written other =
+        guide_logo_write(third.theirs, mcc, fourth.theirs, mnc, fifth.theirs, date, width, height,
+                         first.theirs, count, second.theirs, room);
+    check(same_written(done, other), "both write logos alike");
+    check_lent(&first);
+    check_lent(&second);
+    check_lent(&third);
+    check_lent(&fourth);
+    check_lent(&fifth);
+    if (done.refusal != 0)
+        check_untouched(&second);
+    else
+        check_logo_again(done, width, height);
+}
+
 int LLVMFuzzerTestOneInput(const uint8_t *data, size_t size);
 
 int LLVMFuzzerTestOneInput(const uint8_t *data, size_t size)
 {
     struct input in = {data, size};
-    switch (take(&in, 1) % 10) {
+    switch (take(&in, 1) % 14) {
     case 0: fuzz_read(&in); break;
     case 1: fuzz_write(&in); break;
     case 2: fuzz_label(&in); break;
@@ -451,7 +597,11 @@ int LLVMFuzzerTestOneInput(const uint8_t *data, size_t size)
     case 6: fuzz_edit(&in, 1); break;
     case 7: fuzz_edit(&in, 2); break;
     case 8: fuzz_bitmap_read(&in); break;
-    default: fuzz_bitmap_write(&in); break;
+    case 9: fuzz_bitmap_write(&in); break;
+    case 10: fuzz_icon_read(&in); break;
+    case 11: fuzz_icon_write(&in); break;
+    case 12: fuzz_logo_read(&in); break;
+    default: fuzz_logo_write(&in); break;
     }
     return 0;
 }

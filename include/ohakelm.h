@@ -1,4 +1,5 @@
-/* Ringing tones and OTA bitmaps of Nokia Smart Messaging 1.0.0.
+/* Ringing tones, OTA bitmaps, CLI icons and operator logos of Nokia Smart
+ * Messaging 1.0.0.
  *
  * The library is written and proved in Rattle, and links into x86-64 programs
  * (libohakelm.a). It keeps nothing between calls and uses no heap.
@@ -31,6 +32,8 @@
  *   18  table shape: a header where an instruction is due or the reverse, a
  *       body cut short, more than 255 patterns
  *   19  a duration above 32 bits
+ *   20  an octet ahead of a bitmap that its kind does not have there: version,
+ *       network code digit, date, line feed
  *
  * POINTERS. A pointer is followed by the number of elements behind it. The
  * memory is the caller's, is aligned for its type, and is written by nobody
@@ -52,6 +55,13 @@
  *
  * A LIST has two numbers an entry: note * 1024 + scale * 256 + style * 16 +
  * volume, and the duration in microseconds.
+ *
+ * A BITMAP is the info octet 00, the width, the height, the depth 01 and the
+ * image. An ICON is the version, which is the character 0, and a bitmap. A LOGO
+ * is that version, three digits of mobile country code (MCC), two digits of
+ * mobile network code (MNC), the date until which it is valid, a line feed and
+ * a bitmap. The date is eight digits; or these, T and six digits; or all that
+ * and Z. Any digits will do: there is no calendar. Characters are ASCII.
  */
 #ifndef OHAKELM_H
 #define OHAKELM_H
@@ -117,6 +127,22 @@ struct ohakelm_bitmap {
     uint32_t black; /* black pixels */
     size_t start;   /* the image's first octet in the message */
     size_t length;  /* the image's octets */
+};
+
+struct ohakelm_logo {
+    uint32_t refusal;
+    size_t place;
+    uint32_t width;
+    uint32_t height;
+    uint32_t black;     /* black pixels */
+    size_t start;       /* the image's first octet in the message */
+    size_t length;      /* the image's octets */
+    size_t mcc_start;   /* the country code's first octet in the message */
+    size_t mcc_length;  /* 3 */
+    size_t mnc_start;   /* the network code's first octet in the message */
+    size_t mnc_length;  /* 2 */
+    size_t date_start;  /* the date's first octet in the message */
+    size_t date_length; /* 8, 15 or 16 */
 };
 
 /* One entry of a list, as a record. */
@@ -200,6 +226,40 @@ struct ohakelm_written ohakelm_bitmap_write(uint32_t width, uint32_t height,
                                             const uint8_t *image,
                                             size_t image_len, uint8_t *out,
                                             size_t out_len);
+
+/* Reads an icon. Changes nothing. Answers its sizes, its black pixels and the
+ * stretch of the message that is the image. Refuses 2, 20, 15 and 16, in this
+ * order and all at place 0. It is 2 where the version and the bitmap's four
+ * octets of header are not all there. */
+struct ohakelm_bitmap ohakelm_icon_read(const uint8_t *msg, size_t msg_len);
+
+/* Writes an icon from its sizes and its image. Fills the front of `out` with
+ * it. Answers the octets written. Refuses 15, 16 and 11, in this order and all
+ * at place 0. */
+struct ohakelm_written ohakelm_icon_write(uint32_t width, uint32_t height,
+                                          const uint8_t *image,
+                                          size_t image_len, uint8_t *out,
+                                          size_t out_len);
+
+/* Reads a logo. Changes nothing. Answers its sizes, its black pixels and the
+ * stretches of the message that are the image, the two codes and the date.
+ * Octet 14, counted from 0, tells whether the date has a time: it is T then.
+ * Octet 21 tells whether that time has a Z. Refuses 2, 20, 15 and 16, in this
+ * order and all at place 0. It is 2 where the part ahead, as long as these two
+ * octets make it, and the bitmap's four octets of header are not all there. */
+struct ohakelm_logo ohakelm_logo_read(const uint8_t *msg, size_t msg_len);
+
+/* Writes a logo from its codes, its date, its sizes and its image. Fills the
+ * front of `out` with it. Answers the octets written. Refuses 20, 15, 16 and
+ * 11, in this order and all at place 0. It is 20 where `mcc` is not three
+ * digits, `mnc` not two, or `date` none of the three forms. */
+struct ohakelm_written ohakelm_logo_write(const uint8_t *mcc, size_t mcc_len,
+                                          const uint8_t *mnc, size_t mnc_len,
+                                          const uint8_t *date, size_t date_len,
+                                          uint32_t width, uint32_t height,
+                                          const uint8_t *image,
+                                          size_t image_len, uint8_t *out,
+                                          size_t out_len);
 
 #ifdef __cplusplus
 }

@@ -1,4 +1,5 @@
-//! Ringing tones and OTA bitmaps of Nokia Smart Messaging 1.0.0.
+//! Ringing tones, OTA bitmaps, CLI icons and operator logos of Nokia Smart
+//! Messaging 1.0.0.
 //!
 //! These are safe functions over a static library whose every call is proved.
 //! Each takes slices and answers a `Result`. Nothing is allocated. On a refusal
@@ -26,7 +27,7 @@ pub mod raw;
 /// Why a call refused, by the number that the rules give it, and where.
 #[derive(Clone, Copy, Debug, PartialEq, Eq)]
 pub struct Refusal {
-    /// 1 to 19, as in the rules' table.
+    /// 1 to 20, as in the rules' table.
     pub number: u32,
     /// The bit of the tone message where the faulty element begins, for the
     /// numbers 2 to 10 met in a tone message. Else 0.
@@ -73,7 +74,8 @@ pub struct Edited {
     pub change: i32,
 }
 
-/// A bitmap. The image is the part of the message after its header.
+/// A bitmap, alone or in an icon or a logo. The image is the part of the message
+/// after the bitmap's header.
 #[derive(Clone, Copy, Debug, PartialEq, Eq)]
 pub struct Bitmap<'a> {
     pub width: u32,
@@ -82,6 +84,19 @@ pub struct Bitmap<'a> {
     pub black: u32,
     /// Rows from the top, eight pixels an octet, leftmost first, 1 black.
     pub image: &'a [u8],
+}
+
+/// An operator logo. The codes and the date are parts of the message.
+#[derive(Clone, Copy, Debug, PartialEq, Eq)]
+pub struct Logo<'a> {
+    /// The three digits of the mobile country code.
+    pub mcc: &'a [u8],
+    /// The two digits of the mobile network code.
+    pub mnc: &'a [u8],
+    /// The date until which the logo is valid: eight digits, or these, T and
+    /// six digits, or all that and Z.
+    pub date: &'a [u8],
+    pub bitmap: Bitmap<'a>,
 }
 
 /// One change to one instruction. The new instruction is one table entry.
@@ -114,9 +129,7 @@ pub fn write(
     table: &[u32],
     out: &mut [u8],
 ) -> Result<usize, Refusal> {
-    let answer = numbers::write(song, unicode, title, table, out);
-    accepted(answer.refusal, answer.place)?;
-    Ok(answer.octets)
+    written(numbers::write(song, unicode, title, table, out))
 }
 
 /// The title without its trailing spaces, or the stand-in name where nothing is
@@ -169,15 +182,7 @@ pub fn edit(
 
 /// Reads a bitmap. The image is handed back as a part of the message.
 pub fn read_bitmap(message: &[u8]) -> Result<Bitmap<'_>, Refusal> {
-    let answer = numbers::bitmap_read(message);
-    accepted(answer.refusal, answer.place)?;
-    Ok(Bitmap {
-        width: answer.width,
-        height: answer.height,
-        black: answer.black,
-        // The promise says that the stretch lies within the message.
-        image: &message[answer.start..answer.start + answer.length],
-    })
+    bitmap(message, numbers::bitmap_read(message))
 }
 
 /// Writes a bitmap from its sizes and image. Answers the octets written.
@@ -187,9 +192,51 @@ pub fn write_bitmap(
     image: &[u8],
     out: &mut [u8],
 ) -> Result<usize, Refusal> {
-    let answer = numbers::bitmap_write(width, height, image, out);
+    written(numbers::bitmap_write(width, height, image, out))
+}
+
+/// Reads an icon. The image is handed back as a part of the message.
+pub fn read_icon(message: &[u8]) -> Result<Bitmap<'_>, Refusal> {
+    bitmap(message, numbers::icon_read(message))
+}
+
+/// Writes an icon from its sizes and image. Answers the octets written.
+pub fn write_icon(width: u32, height: u32, image: &[u8], out: &mut [u8]) -> Result<usize, Refusal> {
+    written(numbers::icon_write(width, height, image, out))
+}
+
+/// Reads a logo. Codes, date and image are handed back as parts of the message.
+pub fn read_logo(message: &[u8]) -> Result<Logo<'_>, Refusal> {
+    let answer = numbers::logo_read(message);
     accepted(answer.refusal, answer.place)?;
-    Ok(answer.octets)
+    // The promise says that the stretches lie within the message.
+    let stretch = |start: usize, length: usize| &message[start..start + length];
+    Ok(Logo {
+        mcc: stretch(answer.mcc_start, answer.mcc_length),
+        mnc: stretch(answer.mnc_start, answer.mnc_length),
+        date: stretch(answer.date_start, answer.date_length),
+        bitmap: Bitmap {
+            width: answer.width,
+            height: answer.height,
+            black: answer.black,
+            image: stretch(answer.start, answer.length),
+        },
+    })
+}
+
+/// Writes a logo from its codes, date, sizes and image. Answers the octets
+/// written.
+pub fn write_logo(
+    mcc: &[u8],
+    mnc: &[u8],
+    date: &[u8],
+    width: u32,
+    height: u32,
+    image: &[u8],
+    out: &mut [u8],
+) -> Result<usize, Refusal> {
+    let answer = numbers::logo_write(mcc, mnc, date, width, height, image, out);
+    written(answer)
 }
 
 fn accepted(number: u32, place: usize) -> Result<(), Refusal> {
@@ -198,6 +245,22 @@ fn accepted(number: u32, place: usize) -> Result<(), Refusal> {
     } else {
         Err(Refusal { number, place })
     }
+}
+
+fn written(answer: raw::Written) -> Result<usize, Refusal> {
+    accepted(answer.refusal, answer.place)?;
+    Ok(answer.octets)
+}
+
+fn bitmap(message: &[u8], answer: raw::Bitmap) -> Result<Bitmap<'_>, Refusal> {
+    accepted(answer.refusal, answer.place)?;
+    Ok(Bitmap {
+        width: answer.width,
+        height: answer.height,
+        black: answer.black,
+        // The promise says that the stretch lies within the message.
+        image: &message[answer.start..answer.start + answer.length],
+    })
 }
 
 fn playing(answer: raw::Listed) -> Result<Playing, Refusal> {

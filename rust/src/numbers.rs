@@ -4,7 +4,7 @@
 // SAFETY, for all of them: each pointer and length is a live slice's, and the
 // borrows keep the lent ones apart from all others. `Entry` has C's layout.
 
-use ohakelm_answers::{Bitmap, Edited, Entry, Label, Listed, Tone, Written};
+use ohakelm_answers::{Bitmap, Edited, Entry, Label, Listed, Logo, Tone, Written};
 
 use crate::raw;
 
@@ -153,6 +153,58 @@ pub fn bitmap_read(message: &[u8]) -> Bitmap {
 pub fn bitmap_write(width: u32, height: u32, image: &[u8], out: &mut [u8]) -> Written {
     unsafe {
         raw::ohakelm_bitmap_write(
+            width,
+            height,
+            image.as_ptr(),
+            image.len(),
+            out.as_mut_ptr(),
+            out.len(),
+        )
+    }
+}
+
+#[inline(always)]
+pub fn icon_read(message: &[u8]) -> Bitmap {
+    unsafe { raw::ohakelm_icon_read(message.as_ptr(), message.len()) }
+}
+
+#[inline(always)]
+pub fn icon_write(width: u32, height: u32, image: &[u8], out: &mut [u8]) -> Written {
+    unsafe {
+        raw::ohakelm_icon_write(
+            width,
+            height,
+            image.as_ptr(),
+            image.len(),
+            out.as_mut_ptr(),
+            out.len(),
+        )
+    }
+}
+
+#[inline(always)]
+pub fn logo_read(message: &[u8]) -> Logo {
+    unsafe { raw::ohakelm_logo_read(message.as_ptr(), message.len()) }
+}
+
+#[inline(always)]
+pub fn logo_write(
+    mcc: &[u8],
+    mnc: &[u8],
+    date: &[u8],
+    width: u32,
+    height: u32,
+    image: &[u8],
+    out: &mut [u8],
+) -> Written {
+    unsafe {
+        raw::ohakelm_logo_write(
+            mcc.as_ptr(),
+            mcc.len(),
+            mnc.as_ptr(),
+            mnc.len(),
+            date.as_ptr(),
+            date.len(),
             width,
             height,
             image.as_ptr(),

@@ -3,7 +3,7 @@
 //! A slice passes as a pointer and a length in elements. A lent buffer (`*mut`)
 //! must overlap no other argument. `include/ohakelm.h` says what each call does.
 
-pub use ohakelm_answers::{Bitmap, Edited, Entry, Label, Listed, Tone, Written};
+pub use ohakelm_answers::{Bitmap, Edited, Entry, Label, Listed, Logo, Tone, Written};
 
 extern "C" {
     pub fn ohakelm_read(
@@ -80,6 +80,34 @@ extern "C" {
     pub fn ohakelm_bitmap_read(msg: *const u8, msg_len: usize) -> Bitmap;
 
     pub fn ohakelm_bitmap_write(
+        width: u32,
+        height: u32,
+        image: *const u8,
+        image_len: usize,
+        out: *mut u8,
+        out_len: usize,
+    ) -> Written;
+
+    pub fn ohakelm_icon_read(msg: *const u8, msg_len: usize) -> Bitmap;
+
+    pub fn ohakelm_icon_write(
+        width: u32,
+        height: u32,
+        image: *const u8,
+        image_len: usize,
+        out: *mut u8,
+        out_len: usize,
+    ) -> Written;
+
+    pub fn ohakelm_logo_read(msg: *const u8, msg_len: usize) -> Logo;
+
+    pub fn ohakelm_logo_write(
+        mcc: *const u8,
+        mcc_len: usize,
+        mnc: *const u8,
+        mnc_len: usize,
+        date: *const u8,
+        date_len: usize,
         width: u32,
         height: u32,
         image: *const u8,

@@ -9,8 +9,8 @@ mod support;
 use std::panic::{catch_unwind, AssertUnwindSafe};
 use std::time::Instant;
 
-use ohakelm_answers::{Bitmap, Edited, Entry, Label, Listed, Tone, Written};
-use support::codecs::{Codec, Edit, Obvious, Spot, ALL};
+use ohakelm_answers::{Bitmap, Edited, Entry, Label, Listed, Logo, Tone, Written};
+use support::codecs::{Codec, Edit, LogoParts, Obvious, Spot, ALL};
 use support::compare::Comparison;
 use support::rng::{cases_set, seed_from_clock, seed_set};
 
@@ -52,7 +52,7 @@ fn compare(cases: usize, seed: u64) {
 fn each_refusal_came_up(comparison: &Comparison) {
     let message: Vec<u32> = (0..=11).collect();
     let with = |more: &[u32]| [&message[..], more].concat();
-    let expected: [(&str, Vec<u32>); 10] = [
+    let expected: [(&str, Vec<u32>); 14] = [
         ("read", with(&[])),
         ("list", with(&[])),
         ("rows", with(&[])),
@@ -63,6 +63,10 @@ fn each_refusal_came_up(comparison: &Comparison) {
         ("label", vec![0, 1]),
         ("bitmap_read", vec![0, 2, 15, 16]),
         ("bitmap_write", vec![0, 11, 15, 16]),
+        ("icon_read", vec![0, 2, 15, 16, 20]),
+        ("icon_write", vec![0, 11, 15, 16]),
+        ("logo_read", vec![0, 2, 15, 16, 20]),
+        ("logo_write", vec![0, 11, 15, 16, 20]),
     ];
     for (call, refusals) in expected {
         let seen = comparison.tally.keys().filter(|key| key.0 == call);
@@ -85,9 +89,16 @@ enum Fault {
     MissesOnePixel,
     TakesEmptyStandInForTitle,
     LeavesOneRow,
+    TakesAnyVersion,
+    WritesAnotherVersion,
+    TakesCarriageReturn,
+    JudgesVersionAheadOfLength,
+    LosesZ,
+    TakesThreeDigitNetwork,
+    TouchesLogoOnRefusal,
 }
 
-const FAULTS: [Fault; 11] = [
+const FAULTS: [Fault; 18] = [
     Fault::TouchesCellOnRefusal,
     Fault::ClearsOddLastCell,
     Fault::CountsOneEntryMore,
@@ -99,6 +110,13 @@ const FAULTS: [Fault; 11] = [
     Fault::MissesOnePixel,
     Fault::TakesEmptyStandInForTitle,
     Fault::LeavesOneRow,
+    Fault::TakesAnyVersion,
+    Fault::WritesAnotherVersion,
+    Fault::TakesCarriageReturn,
+    Fault::JudgesVersionAheadOfLength,
+    Fault::LosesZ,
+    Fault::TakesThreeDigitNetwork,
+    Fault::TouchesLogoOnRefusal,
 ];
 
 /// The comparison itself must be able to fail, at each of these faults.
@@ -201,5 +219,50 @@ impl Codec for Wrong {
 
     fn bitmap_write(&self, width: u32, height: u32, image: &[u8], out: &mut [u8]) -> Written {
         Obvious.bitmap_write(width, height, image, out)
+    }
+
+    fn icon_read(&self, message: &[u8]) -> Bitmap {
+        let mut message = message.to_vec();
+        if let (Fault::TakesAnyVersion, Some(version)) = (self.0, message.first_mut()) {
+            *version = b'0';
+        }
+        Obvious.icon_read(&message)
+    }
+
+    fn icon_write(&self, width: u32, height: u32, image: &[u8], out: &mut [u8]) -> Written {
+        let answer = Obvious.icon_write(width, height, image, out);
+        if matches!(self.0, Fault::WritesAnotherVersion) && answer.refusal == 0 {
+            out[0] = 0;
+        }
+        answer
+    }
+
+    fn logo_read(&self, message: &[u8]) -> Logo {
+        let mut message = message.to_vec();
+        match (self.0, message.get_mut(14)) {
+            (Fault::TakesCarriageReturn, Some(end)) if *end == b'\r' => *end = b'\n',
+            _ => {}
+        }
+        let mut answer = Obvious.logo_read(&message);
+        match (self.0, answer.refusal) {
+            (Fault::JudgesVersionAheadOfLength, 2) if message.first() != Some(&b'0') => {
+                answer.refusal = 20
+            }
+            (Fault::LosesZ, 0) if answer.date_length == 16 => answer.date_length = 15,
+            _ => {}
+        }
+        answer
+    }
+
+    fn logo_write(&self, mut parts: LogoParts, out: &mut [u8]) -> Written {
+        if matches!(self.0, Fault::TakesThreeDigitNetwork) && parts.mnc.len() == 3 {
+            parts.mnc = &parts.mnc[..2];
+        }
+        let answer = Obvious.logo_write(parts, out);
+        match (self.0, out.first_mut()) {
+            (Fault::TouchesLogoOnRefusal, Some(version)) if answer.refusal == 11 => *version = b'0',
+            _ => {}
+        }
+        answer
     }
 }

@@ -106,3 +106,67 @@ fn the_image_is_a_stretch_of_the_message() {
     let refused = ohakelm::read_bitmap(&message[..5]);
     assert_eq!(refused.map_err(|refusal| refusal.number), Err(16));
 }
+
+#[test]
+fn the_image_of_an_icon_is_a_stretch_of_the_message() {
+    let message = [b'0', 0, 8, 2, 1, 0xFF, 0x01];
+    let Ok(bitmap) = ohakelm::read_icon(&message) else {
+        panic!("a good icon was refused");
+    };
+    assert_eq!((bitmap.width, bitmap.height, bitmap.black), (8, 2, 9));
+    assert_eq!(bitmap.image.as_ptr(), message[5..].as_ptr());
+    assert_eq!(bitmap.image, [0xFF, 0x01]);
+    let mut out = [0; 7];
+    let written = ohakelm::write_icon(8, 2, bitmap.image, &mut out);
+    assert_eq!((written, out), (Ok(7), message));
+    assert_eq!(number(ohakelm::read_icon(&message[1..])), 20);
+    assert_eq!(
+        number(ohakelm::write_icon(8, 2, &[0; 2], &mut out[1..])),
+        11
+    );
+}
+
+#[test]
+fn the_parts_of_a_logo_are_stretches_of_the_message() {
+    for (message, date) in [
+        (&b"02440519991231\n\0\x08\x02\x01\xFF\x01"[..], 8),
+        (b"02440519991231T235958\n\0\x08\x02\x01\xFF\x01", 15),
+        (b"02440519991231T235958Z\n\0\x08\x02\x01\xFF\x01", 16),
+    ] {
+        let Ok(logo) = ohakelm::read_logo(message) else {
+            panic!("a good logo was refused");
+        };
+        assert!(is_part(logo.mcc, message, 1, 3));
+        assert!(is_part(logo.mnc, message, 4, 2));
+        assert!(is_part(logo.date, message, 6, date));
+        // A line feed and four octets of header are between date and image.
+        let bitmap = logo.bitmap;
+        assert!(is_part(bitmap.image, message, 6 + date + 5, 2));
+        assert_eq!((bitmap.width, bitmap.height, bitmap.black), (8, 2, 9));
+        let mut out = vec![0; message.len()];
+        let written = ohakelm::write_logo(
+            logo.mcc,
+            logo.mnc,
+            logo.date,
+            bitmap.width,
+            bitmap.height,
+            bitmap.image,
+            &mut out,
+        );
+        assert_eq!((written, &out[..]), (Ok(message.len()), message));
+        assert_eq!(number(ohakelm::read_logo(&message[..18])), 2);
+        assert_eq!(number(ohakelm::read_logo(&out[1..])), 20);
+    }
+    let refused = ohakelm::write_logo(b"244", b"5", b"19991231", 8, 1, &[0], &mut [0; 20]);
+    assert_eq!(number(refused), 20);
+}
+
+/// Whether a part is just this stretch of the message, and no copy of it.
+fn is_part(part: &[u8], message: &[u8], start: usize, length: usize) -> bool {
+    std::ptr::eq(part, &message[start..start + length])
+}
+
+/// A refusal's number, 0 for acceptance.
+fn number<T>(answer: Result<T, Refusal>) -> u32 {
+    answer.err().map_or(0, |refusal| refusal.number)
+}

@@ -6,7 +6,7 @@
 
 use std::slice::{from_raw_parts, from_raw_parts_mut};
 
-use ohakelm_answers::{Bitmap, Edited, Entry, Label, Listed, Tone, Written};
+use ohakelm_answers::{Bitmap, Edited, Entry, Label, Listed, Logo, Tone, Written};
 use ohakelm_reference as reference;
 
 /// # Safety
@@ -186,6 +186,67 @@ pub unsafe extern "C" fn guide_bitmap_write(
     out_len: usize,
 ) -> Written {
     reference::bitmap_write(
+        width,
+        height,
+        from_raw_parts(image, image_len),
+        from_raw_parts_mut(out, out_len),
+    )
+}
+
+/// # Safety
+/// As `guide_read`.
+#[no_mangle]
+pub unsafe extern "C" fn guide_icon_read(msg: *const u8, msg_len: usize) -> Bitmap {
+    reference::icon_read(from_raw_parts(msg, msg_len))
+}
+
+/// # Safety
+/// As `guide_read`.
+#[no_mangle]
+pub unsafe extern "C" fn guide_icon_write(
+    width: u32,
+    height: u32,
+    image: *const u8,
+    image_len: usize,
+    out: *mut u8,
+    out_len: usize,
+) -> Written {
+    reference::icon_write(
+        width,
+        height,
+        from_raw_parts(image, image_len),
+        from_raw_parts_mut(out, out_len),
+    )
+}
+
+/// # Safety
+/// As `guide_read`.
+#[no_mangle]
+pub unsafe extern "C" fn guide_logo_read(msg: *const u8, msg_len: usize) -> Logo {
+    reference::logo_read(from_raw_parts(msg, msg_len))
+}
+
+/// # Safety
+/// As `guide_read`.
+#[no_mangle]
+pub unsafe extern "C" fn guide_logo_write(
+    mcc: *const u8,
+    mcc_len: usize,
+    mnc: *const u8,
+    mnc_len: usize,
+    date: *const u8,
+    date_len: usize,
+    width: u32,
+    height: u32,
+    image: *const u8,
+    image_len: usize,
+    out: *mut u8,
+    out_len: usize,
+) -> Written {
+    reference::logo_write(
+        from_raw_parts(mcc, mcc_len),
+        from_raw_parts(mnc, mnc_len),
+        from_raw_parts(date, date_len),
         width,
         height,
         from_raw_parts(image, image_len),

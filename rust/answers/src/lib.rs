@@ -27,7 +27,7 @@ pub struct Tone {
     pub entries: usize,
 }
 
-/// What writing a tone or a bitmap answers.
+/// What writing a tone, a bitmap, an icon or a logo answers.
 #[repr(C)]
 #[derive(Clone, Copy, Debug, Default, PartialEq, Eq)]
 pub struct Written {
@@ -70,7 +70,8 @@ pub struct Edited {
     pub change: i32,
 }
 
-/// What reading a bitmap answers. The image is a stretch of the message.
+/// What reading a bitmap or an icon answers. The image is a stretch of the
+/// message.
 #[repr(C)]
 #[derive(Clone, Copy, Debug, Default, PartialEq, Eq)]
 pub struct Bitmap {
@@ -82,6 +83,30 @@ pub struct Bitmap {
     pub black: u32,
     pub start: usize,
     pub length: usize,
+}
+
+/// What reading an operator logo answers. The image, the two codes and the date
+/// are stretches of the message.
+#[repr(C)]
+#[derive(Clone, Copy, Debug, Default, PartialEq, Eq)]
+pub struct Logo {
+    pub refusal: u32,
+    pub place: usize,
+    pub width: u32,
+    pub height: u32,
+    /// The number of black pixels.
+    pub black: u32,
+    pub start: usize,
+    pub length: usize,
+    /// The mobile country code.
+    pub mcc_start: usize,
+    pub mcc_length: usize,
+    /// The mobile network code.
+    pub mnc_start: usize,
+    pub mnc_length: usize,
+    /// The date until which the logo is valid.
+    pub date_start: usize,
+    pub date_length: usize,
 }
 
 /// One entry of a playing list, as a record.
@@ -114,6 +139,12 @@ mod tests {
         assert_eq!(offset_of!(Edited, change), 36);
         assert_eq!(size_of::<Bitmap>(), 48);
         assert_eq!(offset_of!(Bitmap, black), 24);
+        assert_eq!(size_of::<Logo>(), 96);
+        assert_eq!(offset_of!(Logo, black), 24);
+        assert_eq!(offset_of!(Logo, start), 32);
+        assert_eq!(offset_of!(Logo, mcc_start), 48);
+        assert_eq!(offset_of!(Logo, mnc_start), 64);
+        assert_eq!(offset_of!(Logo, date_length), 88);
         assert_eq!(size_of::<Entry>(), 20);
     }
 }

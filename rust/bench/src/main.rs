@@ -32,6 +32,8 @@ fn main() {
     rows.extend(recalls());
     for (width, height) in [(72, 14), (248, 255)] {
         rows.extend(bitmaps(width, height));
+        rows.extend(icons(width, height));
+        rows.extend(logos(width, height));
     }
     measure::print(&rows);
 }
@@ -153,24 +155,75 @@ fn recalls() -> [Row; 3] {
     [decoding, copying, rows]
 }
 
-fn bitmaps(width: u32, height: u32) -> [Row; 2] {
+fn image(width: u32, height: u32) -> Vec<u8> {
     let octets = (width / 8 * height) as usize;
-    let image: Vec<u8> = (0..octets).map(|k| (k * 37 % 251) as u8).collect();
-    let mut message = vec![0, width as u8, height as u8, 1];
-    message.extend(&image);
+    (0..octets).map(|k| (k * 37 % 251) as u8).collect()
+}
+
+/// A message of what its kind has ahead of a bitmap, and the bitmap.
+fn with_bitmap(ahead: &[u8], width: u32, height: u32) -> Vec<u8> {
+    let header = [0, width as u8, height as u8, 1];
+    [ahead, &header, &image(width, height)].concat()
+}
+
+fn bitmaps(width: u32, height: u32) -> [Row; 2] {
+    let image = image(width, height);
+    let message = with_bitmap(b"", width, height);
     let read = compare(
         &format!("bitmap read, {width} by {height}"),
-        repeated(octets),
+        repeated(image.len()),
         &(),
         |_| proved::bitmap_read(&message),
         |_| ohakelm_fast::bitmap_read(&message),
     );
     let write = compare(
         &format!("bitmap write, {width} by {height}"),
-        repeated(octets),
+        repeated(image.len()),
         &vec![0; message.len()],
         |out| proved::bitmap_write(width, height, &image, out),
         |out| ohakelm_fast::bitmap_write(width, height, &image, out),
+    );
+    [read, write]
+}
+
+fn icons(width: u32, height: u32) -> [Row; 2] {
+    let image = image(width, height);
+    let message = with_bitmap(b"0", width, height);
+    let read = compare(
+        &format!("icon read, {width} by {height}"),
+        repeated(image.len()),
+        &(),
+        |_| proved::icon_read(&message),
+        |_| ohakelm_fast::icon_read(&message),
+    );
+    let write = compare(
+        &format!("icon write, {width} by {height}"),
+        repeated(image.len()),
+        &vec![0; message.len()],
+        |out| proved::icon_write(width, height, &image, out),
+        |out| ohakelm_fast::icon_write(width, height, &image, out),
+    );
+    [read, write]
+}
+
+/// Logos with the longest date.
+fn logos(width: u32, height: u32) -> [Row; 2] {
+    let image = image(width, height);
+    let message = with_bitmap(b"02440519991231T235958Z\n", width, height);
+    let (mcc, mnc, date) = (&message[1..4], &message[4..6], &message[6..22]);
+    let read = compare(
+        &format!("logo read, {width} by {height}"),
+        repeated(image.len()),
+        &(),
+        |_| proved::logo_read(&message),
+        |_| ohakelm_fast::logo_read(&message),
+    );
+    let write = compare(
+        &format!("logo write, {width} by {height}"),
+        repeated(image.len()),
+        &vec![0; message.len()],
+        |out| proved::logo_write(mcc, mnc, date, width, height, &image, out),
+        |out| ohakelm_fast::logo_write(mcc, mnc, date, width, height, &image, out),
     );
     [read, write]
 }

@@ -12,6 +12,7 @@ mod bitmap;
 mod codes;
 mod edit;
 mod judge;
+mod kinds;
 mod list;
 mod read;
 mod window;
@@ -19,6 +20,7 @@ mod write;
 
 pub use bitmap::{bitmap_read, bitmap_write};
 pub use edit::{delete, insert, replace};
+pub use kinds::{icon_read, icon_write, logo_read, logo_write};
 pub use list::{list, list_by_copying, rows};
 pub use read::{label, read};
 pub use write::write;

@@ -4,11 +4,21 @@ use ohakelm_answers::{Bitmap, Written};
 
 use crate::{put_first, refuse, Refusal};
 
-const HEADER: usize = 4;
+/// Octets of a bitmap ahead of its image.
+pub const HEADER: usize = 4;
 
 /// Reads a bitmap. The image is a stretch of the message.
 pub fn bitmap_read(message: &[u8]) -> Bitmap {
-    match judge(message) {
+    read_answer(judge(message))
+}
+
+/// Writes a bitmap to a lent buffer.
+pub fn bitmap_write(width: u32, height: u32, image: &[u8], out: &mut [u8]) -> Written {
+    written_answer(write_behind(&[], width, height, image, out))
+}
+
+pub fn read_answer(judged: Result<Bitmap, Refusal>) -> Bitmap {
+    match judged {
         Ok(answer) => answer,
         Err(refusal) => Bitmap {
             refusal: refusal.number,
@@ -18,9 +28,8 @@ pub fn bitmap_read(message: &[u8]) -> Bitmap {
     }
 }
 
-/// Writes a bitmap to a lent buffer.
-pub fn bitmap_write(width: u32, height: u32, image: &[u8], out: &mut [u8]) -> Written {
-    match write_into(width, height, image, out) {
+pub fn written_answer(written: Result<usize, Refusal>) -> Written {
+    match written {
         Ok(octets) => Written {
             refusal: 0,
             place: 0,
@@ -34,7 +43,7 @@ pub fn bitmap_write(width: u32, height: u32, image: &[u8], out: &mut [u8]) -> Wr
     }
 }
 
-fn judge(message: &[u8]) -> Result<Bitmap, Refusal> {
+pub fn judge(message: &[u8]) -> Result<Bitmap, Refusal> {
     let [info, width, height, depth, image @ ..] = message else {
         return refuse(2);
     };
@@ -55,11 +64,18 @@ fn judge(message: &[u8]) -> Result<Bitmap, Refusal> {
     })
 }
 
-fn write_into(width: u32, height: u32, image: &[u8], out: &mut [u8]) -> Result<usize, Refusal> {
+/// Writes a bitmap behind the octets that its kind of message has ahead of it.
+pub fn write_behind(
+    ahead: &[u8],
+    width: u32,
+    height: u32,
+    image: &[u8],
+    out: &mut [u8],
+) -> Result<usize, Refusal> {
     judge_sizes(width, height)?;
     judge_image(width, height, image)?;
-    let mut message = vec![0, width as u8, height as u8, 1];
-    message.extend_from_slice(image);
+    let header = [0, width as u8, height as u8, 1];
+    let message = [ahead, &header, image].concat();
     if message.len() > out.len() {
         return refuse(11);
     }

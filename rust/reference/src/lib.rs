@@ -8,6 +8,7 @@
 mod bitmap;
 mod bits;
 mod editing;
+mod kinds;
 mod playing;
 mod reading;
 mod table;
@@ -15,6 +16,7 @@ mod tone;
 
 pub use bitmap::{bitmap_read, bitmap_write};
 pub use editing::{delete, insert, replace};
+pub use kinds::{icon_read, icon_write, logo_read, logo_write};
 pub use playing::{list, rows};
 pub use reading::{label, read};
 pub use table::write;

@@ -2,7 +2,7 @@
 
 #[cfg(linked)]
 use ohakelm::numbers;
-use ohakelm_answers::{Bitmap, Edited, Entry, Label, Listed, Tone, Written};
+use ohakelm_answers::{Bitmap, Edited, Entry, Label, Listed, Logo, Tone, Written};
 
 #[derive(Clone, Copy, Debug, PartialEq, Eq)]
 pub enum Edit {
@@ -17,6 +17,17 @@ pub struct Spot {
     pub used: usize,
     pub pattern: usize,
     pub instruction: usize,
+}
+
+/// What a logo is written from.
+#[derive(Clone, Copy, Debug, PartialEq, Eq)]
+pub struct LogoParts<'a> {
+    pub mcc: &'a [u8],
+    pub mnc: &'a [u8],
+    pub date: &'a [u8],
+    pub width: u32,
+    pub height: u32,
+    pub image: &'a [u8],
 }
 
 pub trait Codec {
@@ -36,6 +47,10 @@ pub trait Codec {
     fn edit(&self, buffer: &mut [u8], spot: Spot, edit: Edit, list: &mut [u32]) -> Edited;
     fn bitmap_read(&self, message: &[u8]) -> Bitmap;
     fn bitmap_write(&self, width: u32, height: u32, image: &[u8], out: &mut [u8]) -> Written;
+    fn icon_read(&self, message: &[u8]) -> Bitmap;
+    fn icon_write(&self, width: u32, height: u32, image: &[u8], out: &mut [u8]) -> Written;
+    fn logo_read(&self, message: &[u8]) -> Logo;
+    fn logo_write(&self, parts: LogoParts, out: &mut [u8]) -> Written;
 }
 
 /// Those that are compared. The obvious one comes first. Where the proved
@@ -113,6 +128,30 @@ macro_rules! codec {
                 out: &mut [u8],
             ) -> Written {
                 $implementation::bitmap_write(width, height, image, out)
+            }
+
+            fn icon_read(&self, message: &[u8]) -> Bitmap {
+                $implementation::icon_read(message)
+            }
+
+            fn icon_write(&self, width: u32, height: u32, image: &[u8], out: &mut [u8]) -> Written {
+                $implementation::icon_write(width, height, image, out)
+            }
+
+            fn logo_read(&self, message: &[u8]) -> Logo {
+                $implementation::logo_read(message)
+            }
+
+            fn logo_write(&self, parts: LogoParts, out: &mut [u8]) -> Written {
+                let LogoParts {
+                    mcc,
+                    mnc,
+                    date,
+                    width,
+                    height,
+                    image,
+                } = parts;
+                $implementation::logo_write(mcc, mnc, date, width, height, image, out)
             }
         }
     };

@@ -239,7 +239,7 @@ impl Comparison {
     }
 
     fn random_case(&mut self) {
-        match self.rng.below(60) {
+        match self.rng.below(80) {
             0..=5 => self.read_sound_tone(),
             6..=19 => self.read_any(),
             20..=25 => self.list_any(),
@@ -249,7 +249,12 @@ impl Comparison {
             48 => self.edit_chain(),
             49..=51 => self.label_any(),
             52..=55 => self.bitmap_read_any(),
-            _ => self.bitmap_write_any(),
+            56..=59 => self.bitmap_write_any(),
+            60..=63 => self.icon_read_any(),
+            64..=67 => self.icon_write_any(),
+            68..=69 => self.logo_read_sound(),
+            70..=74 => self.logo_read_any(),
+            _ => self.logo_write_any(),
         }
     }
 
@@ -411,20 +416,7 @@ impl Comparison {
     }
 
     fn bitmap_write_any(&mut self) {
-        let (mut width, mut height) = inputs::bitmap_sizes(&mut self.rng);
-        let mut image = inputs::image(&mut self.rng, width, height);
-        match self.rng.below(10) {
-            0 => width = self.rng.word(),
-            1 => height = self.rng.word(),
-            // Sizes that are right but for their upper bits.
-            2 => width += 256,
-            3 => height += 256,
-            4 => image.push(0),
-            5 => {
-                image.pop();
-            }
-            _ => {}
-        }
+        let (width, height, image) = inputs::bitmap_parts(&mut self.rng);
         let room = self.room(4 + image.len());
         self.bitmap_write(width, height, &image, room);
     }
@@ -498,7 +490,7 @@ impl Comparison {
     }
 
     /// Too little, just enough or more than enough.
-    fn room(&mut self, needed: usize) -> usize {
+    pub(super) fn room(&mut self, needed: usize) -> usize {
         match self.rng.below(10) {
             0 => needed.saturating_sub(1),
             1 => self.rng.within(0, needed),
@@ -527,12 +519,12 @@ impl Comparison {
 
     // ---- Comparing.
 
-    fn each<R>(&self, call: impl FnMut(&&'static dyn Codec) -> R) -> Vec<R> {
+    pub(super) fn each<R>(&self, call: impl FnMut(&&'static dyn Codec) -> R) -> Vec<R> {
         self.codecs.iter().map(call).collect()
     }
 
     /// The outcome that all have, or a report of who had another.
-    fn alike<R: Outcome>(
+    pub(super) fn alike<R: Outcome>(
         &self,
         call: &str,
         mut outcomes: Vec<R>,
@@ -558,7 +550,7 @@ impl Comparison {
         first
     }
 
-    fn expect(&self, held: bool, call: &str, rule: &str, inputs: impl Fn() -> String) {
+    pub(super) fn expect(&self, held: bool, call: &str, rule: &str, inputs: impl Fn() -> String) {
         assert!(
             held,
             "{call}: {rule}: does not hold, seed {}, case {}\n{}",
@@ -568,7 +560,7 @@ impl Comparison {
         );
     }
 
-    fn count(&mut self, call: &'static str, refusal: u32) {
+    pub(super) fn count(&mut self, call: &'static str, refusal: u32) {
         self.cases += 1;
         *self.tally.entry((call, refusal)).or_default() += 1;
     }
@@ -590,7 +582,7 @@ pub fn edit_name(edit: Edit) -> &'static str {
 }
 
 /// An answer with the lent buffers after the call.
-trait Outcome: PartialEq {
+pub(super) trait Outcome: PartialEq {
     fn answer(&self) -> String;
     /// Where the lent buffers differ, if they do.
     fn cells_differ(&self, other: &Self) -> String;

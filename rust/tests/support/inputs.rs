@@ -224,6 +224,25 @@ pub fn bitmap_sizes(rng: &mut Rng) -> (u32, u32) {
     (width, height)
 }
 
+/// Sizes and an image, not quite right about every other time.
+pub fn bitmap_parts(rng: &mut Rng) -> (u32, u32, Vec<u8>) {
+    let (mut width, mut height) = bitmap_sizes(rng);
+    let mut image = image(rng, width, height);
+    match rng.below(10) {
+        0 => width = rng.word(),
+        1 => height = rng.word(),
+        // Sizes that are right but for their upper bits.
+        2 => width += 256,
+        3 => height += 256,
+        4 => image.push(0),
+        5 => {
+            image.pop();
+        }
+        _ => {}
+    }
+    (width, height, image)
+}
+
 /// As many octets as the sizes ask for.
 pub fn image(rng: &mut Rng, width: u32, height: u32) -> Vec<u8> {
     let octets = (width / 8 * height) as usize;

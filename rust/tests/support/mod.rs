@@ -7,7 +7,9 @@
 pub mod codecs;
 pub mod compare;
 pub mod inputs;
+pub mod kinds;
 pub mod lent;
+pub mod logos;
 pub mod rng;
 pub mod tones;
 
