@@ -32,14 +32,14 @@ module _ (m : List ℕ) {x : Reading} (p : ReadPromise Icon m x) where
   pub icon-refused : {n : ℕ} {q : BitPlace} → x ≡ Refused n q → IconReadExport m (iconAs (numbersOfReading (Refused n q)))
   icon-refused {n} {q} e = icon-told m (Refused n q) (ap numbersOfReading (sym e) ∙ p .numbers)
 
-  pub icon-read : {w h k : ℕ} {f : Fields} → x ≡ Read w h k f → IconReadExport m (iconAs (numbersOfReading (Read w h k f)))
-  icon-read {w} {h} {k} {f} e = icon-told m (Read w h k f) (ap numbersOfReading (sym e) ∙ p .numbers)
+  pub icon-read : {w h k : ℕ} {f : Fields} → x ≡ Read f w h k → IconReadExport m (iconAs (numbersOfReading (Read f w h k)))
+  icon-read {w} {h} {k} {f} e = icon-told m (Read f w h k) (ap numbersOfReading (sym e) ∙ p .numbers)
 
 module _ (m : List ℕ) {x : Reading} (p : ReadPromise Logo m x) where
   pub logo-refused : {n : ℕ} {q : BitPlace} → x ≡ Refused n q → LogoReadExport m (logoAs (numbersOfReading (Refused n q)))
   logo-refused {n} {q} e = logo-told m (Refused n q) (ap numbersOfReading (sym e) ∙ p .numbers)
 
-  pub logo-read : {w h k : ℕ} {f : Fields} → x ≡ Read w h k f → LogoReadExport m (logoAs (numbersOfReading (Read w h k f)))
-  logo-read {w} {h} {k} {f} e = logo-told m (Read w h k f) (ap numbersOfReading (sym e) ∙ p .numbers)
+  pub logo-read : {w h k : ℕ} {f : Fields} → x ≡ Read f w h k → LogoReadExport m (logoAs (numbersOfReading (Read f w h k)))
+  logo-read {w} {h} {k} {f} e = logo-told m (Read f w h k) (ap numbersOfReading (sym e) ∙ p .numbers)
 
 pub ruleset told = (icon-refused, icon-read, logo-refused, logo-read)

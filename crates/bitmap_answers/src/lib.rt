@@ -48,10 +48,10 @@ pub fn read_icon(msg: &[u8]) -> BitmapAnswer
             length: 0,
         },
         Reading::Read {
+            fields,
             width,
             height,
             black,
-            fields,
         } => BitmapAnswer {
             refusal: 0,
             place: 0,
@@ -85,10 +85,10 @@ pub fn read_logo(msg: &[u8]) -> LogoAnswer
             date_length: 0,
         },
         Reading::Read {
+            fields,
             width,
             height,
             black,
-            fields,
         } => LogoAnswer {
             refusal: 0,
             place: 0,

@@ -54,7 +54,7 @@ pub record Found (kind : Kind) (m : List ℕ) (w h k : ℕ) (f : Fields) : Type 
   pub reads : reading kind m ≡ accepted what
   pub numbers : Numbered kind what w h k f
 
-found : (kind : Kind) (m : List ℕ) (w h k : ℕ) (f : Fields) (o : Outcome Graphic) → reading kind m ≡ o → Read w h k f ≡ readAnswer kind o → Found kind m w h k f
+found : (kind : Kind) (m : List ℕ) (w h k : ℕ) (f : Fields) (o : Outcome Graphic) → reading kind m ≡ o → Read f w h k ≡ readAnswer kind o → Found kind m w h k f
 found kind m w h k f (accepted g) e x =
     let a : w ≡ g .bitmap .width = cc in
     let b : h ≡ g .bitmap .height = cc in
@@ -63,20 +63,20 @@ found kind m w h k f (accepted g) e x =
     record { what = g; reads = e; numbers = record { width = a; height = b; black = c; fields = d } }
 found kind m w h k f (refused n p) e x = let z : _≡_ {A = ℕ} 0 1 = cc in let n : ⊥ = omega arith in absurd n
 
-pub read-found : (kind : Kind) (m : List ℕ) (w h k : ℕ) (f : Fields) → ReadPromise kind m (Read w h k f) → Found kind m w h k f
+pub read-found : (kind : Kind) (m : List ℕ) (w h k : ℕ) (f : Fields) → ReadPromise kind m (Read f w h k) → Found kind m w h k f
 read-found kind m w h k f p = found kind m w h k f (reading kind m) refl (p .answer)
 
 -- `read` accepts a message exactly if it is the writing of a well-formed bitmap of the kind, and answers its numbers
 pub read-accepts : (kind : Kind) (m : List ℕ) (r : Reading) → Octets m → ReadPromise kind m r → (w h k : ℕ) (f : Fields)
-    → (r ≡ Read w h k f) ↔ ((g : Graphic) × WellFormed kind g × (writing kind g ≡ m) × Numbered kind g w h k f)
+    → (r ≡ Read f w h k) ↔ ((g : Graphic) × WellFormed kind g × (writing kind g ≡ m) × Numbered kind g w h k f)
 read-accepts kind m r o p w h k f = (to, from)
   where
-    to : r ≡ Read w h k f → (g : Graphic) × WellFormed kind g × (writing kind g ≡ m) × Numbered kind g w h k f
+    to : r ≡ Read f w h k → (g : Graphic) × WellFormed kind g × (writing kind g ≡ m) × Numbered kind g w h k f
     to e =
         let x = found kind m w h k f (reading kind m) refl (sym e ∙ p .answer) in
         (x .what, read-well-formed kind m (x .what) o (x .reads), write-read kind m (x .what) (x .reads), x .numbers)
 
-    from : (g : Graphic) × WellFormed kind g × (writing kind g ≡ m) × Numbered kind g w h k f → r ≡ Read w h k f
+    from : (g : Graphic) × WellFormed kind g × (writing kind g ≡ m) × Numbered kind g w h k f → r ≡ Read f w h k
     from t =
         let q : reading kind m ≡ accepted (t .0) = ap (reading kind) (sym (t .2)) ∙ read-written kind (t .0) (t .1) in
         let n = t .3 in
@@ -224,7 +224,7 @@ module _ (kind : Kind) (a : Ahead) (width height : ℕ) (image out : List ℕ) w
 
     -- `read` of what `write` wrote
     pub read-of-write : (r : Reading) → ReadPromise kind (take (n .0) after) r
-        → r ≡ Read width height (blackOf (whole a width height image)) (fieldsOf kind (whole a width height image))
+        → r ≡ Read (fieldsOf kind (whole a width height image)) width height (blackOf (whole a width height image))
     read-of-write r q = q .answer ∙ ap (readAnswer kind) reading-of-write
 
     -- `field_of` what `write` wrote
@@ -238,7 +238,7 @@ put-together ec en ed ew eh ei = rw (ec, en, ed, ew, eh, ei) refl
 
 -- `write` of what `read` and `field_of` gave, into enough room, gives the same octets
 pub write-of-read : (kind : Kind) (m c n d i : RefT (List ℕ)) (w h k : ℕ) (f : Fields) (out : List ℕ) (r : Writing) (after : List ℕ) → Octets (now m)
-    → ReadPromise kind (now m) (Read w h k f) → FieldPromise kind Mcc m c → FieldPromise kind Mnc m n → FieldPromise kind Date m d → FieldPromise kind Image m i
+    → ReadPromise kind (now m) (Read f w h k) → FieldPromise kind Mcc m c → FieldPromise kind Mnc m n → FieldPromise kind Date m d → FieldPromise kind Image m i
     → WritePromise kind (said (now c) (now n) (now d)) w h (now i) out r after → length (now m) ≤ length out
     → (r ≡ Wrote (record { 0 = length (now m) })) × (after ≡ now m ++ drop (length (now m)) out)
 write-of-read kind m c n d i w h k f out r after o p pc pn pd pi q l =

@@ -144,10 +144,10 @@ module _ (kind : Kind) (m : List ℕ) {start n : ℕ} (s : start ≡ startOf kin
           let r : reading kind m ≡ refused i j = ahead-read kind m s e z ∙ ap (withAhead (aheadIn kind m)) f in
           record { answer = rw (r, a, b) refl; numbers = rw (r, a, b) refl }
 
-  pub read-accepted : {w h k : ℕ} {f : Fields} → x ≡ BitmapRead w h k → f ≡ fieldsAt kind start (length m) → ReadPromise kind m (Read w h k f)
+  pub read-accepted : {w h k : ℕ} {f : Fields} → x ≡ BitmapRead w h k → f ≡ fieldsAt kind start (length m) → ReadPromise kind m (Read f w h k)
   read-accepted {w} {h} {k} {f} g i = go (bitmapReading (take (length m - start) (drop start m))) refl (sym g ∙ p .answer)
     where
-      go : (o : Outcome Bitmap) → bitmapReading (take (length m - start) (drop start m)) ≡ o → BitmapRead w h k ≡ bitmapAnswer o → ReadPromise kind m (Read w h k f)
+      go : (o : Outcome Bitmap) → bitmapReading (take (length m - start) (drop start m)) ≡ o → BitmapRead w h k ≡ bitmapAnswer o → ReadPromise kind m (Read f w h k)
       go (accepted b) j y =
           let c = cleared kind m e z in
           let d : take (length m - start) (drop start m) ≡ drop (startOf kind m) m = rest start m ∙ ap (λ (l : ℕ). drop l m) s in

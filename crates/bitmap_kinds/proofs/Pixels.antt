@@ -22,7 +22,7 @@ pixel-at b f ew eh ei x y hx hy =
     rw (ew, ei)
     (pixel-is-bit (b .width) (b .height) (b .image) (f .sizes .whole) (f .octets) (f .exact) x y (rw ew at hx) (rw eh at hy))
 
-module _ (kind : Kind) (m i : RefT (List ℕ)) (w h k : ℕ) (f : Fields) (o : Octets (now m)) (p : ReadPromise kind (now m) (Read w h k f)) (q : FieldPromise kind Image m i) where
+module _ (kind : Kind) (m i : RefT (List ℕ)) (w h k : ℕ) (f : Fields) (o : Octets (now m)) (p : ReadPromise kind (now m) (Read f w h k)) (q : FieldPromise kind Image m i) where
   -- the black pixels that `read` answers are the ones of the image's octets: nothing ahead of the image counts
   pub black-of-image : k ≡ onesOf (now i)
   black-of-image =

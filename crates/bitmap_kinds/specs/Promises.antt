@@ -74,7 +74,7 @@ blackOf g = blackPixels (g .bitmap .width) (g .bitmap .height) (g .bitmap .image
 
 -- the answer that the rules ask for
 abbrev pub readAnswer : Kind → Outcome Graphic → Reading
-readAnswer kind (accepted g) = Read (g .bitmap .width) (g .bitmap .height) (blackOf g) (fieldsOf kind g)
+readAnswer kind (accepted g) = Read (fieldsOf kind g) (g .bitmap .width) (g .bitmap .height) (blackOf g)
 readAnswer kind (refused n p) = Refused n (record { 0 = p })
 
 -- the numbers that the rules ask for: on a refusal its number and place, all others 0
@@ -85,7 +85,7 @@ readNumbers kind (refused n p) = record { refusal = n; place = p; width = 0; hei
 
 -- the numbers of each case of the answer
 abbrev pub numbersOfReading : Reading → ReadNumbers
-numbersOfReading (Read w h k f) = record { refusal = 0; place = 0; width = w; height = h; black = k; fields = f }
+numbersOfReading (Read f w h k) = record { refusal = 0; place = 0; width = w; height = h; black = k; fields = f }
 numbersOfReading (Refused n p) = record { refusal = n; place = p .0; width = 0; height = 0; black = 0; fields = noFields }
 
 -- `read` of the message m as a kind answers r

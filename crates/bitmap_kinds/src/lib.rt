@@ -37,10 +37,10 @@ pub struct Fields {
 // What reading a message answers: the sizes, the black pixels and the fields, or the refusal's number and place.
 pub enum Reading {
     Read {
+        fields: Fields,
         width: u32,
         height: u32,
         black: u32,
-        fields: Fields,
     },
     Refused(u32, BitPlace),
 }
@@ -146,10 +146,10 @@ pub fn read(kind: Kind, msg: &[u8]) -> Reading
             height,
             black,
         } => Reading::Read {
+            fields: fields_at(kind, msg, start),
             width,
             height,
             black,
-            fields: fields_at(kind, msg, start),
         },
     }
 }

@@ -62,10 +62,10 @@ fn show_fields(fields: Fields) {
 fn show_reading(answer: Reading) {
     match answer {
         Reading::Read {
+            fields,
             width,
             height,
             black,
-            fields,
         } => {
             io::write_all(1, b" 0 0");
             vectors::number(width as u64);
@@ -130,10 +130,10 @@ fn read(kind: Kind, msg: &[u8]) {
 fn read_briefly(kind: Kind, msg: &[u8]) {
     match bitmap_kinds::read(kind, msg) {
         Reading::Read {
+            fields: _,
             width: _,
             height: _,
             black: _,
-            fields: _,
         } => vectors::number(0),
         Reading::Refused(no, _) => vectors::number(no as u64),
     }

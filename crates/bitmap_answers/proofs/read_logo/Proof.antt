@@ -10,8 +10,8 @@ read-requires c κs = search needs
 enum-known-number : tie.Need-enum-known-number
 enum-known-number c = search needs
 
-enum-known-width : tie.Need-enum-known-width
-enum-known-width c = search needs
+enum-known-fields : tie.Need-enum-known-fields
+enum-known-fields c = search needs
 
 returns : tie.Need-returns
 returns c = search (told, needs)
@@ -21,4 +21,4 @@ returns-2 c = search (told, needs)
 
 pub read-logo-spec : {M : Type 1} → statement M
 read-logo-spec =
-    tie.close (tie.spec read-requires enum-known-number enum-known-width returns returns-2)
+    tie.close (tie.spec read-requires enum-known-number enum-known-fields returns returns-2)
