@@ -60,6 +60,14 @@ pub const ALL: [&dyn Codec; 3] = [&Obvious, &Optimised, &Proved];
 #[cfg(not(linked))]
 pub const ALL: [&dyn Codec; 2] = [&Obvious, &Optimised];
 
+/// Puts a test to each of them.
+pub fn each(test: impl Fn(&dyn Codec)) {
+    for codec in ALL {
+        println!("{}", codec.name());
+        test(codec);
+    }
+}
+
 /// They have the same functions.
 macro_rules! codec {
     ($type:ident, $name:literal, $implementation:ident) => {
