@@ -10,7 +10,7 @@ use denote.Ref.{RefT, ptr, now}
 use mir.Val.{Fits}
 use mir.Syntax.{w8}
 use Rattle.bits.specs.Outcome.{Outcome, accepted, refused}
-use Rattle.bits.proofs.Octets.{octets-of, octets-drop}
+use Rattle.bits.proofs.Octets.{octets-of, octets-drop, rest}
 use Rattle.bitmap.specs.declared.Reading.the-variants.{Read, Refused}
 use Rattle.bitmap.specs.declared.Writing.the-variants.{Wrote, Refused as Unwritten}
 use Rattle.bitmap.specs.Image.{Sizes, imageOctets, blackPixels, onesOf}
@@ -18,7 +18,7 @@ use Rattle.bitmap.specs.Bitmap.{Bitmap, writing, judged, reading, writin
 use Rattle.bitmap.specs.Promises.{ReadPromise, ImagePromise, WritePromise}
 use Rattle.bitmap.proofs.Sizing.{octets-most}
 use Rattle.bitmap.proofs.Pixels.{black-are-ones}
-use Rattle.bitmap.proofs.Judging.{octet-fits, rest}
+use Rattle.bitmap.proofs.Judging.{octet-fits}
 use Rattle.bitmap.proofs.Rules.{bitmap, Header, JudgedCase, ReadingCase, judged-is, reading-is}
 
 -- ---- what a number of refusal says
@@ -74,7 +74,7 @@ pub read-accepted : (m : List ℕ) {n k : ℕ} → ((i : ℕ) → Fits w8 (getD 
 read-accepted m {n} {k} f e z h =
     let c = cleared m e z in
     let b : k ≡ blackPixels (getD m 1 0) (getD m 2 0) (drop 4 m) =
-    h ∙ ap onesOf (rest m)
+    h ∙ ap onesOf (rest 4 m)
     ∙ sym (black-are-ones (getD m 1 0) (getD m 2 0) (drop 4 m) (c .header .sizes .whole) (octets-drop 4 m (octets-of m f)) (c .exact)) in
     record { answer = rw (c .reads, b) refl; numbers = rw (c .reads, b) refl }
 
@@ -86,7 +86,7 @@ pub image-accepted : (m : RefT (List ℕ)) (γ : ℕ) {n : ℕ} → n ≡ refusa
     → ImagePromise m (record { ptr = (ptr m .0, 4 + ptr m .1); name = γ; now = take (length (now m) - 4) (drop 4 (now m)) })
 image-accepted m γ e z =
     let q = cleared (now m) e z .reads in
-    record { octets = rw q (rest (now m)); block = refl; start = rw q (add-comm 4 (ptr m .1)) }
+    record { octets = rw q (rest 4 (now m)); block = refl; start = rw q (add-comm 4 (ptr m .1)) }
 
 pub image-refused : (m : RefT (List ℕ)) (γ : ℕ) {n : ℕ} → n ≡ refusalOf (reading (now m)) → (n ≡ 0 → ⊥)
     → ImagePromise m (record { ptr = (ptr m .0, 0 + ptr m .1); name = γ; now = take (0 - 0) (drop 0 (now m)) })

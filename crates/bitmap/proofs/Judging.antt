@@ -4,12 +4,11 @@ use native.Mathlib.Omega.{arith}
 use mathlib.Core.Path.{_≡_, refl, sym, _∙_}
 use mathlib.Core.Bool.{Bool, true, false, not}
 use mathlib.Core.List.{List}
-use native.Mathlib.Nat.{le-of-eq}
-use lib.ListN.{length, getD, take, drop, length-drop}
-use lib.Seq.{take-all}
+use lib.ListN.{length, getD, take, drop}
 use mir.Val.{Fits}
 use mir.Syntax.{w8, w32}
 use borrow.Author.Tests.{lt-ltb, le-ltb, eq-eqb, ne-eqb, not-true, not-false}
+use Rattle.bits.proofs.Octets.{rest}
 use Rattle.bitmap.specs.Image.{sizesTaken, imageOctets}
 use Rattle.bitmap.specs.Bitmap.{judged, reading, refusalOf}
 use Rattle.bitmap.proofs.Sizing.{taken-sizes}
@@ -56,13 +55,9 @@ pub judge-depth : (m : List ℕ) → 4 ≤ length m → getD m 0 0 ≡ 0 → (ge
 unfolding reading
 judge-depth m l h k = rw (le-ltb (length m) 4 l, eq-eqb (getD m 0 0) 0 h, ne-eqb (getD m 3 0) 1 k) refl
 
--- the part from the fourth octet up to the end is all that follows
-pub rest : (m : List ℕ) → take (length m - 4) (drop 4 m) ≡ drop 4 m
-rest m = take-all (length m - 4) (drop 4 m) (le-of-eq (length-drop 4 m))
-
 pub judge-image : (m : List ℕ) {r : ℕ} → 4 ≤ length m → getD m 0 0 ≡ 0 → getD m 3 0 ≡ 1 → r ≡ refusalOf (judged (getD m 1 0) (getD m 2 0) (take (length m - 4) (drop 4 m)))
     → r ≡ refusalOf (reading m)
 unfolding reading
-judge-image m l h k e = rw (le-ltb (length m) 4 l, eq-eqb (getD m 0 0) 0 h, eq-eqb (getD m 3 0) 1 k) (rw (rest m) at e)
+judge-image m l h k e = rw (le-ltb (length m) 4 l, eq-eqb (getD m 0 0) 0 h, eq-eqb (getD m 3 0) 1 k) (rw (rest 4 m) at e)
 
 pub ruleset judges = (judge-short, judge-info, judge-depth, judge-image)

@@ -9,11 +9,11 @@ use lib.Seq.{take-at, drop-append-add, drop-drop, set-split, append-snoc}
 use mir.Val.{Fits}
 use mir.Syntax.{w64}
 use Rattle.bits.specs.Lent.{over}
+use Rattle.bits.proofs.Octets.{rest}
 use Rattle.bitmap_ahead.specs.declared.Kind.{Kind}
-use Rattle.bitmap_ahead.specs.declared.Kind.the-variants.{Plain, Icon, Logo}
+use Rattle.bitmap_ahead.specs.declared.Kind.the-variants.{Icon, Logo}
 use Rattle.bitmap_ahead.specs.Ahead.{Ahead, said, WellFormed, aheadOctets, taken}
 use Rattle.bitmap_ahead.proofs.Dates.{date-short}
-use Rattle.bitmap_ahead.proofs.Standing.{rest}
 use Rattle.bitmap_ahead.proofs.Rules.{taken-formed}
 
 -- ---- pieces, one behind the other
@@ -127,30 +127,22 @@ module _ (mcc mnc date : List ℕ) {kind : Kind} (h : kind ≡ Logo) (t : taken 
   pub octets-most : length mcc + length mnc + length date + 2 ≤ 23
   octets-most = omega (arith, long)
 
-  pub octets-are : length mcc + length mnc + length date + 2 ≡ length (aheadOctets kind (said mcc mnc date))
-  octets-are =
-      let e : length mcc + length mnc + length date + 2 ≡ length (aheadOctets Logo (said mcc mnc date)) = simp length-append (omega arith) in
-      e ∙ ap (λ (x : Kind). length (aheadOctets x (said mcc mnc date))) (sym h)
+pub octets-are : (mcc mnc date : List ℕ) → length mcc + length mnc + length date + 2 ≡ length (aheadOctets Logo (said mcc mnc date))
+octets-are mcc mnc date = simp length-append (omega arith)
 
-pub octets-plain : (a : Ahead) {kind : Kind} → kind ≡ Plain → 0 ≡ length (aheadOctets kind a)
-octets-plain a h = ap (λ (x : Kind). length (aheadOctets x a)) (sym h)
+-- what one kind has ahead, the kind has that is this one
+pub octets-at : (a : Ahead) {kind k : Kind} {n : ℕ} → kind ≡ k → n ≡ length (aheadOctets k a) → n ≡ length (aheadOctets kind a)
+octets-at a h e = e ∙ ap (λ (x : Kind). length (aheadOctets x a)) (sym h)
 
-pub octets-icon : (a : Ahead) {kind : Kind} → kind ≡ Icon → 1 ≡ length (aheadOctets kind a)
-octets-icon a h = ap (λ (x : Kind). length (aheadOctets x a)) (sym h)
-
-pub ruleset sums = (sum-fits, octets-fit, octets-most, octets-are, octets-plain, octets-icon)
+pub ruleset sums = (sum-fits, octets-fit, octets-most, octets-are, octets-at)
 
 -- ---- `put`
-
-pub put-plain : (a : Ahead) (out : List ℕ) {kind : Kind} → kind ≡ Plain → out ≡ over (aheadOctets kind a) out
-put-plain a out h = ap (λ (x : Kind). over (aheadOctets x a) out) (sym h)
 
 pub icon-room : (a : Ahead) (out : List ℕ) {kind : Kind} → kind ≡ Icon → length (aheadOctets kind a) ≤ length out → 0 < length out
 icon-room a out h l = subst (λ (x : Kind). length (aheadOctets x a) ≤ length out) h l
 
-pub put-icon : (a : Ahead) (out : List ℕ) {kind : Kind} → kind ≡ Icon → length (aheadOctets kind a) ≤ length out → set out 0 0x30 ≡ over (aheadOctets kind a) out
-put-icon a out h l =
-    one-more [] 0x30 out {x = out} {at = 0} refl refl (icon-room a out h l) ∙ ap (λ (x : Kind). over (aheadOctets x a) out) (sym h)
+pub icon-put : (a : Ahead) (out : List ℕ) {kind : Kind} → kind ≡ Icon → length (aheadOctets kind a) ≤ length out → set out 0 0x30 ≡ over (aheadOctets Icon a) out
+icon-put a out h l = one-more [] 0x30 out {x = out} {at = 0} refl refl (icon-room a out h l)
 
 pub logo-room : (mcc mnc date out : List ℕ) {kind : Kind} → kind ≡ Logo → length (aheadOctets kind (said mcc mnc date)) ≤ length out
     → length mcc + length mnc + length date + 2 ≤ length out
@@ -158,7 +150,8 @@ logo-room mcc mnc date out h l =
     let k : length (aheadOctets Logo (said mcc mnc date)) ≤ length out = subst (λ (x : Kind). length (aheadOctets x (said mcc mnc date)) ≤ length out) h l in
     omega (arith, simp length-append at k)
 
-pub put-logo-kind : (a : Ahead) (out : List ℕ) {new : List ℕ} {kind : Kind} → kind ≡ Logo → new ≡ over (aheadOctets Logo a) out → new ≡ over (aheadOctets kind a) out
-put-logo-kind a out h e = e ∙ ap (λ (x : Kind). over (aheadOctets x a) out) (sym h)
+-- what one kind leaves, the kind leaves that is this one
+pub put-as : (a : Ahead) (out : List ℕ) {new : List ℕ} {kind k : Kind} → kind ≡ k → new ≡ over (aheadOctets k a) out → new ≡ over (aheadOctets kind a) out
+put-as a out h e = e ∙ ap (λ (x : Kind). over (aheadOctets x a) out) (sym h)
 
-pub ruleset puts = (put-plain, icon-room, put-icon, logo-room, put-logo-kind)
+pub ruleset puts = (icon-room, icon-put, logo-room, put-as)

@@ -2,7 +2,7 @@
 use Prim.Native.Nat.{ℕ, suc, _+_, _≤_, _<_}
 use native.Mathlib.Omega.{arith}
 use mathlib.Core.Path.{_≡_, refl, sym, ap, ap₂, _∙_}
-use mathlib.Core.Bool.{Bool, true, _&&_}
+use mathlib.Core.Bool.{true, _&&_}
 use mathlib.Core.List.{List, [], _∷_, _++_, append-assoc}
 use lib.ListN.{length, getD, take, drop, length-append, length-drop, take-append-drop}
 use lib.Seq.{take-at, drop-at, take-append-seam, drop-append-seam, getD-append-seam, getD-drop, drop-drop, drop-cons, split-at}
@@ -11,7 +11,7 @@ use borrow.Author.Tests.{eqb-true, eq-eqb}
 use Rattle.bits.proofs.Choice.{both}
 use Rattle.bitmap_ahead.specs.declared.Kind.{Kind}
 use Rattle.bitmap_ahead.specs.declared.Kind.the-variants.{Plain, Icon, Logo}
-use Rattle.bitmap_ahead.specs.Digits.{Digits, CommonDate, digitsTaken, dateOctets, dateTaken}
+use Rattle.bitmap_ahead.specs.Digits.{digitsTaken, dateOctets, dateTaken}
 use Rattle.bitmap_ahead.specs.Ahead.{Ahead, said, nothing, WellFormed, aheadOctets, silent, taken, startOf, aheadIn, fixedStand, stands}
 use Rattle.bitmap_ahead.proofs.Digits.{test-digits, digits-test}
 use Rattle.bitmap_ahead.proofs.Dates.{day-octets, time-octets, universal-octets, date-length, test-date, date-test}

@@ -1,25 +1,22 @@
 -- Where the bitmap of a message begins, and what the judge of the octets ahead of it finds.
 use Prim.Native.Nat.{ℕ, _+_, _-_, _≤_, _<_}
 use native.Mathlib.Omega.{arith}
-use mathlib.Core.Path.{_≡_, refl, sym, ap, ap₂, _∙_}
+use mathlib.Core.Path.{_≡_, refl, sym, ap, _∙_}
 use mathlib.Core.Bool.{Bool, true, false, not, _&&_}
 use mathlib.Core.List.{List, [], _++_}
 use lib.ListN.{length, getD, take, drop, length-drop, drop-of-length-le}
-use lib.Seq.{length-take-le, take-add, take-all, drop-drop}
+use lib.Seq.{length-take-le, take-add, drop-drop}
 use lib.Dec.{eqb}
 use borrow.Author.Tests.{eq-eqb, ne-eqb, not-true, not-false}
 use mir.Val.{Fits}
 use mir.Syntax.{w64}
+use Rattle.bits.proofs.Octets.{rest}
 use Rattle.bitmap_ahead.specs.declared.Kind.{Kind}
 use Rattle.bitmap_ahead.specs.declared.Kind.the-variants.{Plain, Icon, Logo}
 use Rattle.bitmap_ahead.specs.Digits.{allDigits, digitsTaken, dateOctets, dateTaken}
 use Rattle.bitmap_ahead.specs.Ahead.{startOf, silent, stands}
 use Rattle.bitmap_ahead.proofs.Digits.{all-append}
-use Rattle.bitmap_ahead.proofs.Dates.{date-least, date-most, day-short}
-
--- the part from a place up to the end is all that follows
-pub rest : (k : ℕ) (m : List ℕ) → take (length m - k) (drop k m) ≡ drop k m
-rest k m = take-all (length m - k) (drop k m) (omega (arith, length-drop k m))
+use Rattle.bitmap_ahead.proofs.Dates.{date-most, day-short}
 
 -- ---- the exits of `logo_start` and `start`
 

@@ -44,7 +44,7 @@ allDigits (x ∷ l) = digit x && allDigits l
 unfoldable pub digitsTaken : ℕ → List ℕ → Bool
 digitsTaken n l = eqb (length l) n && allDigits l
 
--- how many octets the date has that stands first, told by the octets where T and Z may stand
+-- how many octets the date has that stands first, told by the octets where T and Z may stand; one that is not there is neither
 unfoldable pub dateOctets : List ℕ → ℕ
 dateOctets d = pick (eqb (getD d 8 0) 0x54) (pick (eqb (getD d 15 0) 0x5A) 16 15) 8
 

@@ -3,7 +3,6 @@ use Prim.Native.Nat.{ℕ}
 use mathlib.Core.Path.{_≡_, sym, ap, _∙_}
 use mathlib.Core.List.{List}
 use Rattle.bits.specs.declared.BitPlace.{BitPlace}
-use Rattle.bitmap_ahead.specs.declared.Kind.{Kind}
 use Rattle.bitmap_ahead.specs.declared.Kind.the-variants.{Icon, Logo}
 use Rattle.bitmap_kinds.specs.declared.Field.the-variants.{Mcc, Mnc, Date, Image}
 use Rattle.bitmap_kinds.specs.declared.Fields.{Fields}

@@ -2,16 +2,15 @@
 use Prim.Native.Nat.{ℕ, _+_, _-_, _≤_, _<_}
 use native.Mathlib.Omega.{arith}
 use native.Mathlib.Nat.{add-comm}
-use mathlib.Core.Path.{_≡_, refl, sym, ap, ap₂, subst, _∙_}
-use mathlib.Core.Bool.{Bool, true, false, not}
-use mathlib.Core.List.{List, [], _++_}
-use lib.ListN.{length, getD, take, drop, length-append, length-drop}
-use borrow.Author.Tests.{lt-ltb, le-ltb, lt-leb, le-leb, not-true, not-false}
+use mathlib.Core.Path.{_≡_, refl, sym, ap, _∙_}
+use mathlib.Core.Bool.{Bool, true, false}
+use mathlib.Core.List.{List}
+use lib.ListN.{length, getD, take, drop}
+use borrow.Author.Tests.{lt-ltb, le-ltb}
 use denote.Ref.{RefT, ptr, now}
-use mir.Val.{Fits}
-use mir.Syntax.{w64}
 use Rattle.bits.specs.declared.BitPlace.{BitPlace}
 use Rattle.bits.specs.Outcome.{Outcome, accepted, refused}
+use Rattle.bits.proofs.Octets.{rest}
 use Rattle.bitmap.specs.declared.Reading.{Reading as BitmapReading}
 use Rattle.bitmap.specs.declared.Reading.the-variants.{Read as BitmapRead, Refused as Unread}
 use Rattle.bitmap.specs.Image.{blackPixels}
@@ -20,16 +19,15 @@ use Rattle.bitmap.specs.Promises.{ReadPromise as BitmapReadPromise, readAnswer 
 use Rattle.bitmap.proofs.Rules.{bitmap}
 use Rattle.bitmap.proofs.Exits.{cleared as bitmap-cleared}
 use Rattle.bitmap_ahead.specs.declared.Kind.{Kind}
-use Rattle.bitmap_ahead.specs.declared.Kind.the-variants.{Plain, Icon, Logo}
-use Rattle.bitmap_ahead.specs.Ahead.{Ahead, aheadOctets, startOf, aheadIn, stands}
-use Rattle.bitmap_ahead.proofs.Standing.{rest}
+use Rattle.bitmap_ahead.specs.declared.Kind.the-variants.{Logo}
+use Rattle.bitmap_ahead.specs.Ahead.{Ahead, startOf, aheadIn, stands}
 use Rattle.bitmap_kinds.specs.declared.Field.{Field}
 use Rattle.bitmap_kinds.specs.declared.Field.the-variants.{Mcc, Mnc, Date, Image}
 use Rattle.bitmap_kinds.specs.declared.Stretch.{Stretch}
 use Rattle.bitmap_kinds.specs.declared.Fields.{Fields}
 use Rattle.bitmap_kinds.specs.declared.Reading.the-variants.{Read, Refused}
 use Rattle.bitmap_kinds.specs.Kinds.{Graphic, withAhead, reading}
-use Rattle.bitmap_kinds.specs.Promises.{stretch, fieldStart, fieldOf, stretchOf, fieldsOf, ReadPromise, FieldPromise}
+use Rattle.bitmap_kinds.specs.Promises.{stretch, fieldStart, stretchOf, fieldsOf, ReadPromise, FieldPromise}
 use Rattle.bitmap_kinds.specs.Steps.{aheadFault, imageAlone, fieldsAt, oneOf}
 use Rattle.bitmap_kinds.proofs.Rules.{graphic, ReadingCase, reading-is, reading-short, reading-wrong, reading-behind, Accepted, is-accepted}
 use Rattle.bitmap_kinds.proofs.Stretches.{field-stretch, field-inside, fields-same, fields-right}
@@ -112,19 +110,15 @@ pub ruleset judges = (start-inside, judge-ahead, judge-bitmap)
 pub date-room : (m : List ℕ) {kind : Kind} {start : ℕ} → kind ≡ Logo → start ≡ startOf kind m → 7 ≤ start
 date-room m h e = omega (arith, e ∙ ap (λ (x : Kind). startOf x m) h)
 
-pub fields-plain : (start n : ℕ) {kind : Kind} {i : Stretch} {r : Fields} → kind ≡ Plain → i ≡ stretch (start + 4) (n - (start + 4)) → r ≡ imageAlone i
-    → r ≡ fieldsAt kind start n
-fields-plain start n h e f = f ∙ ap imageAlone e ∙ ap (λ (x : Kind). fieldsAt x start n) (sym h)
-
-pub fields-icon : (start n : ℕ) {kind : Kind} {i : Stretch} {r : Fields} → kind ≡ Icon → i ≡ stretch (start + 4) (n - (start + 4)) → r ≡ imageAlone i
-    → r ≡ fieldsAt kind start n
-fields-icon start n h e f = f ∙ ap imageAlone e ∙ ap (λ (x : Kind). fieldsAt x start n) (sym h)
+pub fields-alone : (start n : ℕ) {kind k : Kind} {i : Stretch} {r : Fields} → kind ≡ k → i ≡ stretch (start + 4) (n - (start + 4)) → r ≡ imageAlone i
+    → imageAlone (stretch (start + 4) (n - (start + 4))) ≡ fieldsAt k start n → r ≡ fieldsAt kind start n
+fields-alone start n h e f g = f ∙ ap imageAlone e ∙ g ∙ ap (λ (x : Kind). fieldsAt x start n) (sym h)
 
 pub fields-logo : (start n : ℕ) {kind : Kind} {a b c i : Stretch} → kind ≡ Logo → i ≡ stretch (start + 4) (n - (start + 4)) → a ≡ stretch 1 3 → b ≡ stretch 4 2
     → c ≡ stretch 6 (start - 7) → record { mcc = a; mnc = b; date = c; image = i } ≡ fieldsAt kind start n
 fields-logo start n h i a b c = fields-same a b c i ∙ ap (λ (x : Kind). fieldsAt x start n) (sym h)
 
-pub ruleset fields = (date-room, fields-plain, fields-icon, fields-logo)
+pub ruleset fields = (date-room, fields-alone, fields-logo)
 
 -- ---- `read`
 

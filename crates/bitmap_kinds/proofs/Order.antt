@@ -1,14 +1,13 @@
 -- The order of the grounds: each is given where it is met and none ahead of it is, whatever else is wrong.
 use Prim.Native.Nat.{ℕ, _+_, _≤_, _<_}
 use native.Mathlib.Omega.{arith}
-use mathlib.Core.Path.{_≡_, refl, sym, ap, _∙_}
+use mathlib.Core.Path.{_≡_, refl, ap, _∙_}
 use mathlib.Core.Bool.{true, false}
 use mathlib.Core.List.{List}
 use lib.ListN.{length, getD, drop, length-drop}
 use borrow.Author.Tests.{lt-leb, le-leb}
-use Rattle.bits.specs.Outcome.{Outcome, accepted, refused}
+use Rattle.bits.specs.Outcome.{accepted, refused}
 use Rattle.bitmap.specs.Image.{Sizes, imageOctets}
-use Rattle.bitmap.specs.Bitmap.{judged as bitmapJudged}
 use Rattle.bitmap.proofs.Rules.{bitmap, Header}
 use Rattle.bitmap.proofs.Order.{header-second, image-third, sizes-first, octets-second, judged-last}
 use Rattle.bitmap_ahead.specs.declared.Kind.{Kind}

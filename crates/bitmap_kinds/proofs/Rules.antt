@@ -5,15 +5,14 @@ use mathlib.Core.Path.{_≡_, refl, sym, ap, ap₂, subst, _∙_}
 use mathlib.Core.Logic.{_↔_}
 use mathlib.Core.Bool.{Bool, true, false}
 use mathlib.Core.List.{List, _++_}
-use lib.ListN.{length, drop, length-append, length-drop}
+use lib.ListN.{length, drop, length-append}
 use lib.Seq.{drop-append-seam}
 use lib.Dec.{ltb}
 use borrow.Author.Tests.{ltb-true, ltb-false, lt-ltb, le-ltb}
-use Rattle.bits.specs.Choice.{pick}
 use Rattle.bits.specs.Outcome.{Outcome, accepted, refused}
 use Rattle.bits.specs.Bits.{Octets}
 use Rattle.bits.proofs.Octets.{octets-drop}
-use Rattle.bitmap.specs.Bitmap.{Bitmap, WellFormed as WellFormedBitmap, writing as bitmapOctets, reading as bitmapReading}
+use Rattle.bitmap.specs.Bitmap.{Bitmap, writing as bitmapOctets, reading as bitmapReading}
 use Rattle.bitmap.proofs.Rules.{read-written as bitmap-read-written, write-read as bitmap-write-read, read-well-formed as bitmap-well-formed}
 use Rattle.bitmap_ahead.specs.declared.Kind.{Kind}
 use Rattle.bitmap_ahead.specs.Ahead.{Ahead, WellFormed as WellFormedAhead, aheadOctets, startOf, aheadIn, stands}

@@ -2,17 +2,16 @@
 use Prim.Native.Nat.{ℕ, _+_, _-_, _≤_}
 use native.Mathlib.Omega.{arith}
 use mathlib.Core.Path.{_≡_, refl, sym, ap, ap₂, subst, _∙_}
-use mathlib.Core.Bool.{Bool, true}
-use mathlib.Core.List.{List, _++_}
+use mathlib.Core.List.{List}
 use lib.ListN.{length, take, drop, length-append, length-take, length-drop, take-append-drop}
 use lib.Seq.{length-take-le, take-length, take-append-seam, drop-drop}
-use Rattle.bits.specs.Outcome.{Outcome, accepted}
-use Rattle.bitmap.specs.Bitmap.{Bitmap, writing as bitmapOctets, reading as bitmapReading}
+use Rattle.bits.specs.Outcome.{accepted}
+use Rattle.bitmap.specs.Bitmap.{Bitmap}
 use Rattle.bitmap.proofs.Rules.{write-read as bitmap-write-read}
 use Rattle.bitmap_ahead.specs.declared.Kind.{Kind}
 use Rattle.bitmap_ahead.specs.declared.Kind.the-variants.{Plain, Icon, Logo}
 use Rattle.bitmap_ahead.specs.Digits.{dateOctets}
-use Rattle.bitmap_ahead.specs.Ahead.{Ahead, aheadOctets, startOf, aheadIn, stands}
+use Rattle.bitmap_ahead.specs.Ahead.{Ahead, aheadOctets, startOf, aheadIn}
 use Rattle.bitmap_ahead.proofs.Rules.{found-formed, found-written}
 use Rattle.bitmap_kinds.specs.declared.Field.{Field}
 use Rattle.bitmap_kinds.specs.declared.Field.the-variants.{Mcc, Mnc, Date, Image}
@@ -20,7 +19,7 @@ use Rattle.bitmap_kinds.specs.declared.Stretch.{Stretch}
 use Rattle.bitmap_kinds.specs.declared.Fields.{Fields}
 use Rattle.bitmap_kinds.specs.Kinds.{Graphic}
 use Rattle.bitmap_kinds.specs.Promises.{fieldOf, inLogo, fieldStart, stretch, stretchOf, fieldsOf}
-use Rattle.bitmap_kinds.specs.Steps.{imageAlone, fieldsAt, oneOf}
+use Rattle.bitmap_kinds.specs.Steps.{imageAlone, fieldsAt}
 use Rattle.bitmap_kinds.proofs.Rules.{graphic, Accepted}
 
 -- as many octets of a list as its front has are that front

@@ -6,16 +6,16 @@ use mathlib.Core.Bool.{Bool, true, false, not}
 use mathlib.Core.List.{List, _++_}
 use lib.ListN.{length, take, drop, length-append}
 use borrow.Author.Tests.{lt-leb, le-leb, not-true, not-false}
-use Rattle.bits.specs.Outcome.{Outcome, accepted, refused}
+use Rattle.bits.specs.Outcome.{accepted, refused}
 use Rattle.bits.specs.Lent.{over}
 use Rattle.bitmap.specs.declared.Writing.the-variants.{Wrote, Refused as Unwritten}
-use Rattle.bitmap.specs.Bitmap.{Bitmap, refusalOf, writing as bitmapOctets, judged as bitmapJudged}
+use Rattle.bitmap.specs.Bitmap.{refusalOf, writing as bitmapOctets, judged as bitmapJudged}
 use Rattle.bitmap.proofs.Rules.{bitmap, judged-is as bitmap-judged-is}
 use Rattle.bitmap.proofs.Exits.{judged-right, judged-wrong}
 use Rattle.bitmap_ahead.specs.declared.Kind.{Kind}
 use Rattle.bitmap_ahead.specs.Ahead.{Ahead, aheadOctets, taken}
 use Rattle.bitmap_ahead.proofs.Putting.{over-long, more, pasted}
-use Rattle.bitmap_kinds.specs.Kinds.{Graphic, writing, withAhead, judged, writingInto}
+use Rattle.bitmap_kinds.specs.Kinds.{writing, judged, writingInto}
 use Rattle.bitmap_kinds.specs.Promises.{WritePromise}
 use Rattle.bitmap_kinds.proofs.Rules.{graphic}
 

@@ -5,7 +5,7 @@ use mathlib.Core.Path.{_≡_, refl, sym, ap, ap₂, _∙_}
 use mathlib.Core.Bool.{Bool}
 use mathlib.Core.List.{List, [], _∷_, _++_, append-assoc}
 use lib.ListN.{length, getD, take, drop, length-append, length-drop, take-append-drop}
-use lib.Seq.{length-take-le, take-at, drop-at, drop-append-add, drop-nil, drop-drop}
+use lib.Seq.{length-take-le, take-all, take-at, drop-at, drop-append-add, drop-nil, drop-drop}
 use mir.Val.{Fits}
 use mir.Syntax.{w8}
 use Rattle.bits.specs.Bits.{num, bitsN, bitsOf, octets, Octets}
@@ -89,3 +89,9 @@ octets-drop (suc n) (x ∷ m) h = octets-drop n m (h .1)
 pub octets-append : (m n : List ℕ) → Octets m → Octets n → Octets (m ++ n)
 octets-append [] n h k = k
 octets-append (x ∷ m) n h k = (h .0, octets-append m n (h .1) k)
+
+-- ---- parts
+
+-- the part from a place up to the end is all that follows
+pub rest : (k : ℕ) (m : List ℕ) → take (length m - k) (drop k m) ≡ drop k m
+rest k m = take-all (length m - k) (drop k m) (omega (arith, length-drop k m))
