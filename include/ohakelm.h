@@ -62,6 +62,9 @@
  * mobile network code (MNC), the date until which it is valid, a line feed and
  * a bitmap. The date is eight digits; or these, T and six digits; or all that
  * and Z. Any digits will do: there is no calendar. Characters are ASCII.
+ * What some later tools send is none of these and is refused: a logo with an
+ * MNC of three digits, or with codes in half octets and no date. An icon
+ * without its version is a bitmap.
  */
 #ifndef OHAKELM_H
 #define OHAKELM_H

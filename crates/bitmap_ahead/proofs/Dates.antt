@@ -5,8 +5,8 @@ use native.Mathlib.Nat.{add-zero}
 use mathlib.Core.Path.{_≡_, refl, sym, ap, ap₂, subst, _∙_}
 use mathlib.Core.Bool.{Bool, true, false, not, _&&_}
 use mathlib.Core.List.{List, [], _∷_, _++_, append-assoc, append-nil}
-use lib.ListN.{length, getD, take, drop, length-append, length-drop, drop-of-length-le, List·getD-eq-default}
-use lib.Seq.{length-take-le, take-all, take-at, split-at, drop-append-add, getD-append-add, getD-drop}
+use lib.ListN.{length, getD, take, drop, length-append, length-take, length-drop, drop-of-length-le, List·getD-eq-default}
+use lib.Seq.{length-take-le, take-all, take-at, take-add, take-take, drop-at, split-at, drop-append-add, getD-append-add, getD-take, getD-drop}
 use lib.Dec.{eqb}
 use borrow.Author.Tests.{eqb-true, eqb-false, eq-eqb, ne-eqb, not-true, not-false}
 use Rattle.bits.specs.Choice.{pick}
@@ -81,6 +81,46 @@ date-least d = least (date-told d)
 
 pub date-most : (d : List ℕ) → dateOctets d ≤ 16
 date-most d = most (date-told d)
+
+-- ---- a date that stands first among other octets
+
+-- cut to its length it has that length
+again : (d : List ℕ) {n : ℕ} → Told d n → n ≤ length d → dateOctets (take n d) ≡ n
+again d (no-t h) l = sym (day-short (take 8 d) (omega (arith, length-take-le 8 d l)))
+again d (t-no-z h k) l = sym (time-short (take 15 d) (getD-take 15 d 8 0 (omega arith) ∙ h) (omega (arith, length-take-le 15 d l)))
+again d (t-and-z h k) l = sym (universal-octets (take 16 d) (getD-take 16 d 8 0 (omega arith) ∙ h) (getD-take 16 d 15 0 (omega arith) ∙ k))
+
+-- it is one where its first eight octets are digits, and the six behind the T
+pub date-first : (d : List ℕ) → dateOctets d ≤ length d
+    → dateTaken (take (dateOctets d) d) ≡ (allDigits (take 8 d) && allDigits (take 6 (drop 9 (take (dateOctets d) d))))
+unfolding dateTaken
+date-first d l =
+    let n : ℕ = dateOctets d in
+    let e : eqb (length (take n d)) (dateOctets (take n d)) ≡ true =
+    eq-eqb (length (take n d)) (dateOctets (take n d)) (length-take-le n d l ∙ sym (again d (date-told d) l)) in
+    rw (e, take-take 8 n d (date-least d)) refl
+
+-- a date of eight octets has no T
+pub no-hour : (d : List ℕ) → dateOctets d ≡ 8 → allDigits (take 6 (drop 9 (take (dateOctets d) d))) ≡ true
+unfolding allDigits
+no-hour d e =
+    let z : drop 9 (take (dateOctets d) d) ≡ [] =
+    drop-of-length-le (take (dateOctets d) d) {i = 9} (simp length-take (omega (arith, e))) in
+    rw z refl
+
+-- a longer one has six octets behind it
+pub hour-of : (d : List ℕ) → 15 ≤ dateOctets d → dateOctets d ≤ length d → take 6 (drop 9 (take (dateOctets d) d)) ≡ take 6 (drop 9 d)
+hour-of d h l =
+    let k : ℕ = dateOctets d - 9 in
+    let e : dateOctets d ≡ 9 + k = omega arith in
+    let x : drop 9 (take (dateOctets d) d) ≡ take k (drop 9 d) =
+    ap (λ (n : ℕ). drop 9 (take n d)) e
+    ∙ ap (drop 9) (take-add 9 k d)
+    ∙ drop-at (take 9 d) (take k (drop 9 d)) 9 (length-take-le 9 d (omega arith)) in
+    ap (take 6) x ∙ take-take 6 k (drop 9 d) (omega arith)
+
+pub date-timed : (d : List ℕ) → (dateOctets d ≡ 8 → ⊥) → 15 ≤ dateOctets d
+date-timed d h = timed (date-told d) h
 
 -- ---- the exits of `date_taken`
 

@@ -13,10 +13,10 @@ use mir.Syntax.{w64}
 use Rattle.bits.proofs.Octets.{rest}
 use Rattle.bitmap_ahead.specs.declared.Kind.{Kind}
 use Rattle.bitmap_ahead.specs.declared.Kind.the-variants.{Plain, Icon, Logo}
-use Rattle.bitmap_ahead.specs.Digits.{allDigits, digitsTaken, dateOctets, dateTaken}
-use Rattle.bitmap_ahead.specs.Ahead.{startOf, silent, stands}
+use Rattle.bitmap_ahead.specs.Digits.{allDigits, digitsTaken, dateOctets}
+use Rattle.bitmap_ahead.specs.Ahead.{startOf, aheadIn, silent, taken, stands}
 use Rattle.bitmap_ahead.proofs.Digits.{all-append}
-use Rattle.bitmap_ahead.proofs.Dates.{date-most, day-short}
+use Rattle.bitmap_ahead.proofs.Dates.{date-least, date-most, day-short, date-first, no-hour, hour-of, date-timed}
 
 -- ---- the exits of `logo_start` and `start`
 
@@ -60,6 +60,29 @@ codes-told m h =
     ∙ all-append (take 3 (drop 1 m)) (take 2 (drop 4 m))
     ∙ (rw (eq-eqb (length (take 3 (drop 1 m))) 3 a, eq-eqb (length (take 2 (drop 4 m))) 2 b) refl)
 
+-- the thirteen octets behind the version are digits where the codes and the day are
+thirteen : (m : List ℕ) → 14 ≤ length m
+    → allDigits (take 13 (drop 1 m)) ≡ (digitsTaken 3 (take 3 (drop 1 m)) && digitsTaken 2 (take 2 (drop 4 m)) && allDigits (take 8 (drop 6 m)))
+thirteen m h =
+    ap allDigits (take-add 5 8 (drop 1 m) ∙ ap (λ (x : List ℕ). take 5 (drop 1 m) ++ take 8 x) (drop-drop 5 1 m))
+    ∙ all-append (take 5 (drop 1 m)) (take 8 (drop 6 m))
+    ∙ ap (λ (t : Bool). t && allDigits (take 8 (drop 6 m))) (codes-told m (omega arith))
+
+and-assoc : (a b c : Bool) → (a && (b && c)) ≡ ((a && b) && c)
+and-assoc true b c = refl
+and-assoc false b c = refl
+
+-- what a logo says is taken where those are digits and the six octets behind a T are
+said-told : (m : List ℕ) → startOf Logo m ≤ length m
+    → taken Logo (aheadIn Logo m) ≡ (allDigits (take 13 (drop 1 m)) && allDigits (take 6 (drop 9 (take (dateOctets (drop 6 m)) (drop 6 m)))))
+said-told m l =
+    let d : List ℕ = drop 6 m in
+    let c : Bool = digitsTaken 3 (take 3 (drop 1 m)) && digitsTaken 2 (take 2 (drop 4 m)) in
+    let h : Bool = allDigits (take 6 (drop 9 (take (dateOctets d) d))) in
+    ap (λ (t : Bool). c && t) (date-first d (omega (arith, length-drop 6 m)))
+    ∙ and-assoc c (allDigits (take 8 d)) h
+    ∙ ap (λ (t : Bool). t && h) (sym (thirteen m (omega (arith, date-least d))))
+
 pub version-wrong : (m : List ℕ) → (getD m 0 0 ≡ 0x30 → ⊥) → false ≡ stands Logo m
 unfolding stands
 version-wrong m h = rw (ne-eqb (getD m 0 0) 0x30 h) refl
@@ -69,34 +92,43 @@ module _ (m : List ℕ) {start : ℕ} (e : start ≡ startOf Logo m) (l : start 
   last : start - 1 ≡ 6 + dateOctets (drop 6 m)
   last = omega (arith, e)
 
+  inside : startOf Logo m ≤ length m
+  inside = omega (arith, e, l)
+
   pub line-wrong : getD m 0 0 ≡ 0x30 → (getD m (start - 1) 0 ≡ 0x0A → ⊥) → false ≡ stands Logo m
   unfolding stands
   line-wrong h k =
       let n : (getD m (6 + dateOctets (drop 6 m)) 0 ≡ 0x0A → ⊥) = rw last at k in
       rw (eq-eqb (getD m 0 0) 0x30 h, ne-eqb (getD m (6 + dateOctets (drop 6 m)) 0) 0x0A n) refl
 
-  module _ {t : Bool} (h : getD m 0 0 ≡ 0x30) (k : getD m (start - 1) 0 ≡ 0x0A) (f : t ≡ allDigits (take (6 - 1) (drop 1 m))) where
-    line : getD m (6 + dateOctets (drop 6 m)) 0 ≡ 0x0A
-    line = rw last at k
+  pub codes-inside : 14 ≤ length m
+  codes-inside = omega (arith, e, l, date-least (drop 6 m))
 
-    long : 6 ≤ length m
-    long = omega (arith, e, l)
-
-    codes : t ≡ (digitsTaken 3 (take 3 (drop 1 m)) && digitsTaken 2 (take 2 (drop 4 m)))
-    codes = f ∙ codes-told m long
+  module _ {t : Bool} (h : getD m 0 0 ≡ 0x30) (k : getD m (start - 1) 0 ≡ 0x0A) (f : t ≡ allDigits (take (14 - 1) (drop 1 m))) where
+    -- what is left of the judgement where version and line feed stand
+    left : stands Logo m ≡ (t && allDigits (take 6 (drop 9 (take (dateOctets (drop 6 m)) (drop 6 m)))))
+    unfolding stands
+    left =
+        let line : getD m (6 + dateOctets (drop 6 m)) 0 ≡ 0x0A = rw last at k in
+        rw (eq-eqb (getD m 0 0) 0x30 h, eq-eqb (getD m (6 + dateOctets (drop 6 m)) 0) 0x0A line, f) (said-told m inside)
 
     pub codes-wrong : not t ≡ true → false ≡ stands Logo m
-    unfolding stands
-    codes-wrong g = rw (eq-eqb (getD m 0 0) 0x30 h, eq-eqb (getD m (6 + dateOctets (drop 6 m)) 0) 0x0A line, ← codes, not-true t g) refl
+    codes-wrong g = rw (left, not-true t g) refl
 
-    pub date-told : {r : Bool} → not t ≡ false → r ≡ dateTaken (take (start - 1 - 6) (drop 6 m)) → r ≡ stands Logo m
-    unfolding stands
-    date-told {r} g d =
-        let n : start - 1 - 6 ≡ dateOctets (drop 6 m) = omega (arith, last) in
-        let x : r ≡ dateTaken (take (dateOctets (drop 6 m)) (drop 6 m)) = rw n at d in
-        rw (eq-eqb (getD m 0 0) 0x30 h, eq-eqb (getD m (6 + dateOctets (drop 6 m)) 0) 0x0A line, ← codes, not-false t g) x
+    pub day-alone : not t ≡ false → start ≡ 15 → true ≡ stands Logo m
+    day-alone g d = rw (left, not-false t g) (sym (no-hour (drop 6 m) (omega (arith, e))))
 
-pub ruleset lines = (version-wrong, line-wrong, codes-wrong, date-told)
+    pub hour-told : {r : Bool} → not t ≡ false → (start ≡ 15 → ⊥) → r ≡ allDigits (take (21 - 15) (drop 15 m)) → r ≡ stands Logo m
+    hour-told {r} g n d =
+        let b : 15 ≤ dateOctets (drop 6 m) = date-timed (drop 6 m) (λ z. n (omega (arith, e, z))) in
+        let x : take 6 (drop 9 (take (dateOctets (drop 6 m)) (drop 6 m))) ≡ take 6 (drop 15 m) =
+        hour-of (drop 6 m) b (omega (arith, inside, length-drop 6 m)) ∙ ap (take 6) (drop-drop 9 6 m) in
+        rw (left, not-false t g, x) d
+
+  pub hour-inside : (start ≡ 15 → ⊥) → 21 ≤ length m
+  hour-inside n = omega (arith, e, l, date-timed (drop 6 m) (λ z. n (omega (arith, e, z))))
+
+pub ruleset lines = (version-wrong, line-wrong, codes-inside, codes-wrong, day-alone, hour-told, hour-inside)
 
 -- ---- the exits of `stands`
 

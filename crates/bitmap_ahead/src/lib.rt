@@ -155,7 +155,8 @@ pub fn start(kind: Kind, msg: &[u8]) -> OctetCount
     }
 }
 
-// Whether every octet ahead of a logo's bitmap is one that a logo has there.
+// Whether every octet ahead of a logo's bitmap is one that a logo has there. Codes and day are thirteen digits in a row, and
+// where the bitmap begins tells that T and Z stand in their places.
 fn logo_stands(msg: &[u8], start: usize) -> bool
     requires { ⌜ (start ≡ startOf Logo (now msg)) × (start ≤ length (now msg)) ⌝ }
     ensures { λ r. ⌜ r ≡ standsOf Logo (now (msg .entry)) ⌝ }
@@ -167,10 +168,13 @@ fn logo_stands(msg: &[u8], start: usize) -> bool
     if msg[end] != b'\n' {
         return false;
     }
-    if !all_digits(&msg[1..6]) {
+    if !all_digits(&msg[1..14]) {
         return false;
     }
-    date_taken(&msg[6..end])
+    if start == 15 {
+        return true;
+    }
+    all_digits(&msg[15..21])
 }
 
 // Whether every octet ahead of the bitmap is one that the kind has there.

@@ -25,7 +25,7 @@ use Rattle.bitmap.proofs.Order.{short-first}
 use Rattle.bitmap.proofs.Calls.{same-fault}
 use Rattle.bitmap_ahead.specs.declared.Kind.{Kind}
 use Rattle.bitmap_ahead.specs.declared.Kind.the-variants.{Plain}
-use Rattle.bitmap_ahead.specs.Ahead.{Ahead, said, nothing, silent, taken, stands}
+use Rattle.bitmap_ahead.specs.Ahead.{Ahead, WellFormed as WellFormedAhead, said, nothing, silent, taken, stands}
 use Rattle.bitmap_ahead.proofs.Rules.{taken-formed, formed-taken}
 use Rattle.bitmap_kinds.specs.declared.Field.{Field}
 use Rattle.bitmap_kinds.specs.declared.Field.the-variants.{Mcc, Mnc, Date, Image}
@@ -37,7 +37,7 @@ use Rattle.bitmap_kinds.specs.Promises.{fieldOf, fieldsOf, ReadNumbers, 
 use Rattle.bitmap_kinds.specs.Steps.{oneOf}
 use Rattle.bitmap_kinds.proofs.Rules.{graphic, accepted-is, read-written, write-read, read-well-formed}
 use Rattle.bitmap_kinds.proofs.Stretches.{field-stretch}
-use Rattle.bitmap_kinds.proofs.Order.{ahead-first, sizes-second, image-third-written, room-fourth, written-last}
+use Rattle.bitmap_kinds.proofs.Order.{ahead-first, sizes-second, image-third, room-fourth, written-last}
 
 -- ---- `read`
 
@@ -123,19 +123,19 @@ field-of-refused kind f m i n p e q = q .octets ∙ ap (octetsOf f) e
 abbrev pub whole : Ahead → ℕ → ℕ → List ℕ → Graphic
 whole a width height image = graphic a (bitmap width height image)
 
--- sizes that are taken, as many octets as they ask, and what is said ahead well formed
+-- what is said ahead is well formed, the sizes are taken, and there are as many octets as they ask
 pub record Right (kind : Kind) (a : Ahead) (width height : ℕ) (image : List ℕ) : Type 0 where
-  pub ahead : taken kind a ≡ true
+  pub ahead : WellFormedAhead kind a
   pub sizes : Sizes width height
   pub exact : length image ≡ imageOctets width height
 
 -- that is, well formed
 pub formed-right : (kind : Kind) (a : Ahead) (width height : ℕ) (image : List ℕ) → WellFormed kind (whole a width height image) → Right kind a width height image
-formed-right kind a width height image f = record { ahead = formed-taken kind a (f .ahead); sizes = f .bitmap .sizes; exact = f .bitmap .exact }
+formed-right kind a width height image f = record { ahead = f .ahead; sizes = f .bitmap .sizes; exact = f .bitmap .exact }
 
 pub right-formed : (kind : Kind) (a : Ahead) (width height : ℕ) (image : List ℕ) → Octets image → Right kind a width height image → WellFormed kind (whole a width height image)
 right-formed kind a width height image o r =
-    record { ahead = taken-formed kind a (r .ahead); bitmap = record { sizes = r .sizes; octets = o; exact = r .exact } }
+    record { ahead = r .ahead; bitmap = record { sizes = r .sizes; octets = o; exact = r .exact } }
 
 -- an accepting answer is met only by what is right and has room
 record Kept (kind : Kind) (a : Ahead) (width height : ℕ) (image out : List ℕ) (n : OctetCount) (after : List ℕ) : Type 0 where
@@ -143,6 +143,9 @@ record Kept (kind : Kind) (a : Ahead) (width height : ℕ) (image out : List ℕ
   room : length (writing kind (whole a width height image)) ≤ length out
   octets : n .0 ≡ length (writing kind (whole a width height image))
   lent : after ≡ writing kind (whole a width height image) ++ drop (n .0) out
+
+not-both : true ≡ false → ⊥
+not-both e = let z : _≡_ {A = ℕ} 0 1 = cc in omega arith
 
 never : {A : Type 0} {n : OctetCount} {i j : ℕ} → Wrote n ≡ writeAnswer (refused i j) → A
 never e = let z : _≡_ {A = ℕ} 0 1 = cc in let n : ⊥ = omega arith in absurd n
@@ -168,15 +171,15 @@ module _ (kind : Kind) (a : Ahead) (width height : ℕ) (image out : List ℕ) w
           let l = leb-false (length (writing kind (whole a width height image))) (length out) e in
           never (p .answer ∙ ap writeAnswer (room-fourth (length out) kind a width height image (r .ahead) (r .sizes) (r .exact) l))
 
-      by-case : taken kind a ≡ true → {o : Outcome Bitmap} → JudgedCase width height image o → Kept kind a width height image out n after
-      by-case e (JudgedCase.outside k) = never (p .answer ∙ ap writeAnswer (sizes-second (length out) kind a width height image e k))
-      by-case e (JudgedCase.other-length s k) = never (p .answer ∙ ap writeAnswer (image-third-written (length out) kind a width height image e s k))
-      by-case e (JudgedCase.right s x) =
-          by-room (record { ahead = e; sizes = s; exact = x }) (leb (length (writing kind (whole a width height image))) (length out)) refl
+      by-case : WellFormedAhead kind a → {o : Outcome Bitmap} → JudgedCase width height image o → Kept kind a width height image out n after
+      by-case f (JudgedCase.outside k) = never (p .answer ∙ ap writeAnswer (sizes-second (length out) kind a width height image f k))
+      by-case f (JudgedCase.other-length s k) = never (p .answer ∙ ap writeAnswer (image-third (length out) kind a width height image f s k))
+      by-case f (JudgedCase.right s x) =
+          by-room (record { ahead = f; sizes = s; exact = x }) (leb (length (writing kind (whole a width height image))) (length out)) refl
 
       by-ahead : (t : Bool) → taken kind a ≡ t → Kept kind a width height image out n after
-      by-ahead false e = never (p .answer ∙ ap writeAnswer (ahead-first (length out) kind a width height image e))
-      by-ahead true e = by-case e (bitmap-judged-is width height image)
+      by-ahead false e = never (p .answer ∙ ap writeAnswer (ahead-first (length out) kind a width height image (λ f. not-both (sym (formed-taken kind a f) ∙ e))))
+      by-ahead true e = by-case (taken-formed kind a e) (bitmap-judged-is width height image)
 
   -- what is right and has room is written
   wrote : Right kind a width height image → length (writing kind (whole a width height image)) ≤ length out

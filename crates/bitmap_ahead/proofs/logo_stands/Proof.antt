@@ -26,7 +26,7 @@ part-all-digits-start : tie.Need-part-all-digits-start
 part-all-digits-start c = search needs
 
 part-all-digits-end : tie.Need-part-all-digits-end
-part-all-digits-end c = search needs
+part-all-digits-end c = search (lines, needs)
 
 all-digits-requires : tie.Need-all-digits-requires
 all-digits-requires c κs = search needs
@@ -34,20 +34,23 @@ all-digits-requires c κs = search needs
 returns-3 : tie.Need-returns-3
 returns-3 c = search (lines, needs)
 
-sub-date-taken : tie.Need-sub-date-taken
-sub-date-taken c = search needs
-
-part-date-taken-start : tie.Need-part-date-taken-start
-part-date-taken-start c = search needs
-
-part-date-taken-end : tie.Need-part-date-taken-end
-part-date-taken-end c = search needs
-
-date-taken-requires : tie.Need-date-taken-requires
-date-taken-requires c κs = search needs
-
 returns-4 : tie.Need-returns-4
 returns-4 c = search (lines, needs)
+
+sub-all-digits-2 : tie.Need-sub-all-digits-2
+sub-all-digits-2 c = search needs
+
+part-all-digits-start-2 : tie.Need-part-all-digits-start-2
+part-all-digits-start-2 c = search needs
+
+part-all-digits-end-2 : tie.Need-part-all-digits-end-2
+part-all-digits-end-2 c = search (lines, c .if4 .left, needs)
+
+all-digits-requires-2 : tie.Need-all-digits-requires-2
+all-digits-requires-2 c κs = search needs
+
+returns-5 : tie.Need-returns-5
+returns-5 c = search (lines, needs)
 
 pub logo-stands-spec : {M : Type 1} → statement M
 logo-stands-spec =
@@ -63,8 +66,9 @@ logo-stands-spec =
     part-all-digits-end
     all-digits-requires
     returns-3
-    sub-date-taken
-    part-date-taken-start
-    part-date-taken-end
-    date-taken-requires
-    returns-4)
+    returns-4
+    sub-all-digits-2
+    part-all-digits-start-2
+    part-all-digits-end-2
+    all-digits-requires-2
+    returns-5)
