@@ -157,11 +157,11 @@ pub fn start(kind: Kind, msg: &[u8]) -> OctetCount
 
 // Whether every octet ahead of a logo's bitmap is one that a logo has there. Codes and day are thirteen digits in a row, and
 // where the bitmap begins tells that T and Z stand in their places.
-fn logo_stands(msg: &[u8], start: usize) -> bool
-    requires { ⌜ (start ≡ startOf Logo (now msg)) × (start ≤ length (now msg)) ⌝ }
+fn logo_stands(msg: &[u8], start: OctetCount) -> bool
+    requires { ⌜ (start .0 ≡ startOf Logo (now msg)) × (start .0 ≤ length (now msg)) ⌝ }
     ensures { λ r. ⌜ r ≡ standsOf Logo (now (msg .entry)) ⌝ }
 {
-    let end = start - 1;
+    let end = start.0 - 1;
     if msg[0] != b'0' {
         return false;
     }
@@ -171,15 +171,15 @@ fn logo_stands(msg: &[u8], start: usize) -> bool
     if !all_digits(&msg[1..14]) {
         return false;
     }
-    if start == 15 {
+    if start.0 == 15 {
         return true;
     }
     all_digits(&msg[15..21])
 }
 
 // Whether every octet ahead of the bitmap is one that the kind has there.
-pub fn stands(kind: Kind, msg: &[u8], start: usize) -> bool
-    requires { ⌜ (start ≡ startOf kind (now msg)) × (start ≤ length (now msg)) ⌝ }
+pub fn stands(kind: Kind, msg: &[u8], start: OctetCount) -> bool
+    requires { ⌜ (start .0 ≡ startOf kind (now msg)) × (start .0 ≤ length (now msg)) ⌝ }
     ensures { λ r. ⌜ r ≡ standsOf kind (now (msg .entry)) ⌝ }
 {
     match kind {

@@ -48,11 +48,11 @@ pub enum Reading {
 // ---- Judging.
 
 // The number of the refusal that the part ahead of a bitmap meets, 0 where there is none.
-fn ahead_fault(kind: Kind, msg: &[u8], start: usize) -> u32
-    requires { ⌜ (start ≡ startOf kind (now msg)) × (start ≤ 23) ⌝ }
+fn ahead_fault(kind: Kind, msg: &[u8], start: OctetCount) -> u32
+    requires { ⌜ (start .0 ≡ startOf kind (now msg)) × (start .0 ≤ 23) ⌝ }
     ensures { λ r. ⌜ r ≡ aheadFault kind (now (msg .entry)) ⌝ }
 {
-    if msg.len() < start + 4 {
+    if msg.len() < start.0 + 4 {
         return 2;
     }
     if bitmap_ahead::stands(kind, msg, start) {
@@ -65,12 +65,13 @@ fn ahead_fault(kind: Kind, msg: &[u8], start: usize) -> u32
 pub fn judge(kind: Kind, msg: &[u8]) -> u32
     ensures { λ r. ⌜ r ≡ refusalOf (reading kind (now (msg .entry))) ⌝ }
 {
-    let start = bitmap_ahead::start(kind, msg).0;
+    let start = bitmap_ahead::start(kind, msg);
     let n = ahead_fault(kind, msg, start);
     if n != 0 {
         return n;
     }
-    bitmap::judge(&msg[start..])
+    let at = start.0;
+    bitmap::judge(&msg[at..])
 }
 
 // ---- Where the fields stand.
@@ -98,11 +99,11 @@ fn image_alone(image: Stretch) -> Fields
 }
 
 // The fields of a message whose bitmap begins at a place.
-fn fields_at(kind: Kind, msg: &[u8], start: usize) -> Fields
-    requires { ⌜ (start ≡ startOf kind (now msg)) × (start + 4 ≤ length (now msg)) ⌝ }
-    ensures { λ r. ⌜ r ≡ fieldsAt kind start (length (now (msg .entry))) ⌝ }
+fn fields_at(kind: Kind, msg: &[u8], start: OctetCount) -> Fields
+    requires { ⌜ (start .0 ≡ startOf kind (now msg)) × (start .0 + 4 ≤ length (now msg)) ⌝ }
+    ensures { λ r. ⌜ r ≡ fieldsAt kind (start .0) (length (now (msg .entry))) ⌝ }
 {
-    let at = start + 4;
+    let at = start.0 + 4;
     let image = part(at, msg.len() - at);
     match kind {
         Kind::Plain => image_alone(image),
@@ -110,7 +111,7 @@ fn fields_at(kind: Kind, msg: &[u8], start: usize) -> Fields
         Kind::Logo => Fields {
             mcc: part(1, 3),
             mnc: part(4, 2),
-            date: part(6, start - 7),
+            date: part(6, start.0 - 7),
             image,
         },
     }
@@ -134,12 +135,13 @@ fn one_of(field: Field, fields: Fields) -> Stretch
 pub fn read(kind: Kind, msg: &[u8]) -> Reading
     ensures { λ r. ⌜ ReadPromise kind (now (msg .entry)) r ⌝ }
 {
-    let start = bitmap_ahead::start(kind, msg).0;
+    let start = bitmap_ahead::start(kind, msg);
     let n = ahead_fault(kind, msg, start);
     if n != 0 {
         return Reading::Refused(n, BitPlace(0));
     }
-    match bitmap::read(&msg[start..]) {
+    let at = start.0;
+    match bitmap::read(&msg[at..]) {
         bitmap::Reading::Refused(number, place) => Reading::Refused(number, place),
         bitmap::Reading::Read {
             width,
@@ -159,7 +161,7 @@ pub fn field_of(kind: Kind, field: Field, msg: &[u8]) -> &[u8]
     ensures { λ r. ⌜ FieldPromise kind field (msg .entry) r ⌝ }
 {
     if judge(kind, msg) == 0 {
-        let start = bitmap_ahead::start(kind, msg).0;
+        let start = bitmap_ahead::start(kind, msg);
         let s = one_of(field, fields_at(kind, msg, start));
         let from = s.start.0;
         let end = from + s.length.0;
