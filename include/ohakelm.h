@@ -1,57 +1,50 @@
 /* Ringing tones, OTA bitmaps, CLI icons and operator logos of Nokia Smart
- * Messaging 1.0.0.
+ * Messaging 1.0.0. The library is written and proved in Rattle.
  *
- * The library is written and proved in Rattle, and links into x86-64 programs
- * (libohakelm.a). It keeps nothing between calls and uses no heap.
+ * WHAT TO LINK. There is an archive, libohakelm.a, for Linux and Android on
+ * x86-64 and for each of them on 64-bit Arm. It needs memmove and memset of the
+ * C library and nothing else. It is position independent.
  *
- * ANSWERS. Each call answers a struct by value. `refusal` is 0 where the call
- * accepted. On a refusal it is the number below, every number but `refusal`
- * and `place` is 0, and nothing lent has changed. `place` is the bit of the
- * tone message where the faulty element begins, counted from 0, for the
- * refusals 2 to 10 met in a tone message. It is 0 for all others. Where a call
- * accepts, what lies beyond the part that it fills is unchanged.
+ * THREADS. Calls share nothing. They keep nothing, use no heap and no lock, and
+ * have no variables of their own, so they may run in as many threads as there
+ * are, and in a signal handler, as long as each has what it lends to itself.
  *
- *    1  an edit's used length beyond its buffer, or a tone above 4,096 octets
- *    2  the input stops inside or before a due element
- *    3  command length not 2 or 3, or not the part due
- *    4  another song type
- *    5  pattern count zero
- *    6  an id not due, or a code not in the instruction table
- *    7  a recall with nothing earlier of that id
- *    8  a filler bit is 1
- *    9  end octet not 00
- *   10  octets after the end
- *   11  a lent output is too small
- *   12  no such pattern or instruction, or a recall
- *   13  deleting a part's only instruction
- *   14  inserting into a part of 255
- *   15  bitmap header outside the rules
- *   16  bitmap image of another length
- *   17  written title above 15 characters, odd octets under UNICODE, or not
- *       empty in a temporary song
- *   18  table shape: a header where an instruction is due or the reverse, a
- *       body cut short, more than 255 patterns
- *   19  a duration above 32 bits
- *   20  an octet ahead of a bitmap that its kind does not have there: version,
- *       network code digit, date, line feed
+ * STACK. A call needs at most this many octets of stack, the C library's
+ * memmove and memset not counted:
  *
- * POINTERS. A pointer is followed by the number of elements behind it. The
- * memory is the caller's, is aligned for its type, and is written by nobody
- * else until the call returns. A pointer to const is only read. What is behind
- * any other pointer is lent: it must overlap nothing else that is passed. Two
- * inputs may overlap each other.
+ *    512  bitmaps, icons and logos; the label
+ *   1024  tones: read, write, list, rows
+ *   6144  replace, insert and delete
  *
- * With the number 0 nothing is read or written through the pointer. Even so,
- * pass one that is not null and is aligned; any object's address will do. The
- * toolchain says that an empty slice of its own may hold a null pointer, but
- * promises nothing for a null pointer that comes from outside.
+ * ANSWERS. Each call but ohakelm_version answers a struct by value. `refusal`
+ * is 0 where the call accepted. On a refusal it is one of the numbers below,
+ * every number but `refusal` and `place` is 0, and nothing lent has changed.
+ * `place` is the bit of the tone message where the faulty element begins,
+ * counted from 0, for the refusals 2 to 10 met in a tone message. It is 0 for
+ * all others. Where a call accepts, what lies beyond the part that it fills is
+ * unchanged.
  *
- * A bool is 0 or 1. Nothing checks any of this at the border: the proofs begin
- * behind it.
+ * Compare answers and rows field by field and not octet by octet: the octets
+ * between their fields mean nothing.
+ *
+ * POINTERS. A pointer is followed by the number of elements behind it, which
+ * are octets only where the type says so. The memory is the caller's, is
+ * aligned for its type, and is written by nobody else until the call returns. A
+ * pointer to const is only read. What is behind any other pointer is lent: it
+ * must overlap nothing else that is passed. Two inputs may overlap each other.
+ *
+ * With the number 0 nothing is read or written through the pointer, and it may
+ * be null.
+ *
+ * A bool is 0 or 1, and C makes no other. Where another language hands over
+ * another octet, its lowest bit decides.
+ *
+ * Nothing checks any of this at the border: the proofs begin behind it.
  *
  * A TABLE ENTRY is kind * 65536 + payload. A header has kind 0 and the payload
  * id * 4096 + loop * 256 + specifier. Instructions have the kinds 1 note, 2
  * scale, 3 style, 4 tempo and 5 volume, and their bits after the id as payload.
+ * Macros put an entry together and take it apart.
  *
  * A LIST has two numbers an entry: note * 1024 + scale * 256 + style * 16 +
  * volume, and the duration in microseconds.
@@ -69,6 +62,11 @@
 #ifndef OHAKELM_H
 #define OHAKELM_H
 
+#if !defined(__linux__) || !defined(__LP64__) ||                               \
+    !(defined(__x86_64__) || defined(__AARCH64EL__))
+#error "libohakelm.a is for Linux and Android on x86-64 and on 64-bit Arm"
+#endif
+
 #include <stdbool.h>
 #include <stddef.h>
 #include <stdint.h>
@@ -77,11 +75,141 @@
 extern "C" {
 #endif
 
+/* ---- The version */
+
+/* While the first number is 0, the second is raised where a call, a struct, a
+ * refusal or a rule is new or another; CHANGELOG.md says what a caller must
+ * change then. The third is raised where none is. A header goes with an archive
+ * of the same first two numbers. */
+#define OHAKELM_VERSION_STRING "0.3.0"
+#define OHAKELM_VERSION 300 /* first * 10000 + second * 100 + third */
+
+/* Answers the OHAKELM_VERSION of the archive that is linked. */
+uint32_t ohakelm_version(void);
+
+/* ---- Refusals */
+
+/* Each refusal: its number, its name and its words. */
+#define OHAKELM_REFUSALS(ITEM)                                                 \
+    ITEM(1, OHAKELM_TOO_LONG,                                                  \
+         "an edit's used length beyond its lent buffer, or a tone above "      \
+         "4,096 octets")                                                       \
+    ITEM(2, OHAKELM_CUT_SHORT,                                                 \
+         "the input stops inside or before a due element")                     \
+    ITEM(3, OHAKELM_COMMAND, "command length not 2 or 3, or not the part due") \
+    ITEM(4, OHAKELM_SONG_TYPE, "another song type")                            \
+    ITEM(5, OHAKELM_NO_PATTERN, "pattern count zero")                          \
+    ITEM(6, OHAKELM_CODE,                                                      \
+         "an id not due, or a code not in the instruction table")              \
+    ITEM(7, OHAKELM_NO_RECALL, "a recall with nothing earlier of that id")     \
+    ITEM(8, OHAKELM_FILLER, "a filler bit is 1")                               \
+    ITEM(9, OHAKELM_END_OCTET, "end octet not 00")                             \
+    ITEM(10, OHAKELM_AFTER_END, "octets after the end")                        \
+    ITEM(11, OHAKELM_NO_ROOM, "a lent output is too small")                    \
+    ITEM(12, OHAKELM_NOT_THERE, "no such pattern or instruction, or a recall") \
+    ITEM(13, OHAKELM_ONLY_ONE, "deleting a part's only instruction")           \
+    ITEM(14, OHAKELM_FULL_PART, "inserting into a part of 255")                \
+    ITEM(15, OHAKELM_BITMAP_HEADER, "bitmap header outside the rules")         \
+    ITEM(16, OHAKELM_IMAGE_LENGTH, "bitmap image of another length")           \
+    ITEM(17, OHAKELM_TITLE,                                                    \
+         "written title above 15 characters, odd octets under UNICODE, or "    \
+         "not empty in a temporary song")                                      \
+    ITEM(18, OHAKELM_TABLE_SHAPE,                                              \
+         "table shape: a header where an instruction is due or the "           \
+         "reverse, a body cut short, more than 255 patterns")                  \
+    ITEM(19, OHAKELM_DURATION, "a duration above 32 bits")                     \
+    ITEM(20, OHAKELM_AHEAD,                                                    \
+         "an octet ahead of a bitmap that its kind does not have there: "      \
+         "version, network code digit, date, line feed")
+
+/* OHAKELM_TOO_LONG is 1, and so on. OHAKELM_DURATION has its place in the order
+ * of refusals, but no duration is that long: it is never given. */
+enum ohakelm_refusal {
+#define OHAKELM_ITEM(number, name, words) name = number,
+    OHAKELM_REFUSALS(OHAKELM_ITEM)
+#undef OHAKELM_ITEM
+    OHAKELM_ACCEPTED = 0
+};
+
+/* What is wrong, in words. They are for a log: match on the number. */
+static inline const char *ohakelm_words(uint32_t refusal)
+{
+    switch (refusal) {
+    case OHAKELM_ACCEPTED:
+        return "accepted";
+#define OHAKELM_ITEM(number, name, words)                                      \
+    case number:                                                               \
+        return words;
+        OHAKELM_REFUSALS(OHAKELM_ITEM)
+#undef OHAKELM_ITEM
+    default:
+        return "no refusal of this version";
+    }
+}
+
+/* ---- What to lend at most */
+
+/* With so much lent no call refuses OHAKELM_NO_ROOM. That is proved, in
+ * crates/ohakelm/proofs/Room.antt. */
+#define OHAKELM_LARGEST_TITLE 30     /* octets: 15 characters of two */
+#define OHAKELM_LARGEST_TABLE 6482   /* table entries */
+#define OHAKELM_LARGEST_TONE 4096    /* octets of a tone message */
+#define OHAKELM_LARGEST_ROWS 975375  /* entries of a list, as records */
+#define OHAKELM_LARGEST_LIST 1950750 /* numbers of a list, two an entry */
+#define OHAKELM_LARGEST_BITMAP 7909  /* octets */
+#define OHAKELM_LARGEST_ICON 7910
+#define OHAKELM_LARGEST_LOGO 7932
+
+/* The largest list is that of a part of 255 notes with 254 recalls, all with
+ * loop 14, and takes 7.8 million octets. Where that is too much to lend, lend
+ * what a tone is to have: OHAKELM_NO_ROOM then says that one has more. */
+
+/* ---- Table entries and list entries */
+
+enum ohakelm_song { OHAKELM_BASIC = 1, OHAKELM_TEMPORARY = 2 };
+
+enum ohakelm_kind {
+    OHAKELM_KIND_HEADER = 0,
+    OHAKELM_KIND_NOTE = 1,
+    OHAKELM_KIND_SCALE = 2,
+    OHAKELM_KIND_STYLE = 3,
+    OHAKELM_KIND_TEMPO = 4,
+    OHAKELM_KIND_VOLUME = 5
+};
+
+/* An entry put together, of codes that are not negative. An id is 0 for A to 3
+ * for D, a specifier the number of instructions that follow or 0 for a recall.
+ * These are constant where the codes are. */
+#define OHAKELM_HEADER(id, loop, specifier)                                    \
+    ((id) * 4096u + (loop) * 256u + (specifier))
+#define OHAKELM_NOTE(note, duration, specifier)                                \
+    (1u * 65536u + (note) * 32u + (duration) * 4u + (specifier))
+#define OHAKELM_SCALE(code) (2u * 65536u + (code))
+#define OHAKELM_STYLE(code) (3u * 65536u + (code))
+#define OHAKELM_TEMPO(code) (4u * 65536u + (code))
+#define OHAKELM_VOLUME(code) (5u * 65536u + (code))
+
+/* An entry taken apart. The payload of a scale, a style, a tempo or a volume is
+ * its code. */
+#define OHAKELM_KIND(entry) ((entry) / 65536u)
+#define OHAKELM_PAYLOAD(entry) ((entry) % 65536u)
+#define OHAKELM_HEADER_ID(header) ((header) / 4096u % 4u)
+#define OHAKELM_HEADER_LOOP(header) ((header) / 256u % 16u)
+#define OHAKELM_HEADER_SPECIFIER(header) ((header) % 256u)
+#define OHAKELM_NOTE_VALUE(note) ((note) / 32u % 16u)
+#define OHAKELM_NOTE_DURATION(note) ((note) / 4u % 8u)
+#define OHAKELM_NOTE_SPECIFIER(note) ((note) % 4u)
+
+/* The first number of a list's entry taken apart. */
+#define OHAKELM_LISTED_NOTE(first) ((first) / 1024u)
+#define OHAKELM_LISTED_SCALE(first) ((first) / 256u % 4u)
+#define OHAKELM_LISTED_STYLE(first) ((first) / 16u % 16u)
+#define OHAKELM_LISTED_VOLUME(first) ((first) % 16u)
+
 /* A list that returns nowhere has this mark. */
 #define OHAKELM_NO_MARK 4294967295u
 
-/* A tone message has at most this many octets. */
-#define OHAKELM_LARGEST_TONE 4096
+/* ---- Answers */
 
 struct ohakelm_tone {
     uint32_t refusal;
@@ -157,6 +285,8 @@ struct ohakelm_entry {
     uint32_t microseconds;
 };
 
+/* ---- Tones */
+
 /* Reads a tone message. Fills the front of `table` with its entries and the
  * front of `title` with its title's octets. Answers the song type, whether
  * UNICODE is set, and how many title characters, patterns and table entries
@@ -182,24 +312,30 @@ struct ohakelm_label_stretch ohakelm_label(const uint8_t *title,
                                            size_t stand_in_len);
 
 /* Makes the playing list of a tone message. Fills the front of `list`, two
- * numbers an entry. Answers how many entries there are and where an endless
- * part returns to. Refuses 1 to 10, 19 and 11. */
+ * numbers an entry. `list_len` counts numbers and not entries: twelve have room
+ * for six entries. Answers how many entries there are and where an endless part
+ * returns to. Refuses 1 to 10, 19 and 11. */
 struct ohakelm_listed ohakelm_list(const uint8_t *msg, size_t msg_len,
                                    uint32_t *list, size_t list_len);
 
 /* The same list in both forms. Fills the front of `list` and the front of
- * `rows`, one record an entry. Refuses 11 if either is too small. */
+ * `rows`, one record an entry. `list_len` counts numbers, `rows_len` records.
+ * Refuses 11 if either is too small. */
 struct ohakelm_listed ohakelm_rows(const uint8_t *msg, size_t msg_len,
                                    uint32_t *list, size_t list_len,
                                    struct ohakelm_entry *rows,
                                    size_t rows_len);
 
+/* ---- Edits */
+
 /* Puts another instruction in an instruction's place. `buf` holds a message in
  * its first `used` octets. `pattern` and `instruction` are positions from 0,
  * and `entry` is the new instruction as a table entry. Changes the message in
  * `buf`, clears octets from the new length up to the old one, and fills the
- * front of `list` with the new list. Answers the new length, the list's
- * entries and mark, and the change in octets. Refuses 1 to 12 and 19. */
+ * front of `list` with the new list. `buf_len` is the whole buffer's, so that
+ * the message can grow; `list_len` counts numbers and not entries. Answers the
+ * new length, the list's entries and mark, and the change in octets. Refuses 1
+ * to 12 and 19. */
 struct ohakelm_edited ohakelm_replace(uint8_t *buf, size_t buf_len, size_t used,
                                       size_t pattern, size_t instruction,
                                       uint32_t entry, uint32_t *list,
@@ -217,6 +353,8 @@ struct ohakelm_edited ohakelm_insert(uint8_t *buf, size_t buf_len, size_t used,
 struct ohakelm_edited ohakelm_delete(uint8_t *buf, size_t buf_len, size_t used,
                                      size_t pattern, size_t instruction,
                                      uint32_t *list, size_t list_len);
+
+/* ---- Bitmaps, icons and logos */
 
 /* Reads a bitmap. Changes nothing. Answers its sizes, its black pixels and the
  * stretch of the message that is the image. Refuses 2, 15 and 16, all at place

@@ -1,7 +1,5 @@
 //! The safe functions of the package, as a caller uses them.
 
-#![cfg(linked)]
-
 use ohakelm::{Edit, Edited, Entry, Playing, Refusal, Tone};
 
 const P1: [u8; 10] = [0x02, 0x4A, 0x3A, 0x80, 0x40, 0x00, 0x51, 0xC6, 0x90, 0x00];

@@ -13,7 +13,11 @@ use Rattle.ohakelm.specs.declared.WrittenAnswer.{WrittenAnswer}
 use Rattle.ohakelm.specs.declared.LabelAnswer.{LabelAnswer}
 use Rattle.ohakelm.specs.declared.ListAnswer.{ListAnswer}
 use Rattle.ohakelm.specs.declared.EditAnswer.{EditAnswer}
-use Rattle.ohakelm.specs.Promise.{ReadExport, WriteExport, LabelExport, ListExport, RowsExport, EditExport, BitmapReadExport, BitmapWriteExport, KindWriteExport}
+use Rattle.ohakelm.specs.Promise.{VersionExport, ReadExport, WriteExport, LabelExport, ListExport, RowsExport, EditExport, BitmapReadExport, BitmapWriteExport, KindWriteExport}
+
+-- `ohakelm_version`: the answer
+pub version-decided : (r s : ℕ) → VersionExport r → VersionExport s → r ≡ s
+version-decided r s p q = p .answer ∙ sym (q .answer)
 
 -- `ohakelm_read`: the answer, the table and the title
 pub read-decided : (m table title table₁ title₁ table₂ title₂ : List ℕ) (r s : ToneAnswer)

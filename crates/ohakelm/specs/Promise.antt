@@ -1,5 +1,5 @@
 -- What each export promises: its answer holds the numbers of document 01, and every lent cell is as the rules say.
-use Prim.Native.Nat.{ℕ}
+use Prim.Native.Nat.{ℕ, _+_, _*_}
 use mathlib.Core.Path.{_≡_}
 use mathlib.Core.Bool.{Bool}
 use mathlib.Core.List.{List}
@@ -28,6 +28,16 @@ use Rattle.ohakelm.specs.declared.WrittenAnswer.{WrittenAnswer}
 use Rattle.ohakelm.specs.declared.LabelAnswer.{LabelAnswer}
 use Rattle.ohakelm.specs.declared.ListAnswer.{ListAnswer}
 use Rattle.ohakelm.specs.declared.EditAnswer.{EditAnswer}
+
+-- ---- the version
+
+-- a version is first × 10,000 + second × 100 + third; this one is 0.3.0
+abbrev pub version : ℕ
+version = 0 * 10000 + 3 * 100 + 0
+
+-- `ohakelm_version`: the version
+pub record VersionExport (r : ℕ) : Type 0 where
+  pub answer : r ≡ version
 
 -- ---- reading a tone
 

@@ -7,7 +7,7 @@ ghost use Rattle.bitmap.specs.Promises.{numbersOfWriting as bitmapNumbers};
 ghost use Rattle.bitmap_ahead.specs.declared.Kind.the-variants.{Icon, Logo};
 ghost use Rattle.bitmap_ahead.specs.Ahead.{said, nothing};
 ghost use Rattle.bitmap_answers.specs.Promise.{IconReadExport, LogoReadExport};
-ghost use Rattle.ohakelm.specs.Promise.{ReadExport, WriteExport, LabelExport, ListExport, RowsExport, EditExport, BitmapReadExport, BitmapWriteExport, KindWriteExport, listedAs, editedAs, bitmapWrittenAs};
+ghost use Rattle.ohakelm.specs.Promise.{VersionExport, ReadExport, WriteExport, LabelExport, ListExport, RowsExport, EditExport, BitmapReadExport, BitmapWriteExport, KindWriteExport, listedAs, editedAs, bitmapWrittenAs};
 use bitmap_ahead::Kind;
 use bitmap_answers::BitmapAnswer;
 use bitmap_answers::LogoAnswer;
@@ -68,6 +68,16 @@ pub struct EditAnswer {
     pub entries: usize,
     pub mark: u32,
     pub change: i32,
+}
+
+// ---- the version
+
+// The version of the library, 0.3.0.
+#[no_mangle]
+pub extern "C" fn ohakelm_version() -> u32
+    ensures { λ r. ⌜ VersionExport r ⌝ }
+{
+    300
 }
 
 // ---- tones

@@ -1,6 +1,5 @@
 //! The implementations under one roof. Each answers in the same form.
 
-#[cfg(linked)]
 use ohakelm::numbers;
 use ohakelm_answers::{Bitmap, Edited, Entry, Label, Listed, Logo, Tone, Written};
 
@@ -53,12 +52,8 @@ pub trait Codec {
     fn logo_write(&self, parts: LogoParts, out: &mut [u8]) -> Written;
 }
 
-/// Those that are compared. The obvious one comes first. Where the proved
-/// library cannot be linked, the two plain ones are left.
-#[cfg(linked)]
+/// Those that are compared. The obvious one comes first.
 pub const ALL: [&dyn Codec; 3] = [&Obvious, &Optimised, &Proved];
-#[cfg(not(linked))]
-pub const ALL: [&dyn Codec; 2] = [&Obvious, &Optimised];
 
 /// Puts a test to each of them.
 pub fn each(test: impl Fn(&dyn Codec)) {
@@ -167,5 +162,4 @@ macro_rules! codec {
 
 codec!(Obvious, "obvious", ohakelm_reference);
 codec!(Optimised, "optimised", ohakelm_fast);
-#[cfg(linked)]
 codec!(Proved, "proved", numbers);
