@@ -9,12 +9,7 @@
  * have no variables of their own, so they may run in as many threads as there
  * are, and in a signal handler, as long as each has what it lends to itself.
  *
- * STACK. A call needs at most this many octets of stack, the C library's
- * memmove and memset not counted:
- *
- *    512  bitmaps, icons and logos; the label
- *   1024  tones: read, write, list, rows
- *   6144  replace, insert and delete
+ * STACK. The constants OHAKELM_STACK_.. say how much a call needs.
  *
  * ANSWERS. Each call but ohakelm_version answers a struct by value. `refusal`
  * is 0 where the call accepted. On a refusal it is one of the numbers below,
@@ -163,6 +158,12 @@ static inline const char *ohakelm_words(uint32_t refusal)
 /* The largest list is that of a part of 255 notes with 254 recalls, all with
  * loop 14, and takes 7.8 million octets. Where that is too much to lend, lend
  * what a tone is to have: OHAKELM_NO_ROOM then says that one has more. */
+
+/* How many octets of stack a call needs at most, those of memmove and memset not
+ * counted: the edits; reading, writing and listing a tone; all others. */
+#define OHAKELM_STACK_EDITS 6144
+#define OHAKELM_STACK_TONES 1024
+#define OHAKELM_STACK_OTHERS 512
 
 /* ---- Table entries and list entries */
 
