@@ -1,6 +1,6 @@
 //! Links the proved static library.
 //!
-//! `link/arm` and, for x86-64 alone, `rt staticlib ohakelm` write it below
+//! `link/archives` and, for x86-64 alone, `rt staticlib ohakelm` write it below
 //! `../target`. The variable `OHAKELM_LIB_DIR` names another folder.
 
 use std::env;
@@ -14,7 +14,7 @@ fn main() {
     println!("cargo:rerun-if-changed={}", archive.display());
     if !archive.is_file() {
         eprintln!("There is no library at {}.", archive.display());
-        eprintln!("Make it with `link/arm` in the repository's root, on x86-64 also");
+        eprintln!("Make it with `link/archives` in the repository's root, on x86-64 also");
         eprintln!("with `rt staticlib ohakelm`, or set OHAKELM_LIB_DIR to the folder");
         eprintln!("that holds libohakelm.a.");
         exit(1);
