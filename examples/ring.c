@@ -1,16 +1,13 @@
 /* Lists a ringing tone, inserts an instruction, and lists it again.
  *
- *   rt staticlib ohakelm
- *   cc -O2 -Iinclude examples/ring.c target/staticlib/libohakelm.a -o target/ring
+ *   link/install /usr/local
+ *   cc -O2 examples/ring.c $(pkg-config --cflags --libs ohakelm) -o target/ring
  */
 #include <stdio.h>
 
 #include "ohakelm.h"
 
 #define ROOM 16 /* octets of the buffer, and entries of the list */
-
-/* Scale 0, as a table entry. */
-#define SCALE_0 (2 * 65536 + 0)
 
 static void print_message(const uint8_t *msg, size_t octets)
 {
@@ -28,14 +25,15 @@ static void print_list(const uint32_t *list, size_t entries, uint32_t mark)
         printf("%u\n", mark);
     for (size_t i = 0; i < entries; i++) {
         uint32_t first = list[2 * i];
-        printf("%u %u %u %u %u\n", first / 1024, first / 256 % 4,
-               first / 16 % 16, first % 16, list[2 * i + 1]);
+        printf("%u %u %u %u %u\n", OHAKELM_LISTED_NOTE(first),
+               OHAKELM_LISTED_SCALE(first), OHAKELM_LISTED_STYLE(first),
+               OHAKELM_LISTED_VOLUME(first), list[2 * i + 1]);
     }
 }
 
 static int refused(uint32_t number, size_t place)
 {
-    printf("refused %u at %zu\n", number, place);
+    printf("refused %u at %zu: %s\n", number, place, ohakelm_words(number));
     return 1;
 }
 
@@ -46,16 +44,22 @@ int main(void)
     size_t used = 10;
     uint32_t list[2 * ROOM];
 
+    /* A header goes with an archive of the same first two numbers. */
+    if (ohakelm_version() / 100 != OHAKELM_VERSION / 100) {
+        printf("the archive has version %u\n", ohakelm_version());
+        return 1;
+    }
+
     struct ohakelm_listed made = ohakelm_list(buf, used, list, 2 * ROOM);
-    if (made.refusal != 0)
+    if (made.refusal != OHAKELM_ACCEPTED)
         return refused(made.refusal, made.place);
     print_message(buf, used);
     print_list(list, made.entries, made.mark);
 
     /* Pattern 0 is the part, and its instruction 1 is the note. */
     struct ohakelm_edited done =
-        ohakelm_insert(buf, ROOM, used, 0, 1, SCALE_0, list, 2 * ROOM);
-    if (done.refusal != 0)
+        ohakelm_insert(buf, ROOM, used, 0, 1, OHAKELM_SCALE(0), list, 2 * ROOM);
+    if (done.refusal != OHAKELM_ACCEPTED)
         return refused(done.refusal, done.place);
     print_message(buf, done.length);
     print_list(list, done.entries, done.mark);

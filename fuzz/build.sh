@@ -1,10 +1,20 @@
 #!/bin/sh
 # Builds target/fuzz/ohakelm_fuzz, in the repository's root. It needs clang with
-# libFuzzer (Debian: clang, libclang-rt-dev), cargo, and the library itself
-# (rt staticlib ohakelm). OHAKELM_LIB_DIR names another folder for the library.
+# libFuzzer (Debian: clang, libclang-rt-dev), cargo, and the archive of this
+# machine's processor: target/aarch64 on 64-bit Arm, else target/staticlib. Both
+# are made by link/arm, the second also by `rt staticlib ohakelm`.
+# OHAKELM_LIB_DIR names another folder for the archive.
 set -eu
 cd "$(dirname "$0")/.."
-library=${OHAKELM_LIB_DIR:-target/staticlib}/libohakelm.a
+case $(uname -m) in
+aarch64) folder=target/aarch64 ;;
+*) folder=target/staticlib ;;
+esac
+library=${OHAKELM_LIB_DIR:-$folder}/libohakelm.a
+if [ ! -f "$library" ]; then
+    echo "There is no $library yet." >&2
+    exit 1
+fi
 mkdir -p target/fuzz/corpus
 
 # The counters that libFuzzer reads, and the comparisons that it follows.

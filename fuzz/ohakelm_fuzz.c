@@ -1,4 +1,5 @@
-/* A fuzz target over every export of the library, for libFuzzer.
+/* A fuzz target over every export of the library that is lent anything, for
+ * libFuzzer.
  *
  * docs/FUZZING.md says how to build and run it.
  *
@@ -15,8 +16,9 @@
  * be touched, and guard cells stand ahead of them, so a read or a write past
  * the end ends the run.
  *
- * Input. One octet names the call, some more are its numbers, and the rest is
- * the message, title or image. */
+ * Input. One octet names the call and whether a buffer of nothing is passed as
+ * null to the library, some more are the call's numbers, and the rest is the
+ * message, title or image. */
 #define _DEFAULT_SOURCE
 #include <stdio.h>
 #include <stdlib.h>
@@ -122,6 +124,16 @@ struct lent {
 };
 
 static struct lent first, second, third, fourth, fifth;
+
+/* Whether the library gets null for a buffer of nothing. The guide never does:
+ * Rust has no null slice. */
+static bool null_for_nothing;
+
+/* What the library is given. */
+static uint8_t *given(const struct lent *lent)
+{
+    return null_for_nothing && lent->octets == 0 ? NULL : lent->ours;
+}
 
 static void map(struct lent *lent)
 {
@@ -246,8 +258,8 @@ static void fuzz_read(struct input *in)
     size_t count = take_rest(in);
     lend(&second, 4 * table_room, NULL, 0);
     lend(&third, title_room, NULL, 0);
-    struct ohakelm_tone tone = ohakelm_read(first.ours, count, words(second.ours), table_room,
-                                            third.ours, title_room);
+    struct ohakelm_tone tone = ohakelm_read(given(&first), count, words(given(&second)),
+                                            table_room, given(&third), title_room);
     struct ohakelm_tone other = guide_read(first.theirs, count, words(second.theirs), table_room,
                                            third.theirs, title_room);
     check(same_tone(tone, other), "both read alike");
@@ -296,8 +308,9 @@ static void fuzz_write(struct input *in)
     lend(&first, title_len, title, title_len);
     lend(&second, 4 * entries, (const uint8_t *)table, 4 * entries);
     lend(&third, room, NULL, 0);
-    struct ohakelm_written done = ohakelm_write(song, unicode, first.ours, title_len,
-                                                words(second.ours), entries, third.ours, room);
+    struct ohakelm_written done =
+        ohakelm_write(song, unicode, given(&first), title_len, words(given(&second)), entries,
+                      given(&third), room);
     struct ohakelm_written other = guide_write(song, unicode, first.theirs, title_len,
                                                words(second.theirs), entries, third.theirs, room);
     check(same_written(done, other), "both write alike");
@@ -319,7 +332,7 @@ static void fuzz_label(struct input *in)
     lend(&first, title, in->at, title);
     lend(&second, count - title, in->at + title, count - title);
     struct ohakelm_label_stretch label =
-        ohakelm_label(first.ours, title, unicode, second.ours, count - title);
+        ohakelm_label(given(&first), title, unicode, given(&second), count - title);
     struct ohakelm_label_stretch other =
         guide_label(first.theirs, title, unicode, second.theirs, count - title);
     check(same_label(label, other), "both label alike");
@@ -332,7 +345,7 @@ static void fuzz_list(struct input *in)
     size_t room = take_room(in, AMPLE_LIST);
     size_t count = take_rest(in);
     lend(&second, 4 * room, NULL, 0);
-    struct ohakelm_listed made = ohakelm_list(first.ours, count, words(second.ours), room);
+    struct ohakelm_listed made = ohakelm_list(given(&first), count, words(given(&second)), room);
     struct ohakelm_listed other = guide_list(first.theirs, count, words(second.theirs), room);
     check(same_listed(made, other), "both list alike");
     check_lent(&first);
@@ -348,9 +361,9 @@ static void fuzz_rows(struct input *in)
     size_t count = take_rest(in);
     lend(&second, 4 * list_room, NULL, 0);
     lend(&third, sizeof(struct ohakelm_entry) * rows_room, NULL, 0);
-    struct ohakelm_entry *rows = (struct ohakelm_entry *)(void *)third.ours;
+    struct ohakelm_entry *rows = (struct ohakelm_entry *)(void *)given(&third);
     struct ohakelm_listed made =
-        ohakelm_rows(first.ours, count, words(second.ours), list_room, rows, rows_room);
+        ohakelm_rows(given(&first), count, words(given(&second)), list_room, rows, rows_room);
     struct ohakelm_listed other =
         guide_rows(first.theirs, count, words(second.theirs), list_room,
                    (struct ohakelm_entry *)(void *)third.theirs, rows_room);
@@ -405,20 +418,19 @@ static void fuzz_edit(struct input *in, unsigned kind)
     size_t room = more == 7 ? used / 2 : used + more;
     lend(&first, room, in->at, used);
     lend(&second, 4 * list_room, NULL, 0);
-    uint32_t *list = words(second.ours), *their_list = words(second.theirs);
+    uint8_t *buf = given(&first);
+    uint32_t *list = words(given(&second)), *their_list = words(second.theirs);
     struct ohakelm_edited done, other;
     if (kind == 0) {
-        done = ohakelm_replace(first.ours, room, used, pattern, instruction, entry, list,
-                               list_room);
+        done = ohakelm_replace(buf, room, used, pattern, instruction, entry, list, list_room);
         other = guide_replace(first.theirs, room, used, pattern, instruction, entry, their_list,
                               list_room);
     } else if (kind == 1) {
-        done =
-            ohakelm_insert(first.ours, room, used, pattern, instruction, entry, list, list_room);
+        done = ohakelm_insert(buf, room, used, pattern, instruction, entry, list, list_room);
         other = guide_insert(first.theirs, room, used, pattern, instruction, entry, their_list,
                              list_room);
     } else {
-        done = ohakelm_delete(first.ours, room, used, pattern, instruction, list, list_room);
+        done = ohakelm_delete(buf, room, used, pattern, instruction, list, list_room);
         other =
             guide_delete(first.theirs, room, used, pattern, instruction, their_list, list_room);
     }
@@ -439,7 +451,7 @@ static void fuzz_bitmap_read(struct input *in)
 {
     static uint8_t out[8192];
     size_t count = take_rest(in);
-    struct ohakelm_bitmap bitmap = ohakelm_bitmap_read(first.ours, count);
+    struct ohakelm_bitmap bitmap = ohakelm_bitmap_read(given(&first), count);
     struct ohakelm_bitmap other = guide_bitmap_read(first.theirs, count);
     check(same_bitmap(bitmap, other), "both read bitmaps alike");
     check_lent(&first);
@@ -460,7 +472,7 @@ static void fuzz_bitmap_write(struct input *in)
     size_t count = take_rest(in);
     lend(&second, room, NULL, 0);
     struct ohakelm_written done =
-        ohakelm_bitmap_write(width, height, first.ours, count, second.ours, room);
+        ohakelm_bitmap_write(width, height, given(&first), count, given(&second), room);
     struct ohakelm_written other =
         guide_bitmap_write(width, height, first.theirs, count, second.theirs, room);
     check(same_written(done, other), "both write bitmaps alike");
@@ -474,7 +486,7 @@ static void fuzz_icon_read(struct input *in)
 {
     static uint8_t out[8192];
     size_t count = take_rest(in);
-    struct ohakelm_bitmap icon = ohakelm_icon_read(first.ours, count);
+    struct ohakelm_bitmap icon = ohakelm_icon_read(given(&first), count);
     struct ohakelm_bitmap other = guide_icon_read(first.theirs, count);
     check(same_bitmap(icon, other), "both read icons alike");
     check_lent(&first);
@@ -497,7 +509,7 @@ static void fuzz_icon_write(struct input *in)
     size_t count = take_rest(in);
     lend(&second, room, NULL, 0);
     struct ohakelm_written done =
-        ohakelm_icon_write(width, height, first.ours, count, second.ours, room);
+        ohakelm_icon_write(width, height, given(&first), count, given(&second), room);
     struct ohakelm_written other =
         guide_icon_write(width, height, first.theirs, count, second.theirs, room);
     check(same_written(done, other), "both write icons alike");
@@ -519,7 +531,7 @@ static void fuzz_logo_read(struct input *in)
     static uint8_t out[8192];
     size_t count = take_rest(in);
     const uint8_t *msg = first.ours;
-    struct ohakelm_logo logo = ohakelm_logo_read(msg, count);
+    struct ohakelm_logo logo = ohakelm_logo_read(given(&first), count);
     struct ohakelm_logo other = guide_logo_read(first.theirs, count);
     check(same_logo(logo, other), "both read logos alike");
     check_lent(&first);
@@ -565,8 +577,8 @@ static void fuzz_logo_write(struct input *in)
     size_t count = take_rest(in);
     lend(&second, room, NULL, 0);
     struct ohakelm_written done =
-        ohakelm_logo_write(third.ours, mcc, fourth.ours, mnc, fifth.ours, date, width, height,
-                           first.ours, count, second.ours, room);
+        ohakelm_logo_write(given(&third), mcc, given(&fourth), mnc, given(&fifth), date, width,
+                           height, given(&first), count, given(&second), room);
     struct ohakelm_written other =
         guide_logo_write(third.theirs, mcc, fourth.theirs, mnc, fifth.theirs, date, width, height,
                          first.theirs, count, second.theirs, room);
@@ -587,7 +599,9 @@ int LLVMFuzzerTestOneInput(const uint8_t *data, size_t size);
 int LLVMFuzzerTestOneInput(const uint8_t *data, size_t size)
 {
     struct input in = {data, size};
-    switch (take(&in, 1) % 14) {
+    uint32_t number = take(&in, 1);
+    null_for_nothing = number / 14 % 2 == 1;
+    switch (number % 14) {
     case 0: fuzz_read(&in); break;
     case 1: fuzz_write(&in); break;
     case 2: fuzz_label(&in); break;

@@ -4,6 +4,8 @@
 // Each test takes what it needs of this.
 #![allow(dead_code)]
 
+pub mod calls;
+pub mod cases;
 pub mod codecs;
 pub mod compare;
 pub mod inputs;

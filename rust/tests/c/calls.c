@@ -1,0 +1,116 @@
+/* Every call from C, on samples of the rules. */
+#include "check.h"
+
+/* A temporary song with one part: tempo code 14, then A, a quarter. */
+static const uint8_t sample[10] = {0x02, 0x4A, 0x3A, 0x80, 0x40, 0x00, 0x51, 0xC6, 0x90, 0x00};
+
+static void check_tones(void)
+{
+    uint32_t table[3] = {0}, list[2] = {0};
+    uint8_t out[10] = {0};
+    struct ohakelm_tone tone = ohakelm_read(sample, 10, table, 3, NULL, 0);
+    CHECK(tone.refusal == OHAKELM_ACCEPTED && tone.place == 0 && tone.song == OHAKELM_TEMPORARY);
+    CHECK(!tone.unicode && tone.characters == 0 && tone.patterns == 1 && tone.entries == 3);
+    CHECK(table[0] == 2 && table[1] == 262158 && table[2] == 65864);
+    tone = ohakelm_read(sample, 9, table, 3, NULL, 0);
+    CHECK(tone.refusal == OHAKELM_CUT_SHORT && tone.place == 72 && tone.entries == 0);
+    struct ohakelm_written done = ohakelm_write(2, false, NULL, 0, table, 3, out, 10);
+    CHECK(done.refusal == OHAKELM_ACCEPTED && done.octets == 10 && memcmp(out, sample, 10) == 0);
+    struct ohakelm_listed made = ohakelm_list(sample, 10, list, 2);
+    CHECK(made.refusal == OHAKELM_ACCEPTED && made.entries == 1 && made.mark == OHAKELM_NO_MARK);
+    CHECK(list[0] == 10503 && list[1] == 480000);
+}
+
+static void check_rows(void)
+{
+    uint32_t list[2] = {0};
+    struct ohakelm_entry row = {0, 0, 0, 0, 0};
+    struct ohakelm_listed made = ohakelm_rows(sample, 10, list, 2, &row, 1);
+    CHECK(made.refusal == OHAKELM_ACCEPTED && made.entries == 1 && made.mark == OHAKELM_NO_MARK);
+    CHECK(list[0] == 10503 && list[1] == 480000);
+    CHECK(row.note == 10 && row.scale == 1 && row.style == 0 && row.volume == 7);
+    CHECK(row.microseconds == 480000);
+}
+
+static void check_label(void)
+{
+    static const uint8_t title[3] = {'A', ' ', ' '}, stand_in[2] = {'B', 'C'};
+    struct ohakelm_label_stretch label = ohakelm_label(title, 3, false, stand_in, 2);
+    CHECK(!label.stand_in && label.start == 0 && label.length == 1);
+    label = ohakelm_label(title, 3, true, stand_in, 2);
+    CHECK(label.stand_in && label.start == 0 && label.length == 2);
+}
+
+/* Scale 0 is inserted, scale 1 takes its place, and both it and the tempo go. */
+static void check_edits(void)
+{
+    static const uint8_t inserted[5] = {0x71, 0xC8, 0x34, 0x80, 0x00};
+    static const uint8_t shortened[3] = {0x26, 0x90, 0x00};
+    uint8_t buf[11];
+    uint32_t list[2] = {0};
+    memcpy(buf, sample, 10);
+    struct ohakelm_edited done =
+        ohakelm_insert(buf, 11, 10, 0, 1, OHAKELM_SCALE(0), list, 2);
+    CHECK(done.refusal == OHAKELM_ACCEPTED && done.length == 11 && done.change == 1);
+    CHECK(memcmp(buf + 6, inserted, 5) == 0 && list[0] == 10247 && list[1] == 480000);
+    done = ohakelm_replace(buf, 11, 11, 0, 1, OHAKELM_SCALE(1), list, 2);
+    CHECK(done.refusal == OHAKELM_ACCEPTED && done.length == 11 && done.change == 0);
+    CHECK(done.entries == 1 && done.mark == OHAKELM_NO_MARK && list[0] == 10503);
+    done = ohakelm_delete(buf, 11, 11, 0, 1, list, 2);
+    CHECK(done.refusal == OHAKELM_ACCEPTED && done.length == 10 && done.change == -1);
+    CHECK(memcmp(buf, sample, 10) == 0 && buf[10] == 0);
+    done = ohakelm_delete(buf, 11, 10, 0, 0, list, 2);
+    CHECK(done.refusal == OHAKELM_ACCEPTED && done.length == 9 && done.change == -1);
+    CHECK(memcmp(buf + 6, shortened, 3) == 0 && list[1] == 952380);
+    done = ohakelm_delete(buf, 11, 9, 0, 0, list, 2);
+    CHECK(done.refusal == OHAKELM_ONLY_ONE && done.place == 0 && done.length == 0);
+}
+
+static void check_bitmaps(void)
+{
+    static const uint8_t icon[7] = {'0', 0x00, 0x08, 0x02, 0x01, 0xFF, 0x01};
+    uint8_t out[7] = {0};
+    struct ohakelm_bitmap bitmap = ohakelm_bitmap_read(icon + 1, 6);
+    CHECK(bitmap.refusal == OHAKELM_ACCEPTED && bitmap.width == 8 && bitmap.height == 2);
+    CHECK(bitmap.black == 9 && bitmap.start == 4 && bitmap.length == 2);
+    CHECK(ohakelm_bitmap_read(icon + 1, 5).refusal == OHAKELM_IMAGE_LENGTH);
+    struct ohakelm_written done = ohakelm_bitmap_write(8, 2, icon + 5, 2, out, 7);
+    CHECK(done.refusal == OHAKELM_ACCEPTED && done.octets == 6 && memcmp(out, icon + 1, 6) == 0);
+    bitmap = ohakelm_icon_read(icon, 7);
+    CHECK(bitmap.refusal == OHAKELM_ACCEPTED && bitmap.width == 8 && bitmap.height == 2);
+    CHECK(bitmap.black == 9 && bitmap.start == 5 && bitmap.length == 2);
+    done = ohakelm_icon_write(8, 2, icon + 5, 2, out, 7);
+    CHECK(done.refusal == OHAKELM_ACCEPTED && done.octets == 7 && memcmp(out, icon, 7) == 0);
+}
+
+static void check_logos(void)
+{
+    static const uint8_t message[21] = {0x30, 0x32, 0x34, 0x34, 0x30, 0x35, 0x31,
+                                        0x39, 0x39, 0x39, 0x31, 0x32, 0x33, 0x31,
+                                        0x0A, 0x00, 0x08, 0x02, 0x01, 0xFF, 0x01};
+    uint8_t out[21] = {0};
+    struct ohakelm_logo logo = ohakelm_logo_read(message, 21);
+    CHECK(logo.refusal == OHAKELM_ACCEPTED && logo.width == 8 && logo.height == 2);
+    CHECK(logo.black == 9 && logo.start == 19 && logo.length == 2);
+    CHECK(logo.mcc_start == 1 && logo.mcc_length == 3 && logo.mnc_start == 4);
+    CHECK(logo.mnc_length == 2 && logo.date_start == 6 && logo.date_length == 8);
+    struct ohakelm_written done = ohakelm_logo_write(message + 1, 3, message + 4, 2, message + 6, 8,
+                                                     8, 2, message + 19, 2, out, 21);
+    CHECK(done.refusal == OHAKELM_ACCEPTED && done.octets == 21);
+    CHECK(memcmp(out, message, 21) == 0);
+    done = ohakelm_logo_write(message + 1, 3, message + 4, 3, message + 6, 8, 8, 2, message + 19,
+                              2, out, 21);
+    CHECK(done.refusal == OHAKELM_AHEAD && done.place == 0 && done.octets == 0);
+}
+
+int main(void)
+{
+    check_tones();
+    check_rows();
+    check_label();
+    check_edits();
+    check_bitmaps();
+    check_logos();
+    CHECK(ohakelm_version() == OHAKELM_VERSION);
+    return failed;
+}

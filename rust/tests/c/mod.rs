@@ -1,0 +1,149 @@
+//! What the tests of the C side share: the two compilers, a folder for what
+//! they make, and the repository's own files.
+
+use std::env;
+use std::fs;
+use std::path::{Path, PathBuf};
+use std::process::{self, Command, Output};
+
+/// A folder of its own, which goes with its owner.
+pub struct Folder(PathBuf);
+
+impl Folder {
+    /// Each test has another name, and each run another process.
+    pub fn new(name: &str) -> Folder {
+        let path = env::temp_dir().join(format!("ohakelm-{name}-{}", process::id()));
+        let _ = fs::remove_dir_all(&path);
+        if let Err(error) = fs::create_dir_all(&path) {
+            panic!("{} cannot be made: {error}", path.display());
+        }
+        Folder(path)
+    }
+
+    pub fn path(&self) -> &Path {
+        &self.0
+    }
+
+    pub fn file(&self, name: &str) -> PathBuf {
+        self.0.join(name)
+    }
+}
+
+impl Drop for Folder {
+    fn drop(&mut self) {
+        let _ = fs::remove_dir_all(&self.0);
+    }
+}
+
+/// A file or a folder of the repository.
+pub fn root(name: &str) -> PathBuf {
+    Path::new(env!("CARGO_MANIFEST_DIR")).join("..").join(name)
+}
+
+/// A C source of these tests.
+pub fn source(name: &str) -> PathBuf {
+    root("rust/tests/c").join(name)
+}
+
+pub fn text(path: &Path) -> String {
+    match fs::read_to_string(path) {
+        Ok(text) => text,
+        Err(error) => panic!("{} cannot be read: {error}", path.display()),
+    }
+}
+
+/// The archive that the tests are linked with, as the build script finds it.
+pub fn own_archive() -> PathBuf {
+    let folder = match env::var_os("OHAKELM_LIB_DIR") {
+        Some(folder) => root("rust").join(folder),
+        None if cfg!(target_arch = "x86_64") => root("target/staticlib"),
+        None if cfg!(target_os = "android") => root("target/aarch64-android"),
+        None => root("target/aarch64"),
+    };
+    folder.join("libohakelm.a")
+}
+
+#[derive(Clone, Copy, Debug)]
+pub enum Language {
+    C,
+    Cpp,
+}
+
+pub const BOTH: [Language; 2] = [Language::C, Language::Cpp];
+
+const WARNINGS: [&str; 11] = [
+    "-Werror",
+    "-Wall",
+    "-Wextra",
+    "-pedantic",
+    "-Wconversion",
+    "-Wsign-conversion",
+    "-Wshadow",
+    "-Wcast-qual",
+    "-Wundef",
+    "-Wmissing-declarations",
+    // Clang does not know all that gcc warns of, and says so otherwise.
+    "-Wno-unknown-warning-option",
+];
+
+impl Language {
+    /// `cc` or `c++`, or what the variable `CC` or `CXX` names, which may be a
+    /// program with words behind it.
+    pub fn compiler(self) -> Command {
+        let (variable, usual) = match self {
+            Language::C => ("CC", "cc"),
+            Language::Cpp => ("CXX", "c++"),
+        };
+        let named = env::var(variable).unwrap_or_default();
+        let mut words = named.split_whitespace();
+        let mut command = Command::new(words.next().unwrap_or(usual));
+        command.args(words);
+        command
+    }
+
+    /// The compiler with all warnings as errors. Sources that follow are of
+    /// this language, whatever their names end in.
+    pub fn strict(self) -> Command {
+        let mut command = self.compiler();
+        command.args(WARNINGS).args(match self {
+            Language::C => ["-std=c99", "-Wstrict-prototypes", "-Wc++-compat", "-xc"],
+            Language::Cpp => ["-std=c++17", "-Wold-style-cast", "-Wuseless-cast", "-xc++"],
+        });
+        command
+    }
+
+    /// Compiles a source with the header of a folder, links it with the archive
+    /// and runs it.
+    pub fn build_and_run(self, source: &Path, include: &Path, folder: &Folder) -> Output {
+        let program = folder.file("program");
+        let mut command = self.strict();
+        command.arg("-I").arg(include).arg(source);
+        command.arg("-xnone").arg(own_archive());
+        let built = output(command.arg("-o").arg(&program));
+        if !built.status.success() {
+            return built;
+        }
+        output(&mut Command::new(&program))
+    }
+}
+
+/// What a command gives. A command that does not start is a failure.
+pub fn output(command: &mut Command) -> Output {
+    match command.output() {
+        Ok(output) => output,
+        Err(error) => panic!("{command:?} does not start: {error}"),
+    }
+}
+
+/// Standard output of a command that must end well.
+pub fn printed(command: &mut Command) -> String {
+    let output = output(command);
+    assert!(output.status.success(), "{command:?}\n{}", said(&output));
+    String::from_utf8_lossy(&output.stdout).into_owned()
+}
+
+/// All that a command printed.
+pub fn said(output: &Output) -> String {
+    let (out, err) = (&output.stdout, &output.stderr);
+    String::from_utf8_lossy(out).into_owned() + &String::from_utf8_lossy(err)
+}

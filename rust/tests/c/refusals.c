@@ -1,0 +1,66 @@
+/* The refusals: their numbers, their names, and the words of the rules' table. */
+#include "check.h"
+
+struct refusal {
+    uint32_t number;
+    uint32_t name;
+    const char *words;
+};
+
+/* As the rules have them. */
+static const struct refusal expected[] = {
+    {1, OHAKELM_TOO_LONG,
+     "an edit's used length beyond its lent buffer, or a tone above 4,096 octets"},
+    {2, OHAKELM_CUT_SHORT, "the input stops inside or before a due element"},
+    {3, OHAKELM_COMMAND, "command length not 2 or 3, or not the part due"},
+    {4, OHAKELM_SONG_TYPE, "another song type"},
+    {5, OHAKELM_NO_PATTERN, "pattern count zero"},
+    {6, OHAKELM_CODE, "an id not due, or a code not in the instruction table"},
+    {7, OHAKELM_NO_RECALL, "a recall with nothing earlier of that id"},
+    {8, OHAKELM_FILLER, "a filler bit is 1"},
+    {9, OHAKELM_END_OCTET, "end octet not 00"},
+    {10, OHAKELM_AFTER_END, "octets after the end"},
+    {11, OHAKELM_NO_ROOM, "a lent output is too small"},
+    {12, OHAKELM_NOT_THERE, "no such pattern or instruction, or a recall"},
+    {13, OHAKELM_ONLY_ONE, "deleting a part's only instruction"},
+    {14, OHAKELM_FULL_PART, "inserting into a part of 255"},
+    {15, OHAKELM_BITMAP_HEADER, "bitmap header outside the rules"},
+    {16, OHAKELM_IMAGE_LENGTH, "bitmap image of another length"},
+    {17, OHAKELM_TITLE,
+     "written title above 15 characters, odd octets under UNICODE, or not empty in a "
+     "temporary song"},
+    {18, OHAKELM_TABLE_SHAPE,
+     "table shape: a header where an instruction is due or the reverse, a body cut short, "
+     "more than 255 patterns"},
+    {19, OHAKELM_DURATION, "a duration above 32 bits"},
+    {20, OHAKELM_AHEAD,
+     "an octet ahead of a bitmap that its kind does not have there: version, network code "
+     "digit, date, line feed"},
+};
+
+/* As the header's list has them. */
+#define ROW(number, name, words) {number, name, words},
+static const struct refusal listed[] = {OHAKELM_REFUSALS(ROW)};
+#undef ROW
+
+static bool same(const char *one, const char *two)
+{
+    return strcmp(one, two) == 0;
+}
+
+int main(void)
+{
+    CHECK(sizeof expected / sizeof expected[0] == 20);
+    CHECK(sizeof listed == sizeof expected);
+    for (uint32_t i = 0; i < 20; i++) {
+        CHECK(expected[i].number == i + 1 && expected[i].name == i + 1);
+        CHECK(listed[i].number == i + 1 && listed[i].name == i + 1);
+        CHECK(same(listed[i].words, expected[i].words));
+        CHECK(same(ohakelm_words(i + 1), expected[i].words));
+    }
+    enum ohakelm_refusal accepted = OHAKELM_ACCEPTED;
+    CHECK(accepted == 0 && same(ohakelm_words(0), "accepted"));
+    CHECK(same(ohakelm_words(21), "no refusal of this version"));
+    CHECK(same(ohakelm_words(4294967295u), "no refusal of this version"));
+    return failed;
+}
