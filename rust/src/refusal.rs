@@ -64,9 +64,7 @@ macro_rules! kinds {
                 $name,
             )*
             /// A number that this version does not have. The archive of the same
-            /// version gives none such. Only [`Kind::of`] makes it, so that no
-            /// number has two kinds.
-            #[non_exhaustive]
+            /// version gives none such.
             Unknown(u32),
         }
 

@@ -4,6 +4,7 @@
 // Each test takes what it needs of this.
 #![allow(dead_code)]
 
+pub mod c;
 pub mod codecs;
 pub mod compare;
 pub mod inputs;
@@ -12,6 +13,18 @@ pub mod lent;
 pub mod logos;
 pub mod rng;
 pub mod tones;
+
+use std::fs::read_to_string;
+use std::path::Path;
+
+/// The text of a file, by its path from the repository's root.
+pub fn text(path: &str) -> String {
+    let path = Path::new(env!("CARGO_MANIFEST_DIR")).join("..").join(path);
+    match read_to_string(&path) {
+        Ok(text) => text,
+        Err(error) => panic!("{}: {error}", path.display()),
+    }
+}
 
 /// Octets as hexadecimal digits.
 pub fn hex(octets: &[u8]) -> String {
