@@ -13,43 +13,40 @@
 //! assert_eq!(list, [10 * 1024 + 1 * 256 + 0 * 16 + 7, 480_000]);
 //! # Ok::<(), ohakelm::Refusal>(())
 //! ```
+//!
+//! A [`Refusal`] has a number, which [`Refusal::kind`] names, and a place. The
+//! constants `LARGEST_..` say what to lend at most. The module [`entry`] puts
+//! table entries together and takes them apart.
 
 #![no_std]
-
-use core::fmt;
 
 use ohakelm_answers::NO_MARK;
 pub use ohakelm_answers::{Entry, Label};
 
+pub mod entry;
 pub mod numbers;
 pub mod raw;
+mod refusal;
+mod room;
+mod version;
 
-/// Why a call refused, by the number that the rules give it, and where.
-#[derive(Clone, Copy, Debug, PartialEq, Eq)]
-pub struct Refusal {
-    /// 1 to 20, as in the rules' table.
-    pub number: u32,
-    /// The bit of the tone message where the faulty element begins, for the
-    /// numbers 2 to 10 met in a tone message. Else 0.
-    pub place: usize,
-}
-
-impl fmt::Display for Refusal {
-    fn fmt(&self, f: &mut fmt::Formatter) -> fmt::Result {
-        write!(f, "refused {} at {}", self.number, self.place)
-    }
-}
-
-impl core::error::Error for Refusal {}
+pub use refusal::{Kind, Refusal};
+pub use room::{
+    LARGEST_BITMAP, LARGEST_ICON, LARGEST_LIST, LARGEST_LOGO, LARGEST_ROWS, LARGEST_TABLE,
+    LARGEST_TITLE, LARGEST_TONE,
+};
+pub use version::{version, VERSION};
 
 /// What reading a tone tells of it.
 #[derive(Clone, Copy, Debug, PartialEq, Eq)]
 pub struct Tone {
     /// 1 basic, 2 temporary.
     pub song: u32,
+    /// Whether a title character has two octets.
     pub unicode: bool,
     /// Title characters, each of one octet, or of two under UNICODE.
     pub characters: usize,
+    /// Patterns, recalls among them.
     pub patterns: usize,
     /// Table cells that were filled.
     pub entries: usize,
@@ -58,6 +55,7 @@ pub struct Tone {
 /// What making a playing list tells of it.
 #[derive(Clone, Copy, Debug, PartialEq, Eq)]
 pub struct Playing {
+    /// Entries that were made.
     pub entries: usize,
     /// The entry to which an endless part returns.
     pub mark: Option<u32>,
@@ -68,7 +66,9 @@ pub struct Playing {
 pub struct Edited {
     /// The new length in octets.
     pub length: usize,
+    /// Entries of the new list.
     pub entries: usize,
+    /// The entry to which an endless part returns.
     pub mark: Option<u32>,
     /// The new length minus the old one.
     pub change: i32,
@@ -102,13 +102,36 @@ pub struct Logo<'a> {
 /// One change to one instruction. The new instruction is one table entry.
 #[derive(Clone, Copy, Debug, PartialEq, Eq)]
 pub enum Edit {
+    /// Puts this one in the place of the instruction named.
     Replace(u32),
     /// Inserts before the instruction named. At the count it appends.
     Insert(u32),
+    /// Takes the instruction named away.
     Delete,
 }
 
-/// Reads a tone message into a table and its title's octets.
+/// Reads a tone message. Fills the front of `table` with its entries and the
+/// front of `title` with its title's octets.
+///
+/// # Errors
+///
+/// Refuses 1, then 2 to 10 at the first element at fault, then 11 where the
+/// table or the title has no room.
+///
+/// ```
+/// use ohakelm::{Kind, LARGEST_TABLE, LARGEST_TITLE};
+/// let message = [0x02, 0x4A, 0x3A, 0x80, 0x40, 0x00, 0x51, 0xC6, 0x90, 0x00];
+/// let (mut table, mut title) = ([0; LARGEST_TABLE], [0; LARGEST_TITLE]);
+/// let tone = ohakelm::read(&message, &mut table, &mut title)?;
+/// assert_eq!((tone.song, tone.characters, tone.patterns), (2, 0, 1));
+/// assert_eq!(table[..tone.entries], [2, 262_158, 65_864]);
+///
+/// // Without its last octet.
+/// let cut = ohakelm::read(&message[..9], &mut table, &mut title);
+/// let cut = cut.map_err(|refusal| (refusal.kind(), refusal.place));
+/// assert_eq!(cut, Err((Kind::CutShort, 72)));
+/// # Ok::<(), ohakelm::Refusal>(())
+/// ```
 pub fn read(message: &[u8], table: &mut [u32], title: &mut [u8]) -> Result<Tone, Refusal> {
     let answer = numbers::read(message, table, title);
     accepted(answer.refusal, answer.place)?;
@@ -121,7 +144,28 @@ pub fn read(message: &[u8], table: &mut [u32], title: &mut [u8]) -> Result<Tone,
     })
 }
 
-/// Writes a tone message from its title and table. Answers the octets written.
+/// Writes a tone message from a song type (1 basic, 2 temporary), a title and a
+/// table. Fills the front of `out` with it. Answers the octets written.
+///
+/// # Errors
+///
+/// Refuses 4, 17, 6, 18, 7, 5, 1 and 11.
+///
+/// ```
+/// use ohakelm::{entry, Kind};
+/// let table = [entry::header(0, 0, 2), entry::tempo(14), entry::note(10, 2, 0)];
+/// let mut out = [0; ohakelm::LARGEST_TONE];
+/// let octets = ohakelm::write(2, false, &[], &table, &mut out)?;
+/// assert_eq!(
+///     out[..octets],
+///     [0x02, 0x4A, 0x3A, 0x80, 0x40, 0x00, 0x51, 0xC6, 0x90, 0x00],
+/// );
+///
+/// // A temporary song has no title.
+/// let refused = ohakelm::write(2, false, b"Tune", &table, &mut out);
+/// assert_eq!(refused.map_err(|refusal| refusal.kind()), Err(Kind::Title));
+/// # Ok::<(), ohakelm::Refusal>(())
+/// ```
 pub fn write(
     song: u32,
     unicode: bool,
@@ -133,7 +177,14 @@ pub fn write(
 }
 
 /// The title without its trailing spaces, or the stand-in name where nothing is
-/// left or the octets are odd under UNICODE.
+/// left or the octets are odd under UNICODE. It never refuses.
+///
+/// ```
+/// assert_eq!(ohakelm::label(b"Tune  ", false, b"No name"), b"Tune");
+/// assert_eq!(ohakelm::label(b"  ", false, b"No name"), b"No name");
+/// // Under UNICODE a space has two octets.
+/// assert_eq!(ohakelm::label(b"\0A\0 ", true, b"No name"), b"\0A");
+/// ```
 pub fn label<'a>(title: &'a [u8], unicode: bool, stand_in: &'a [u8]) -> &'a [u8] {
     let answer = label_stretch(title, unicode, stand_in);
     let from = if answer.stand_in { stand_in } else { title };
@@ -141,23 +192,94 @@ pub fn label<'a>(title: &'a [u8], unicode: bool, stand_in: &'a [u8]) -> &'a [u8]
     &from[answer.start..answer.start + answer.length]
 }
 
-/// Which of the two buffers supplies the label, and which stretch of it.
+/// Which of the two buffers supplies the label, and which stretch of it. It
+/// never refuses.
+///
+/// ```
+/// let label = ohakelm::label_stretch(b"Tune  ", false, b"No name");
+/// assert_eq!((label.stand_in, label.start, label.length), (false, 0, 4));
+/// ```
 pub fn label_stretch(title: &[u8], unicode: bool, stand_in: &[u8]) -> Label {
     numbers::label(title, unicode, stand_in)
 }
 
-/// Makes the playing list of a tone message, two numbers an entry.
+/// Makes the playing list of a tone message. Fills the front of `list`, two
+/// numbers an entry: note * 1024 + scale * 256 + style * 16 + volume, and the
+/// duration in microseconds.
+///
+/// # Errors
+///
+/// Refuses 1 to 10 as [`read`] does, then 11 where the list has no room.
+///
+/// ```
+/// use ohakelm::{entry, Kind};
+/// let message = [0x02, 0x4A, 0x3A, 0x80, 0x40, 0x00, 0x51, 0xC6, 0x90, 0x00];
+/// let mut list = [0; 2];
+/// let playing = ohakelm::list(&message, &mut list)?;
+/// assert_eq!((playing.entries, playing.mark), (1, None));
+/// assert_eq!((entry::listed_note(list[0]), list[1]), (10, 480_000));
+///
+/// // One number has no room for an entry.
+/// let refused = ohakelm::list(&message, &mut list[..1]);
+/// assert_eq!(refused.map_err(|refusal| refusal.kind()), Err(Kind::NoRoom));
+/// # Ok::<(), ohakelm::Refusal>(())
+/// ```
 pub fn list(message: &[u8], list: &mut [u32]) -> Result<Playing, Refusal> {
     playing(numbers::list(message, list))
 }
 
-/// Makes the playing list in both forms, two numbers and one record an entry.
+/// Makes the playing list in both forms. Fills the front of `list`, two numbers
+/// an entry, and the front of `rows`, one record an entry.
+///
+/// # Errors
+///
+/// Refuses 1 to 10 as [`read`] does, then 11 where either has no room.
+///
+/// ```
+/// use ohakelm::{Entry, Kind};
+/// let message = [0x02, 0x4A, 0x3A, 0x80, 0x40, 0x00, 0x51, 0xC6, 0x90, 0x00];
+/// let (mut list, mut rows) = ([0; 2], [Entry::default(); 1]);
+/// let playing = ohakelm::rows(&message, &mut list, &mut rows)?;
+/// assert_eq!(playing.entries, 1);
+/// assert_eq!((rows[0].note, rows[0].scale, rows[0].volume), (10, 1, 7));
+/// assert_eq!(rows[0].microseconds, 480_000);
+///
+/// let refused = ohakelm::rows(&message, &mut list, &mut []);
+/// assert_eq!(refused.map_err(|refusal| refusal.kind()), Err(Kind::NoRoom));
+/// # Ok::<(), ohakelm::Refusal>(())
+/// ```
 pub fn rows(message: &[u8], list: &mut [u32], rows: &mut [Entry]) -> Result<Playing, Refusal> {
     playing(numbers::rows(message, list, rows))
 }
 
 /// Changes one instruction of the message in the first `used` octets of the
-/// buffer, and makes the new message's list.
+/// buffer, and makes the new message's list. `pattern` and `instruction` are
+/// positions from 0. Octets from the new length up to the old one become 0. The
+/// rest of the buffer is room to grow.
+///
+/// # Errors
+///
+/// Refuses 1 to 10 as [`read`] does, then 6 for the new instruction, 12, 13 or
+/// 14, 1 where the new message is too long, and 11 where the buffer or the list
+/// has no room.
+///
+/// ```
+/// use ohakelm::{entry, Edit, Kind};
+/// let mut buffer = [
+///     0x02, 0x4A, 0x3A, 0x80, 0x40, 0x00, 0x51, 0xC6, 0x90, 0x00, 0x00,
+/// ];
+/// let mut list = [0; 2];
+/// let scale = Edit::Insert(entry::scale(0));
+/// let edited = ohakelm::edit(&mut buffer, 10, 0, 1, scale, &mut list)?;
+/// assert_eq!((edited.length, edited.change), (11, 1));
+/// assert_eq!(buffer[6..], [0x71, 0xC8, 0x34, 0x80, 0x00]);
+/// assert_eq!(entry::listed_scale(list[0]), 0);
+///
+/// // There is one pattern, so the position 1 has none.
+/// let refused = ohakelm::edit(&mut buffer, 11, 1, 0, Edit::Delete, &mut list);
+/// assert_eq!(refused.map_err(|refusal| refusal.kind()), Err(Kind::NotThere));
+/// # Ok::<(), ohakelm::Refusal>(())
+/// ```
 pub fn edit(
     buffer: &mut [u8],
     used: usize,
@@ -181,11 +303,43 @@ pub fn edit(
 }
 
 /// Reads a bitmap. The image is handed back as a part of the message.
+///
+/// # Errors
+///
+/// Refuses 2, 15 and 16.
+///
+/// ```
+/// use ohakelm::Kind;
+/// let message = [0x00, 8, 2, 0x01, 0xFF, 0x01];
+/// let bitmap = ohakelm::read_bitmap(&message)?;
+/// assert_eq!((bitmap.width, bitmap.height, bitmap.black), (8, 2, 9));
+/// assert_eq!(bitmap.image, [0xFF, 0x01]);
+///
+/// let refused = ohakelm::read_bitmap(&message[..5]);
+/// assert_eq!(refused.map_err(|refusal| refusal.kind()), Err(Kind::ImageLength));
+/// # Ok::<(), ohakelm::Refusal>(())
+/// ```
 pub fn read_bitmap(message: &[u8]) -> Result<Bitmap<'_>, Refusal> {
     bitmap(message, numbers::bitmap_read(message))
 }
 
-/// Writes a bitmap from its sizes and image. Answers the octets written.
+/// Writes a bitmap from its sizes and image. Fills the front of `out` with it.
+/// Answers the octets written.
+///
+/// # Errors
+///
+/// Refuses 15, 16 and 11.
+///
+/// ```
+/// use ohakelm::Kind;
+/// let mut out = [0; 6];
+/// assert_eq!(ohakelm::write_bitmap(8, 2, &[0xFF, 0x01], &mut out), Ok(6));
+/// assert_eq!(out, [0x00, 8, 2, 0x01, 0xFF, 0x01]);
+///
+/// // A width is a multiple of 8.
+/// let refused = ohakelm::write_bitmap(9, 2, &[0xFF, 0x01], &mut out);
+/// assert_eq!(refused.map_err(|refusal| refusal.kind()), Err(Kind::BitmapHeader));
+/// ```
 pub fn write_bitmap(
     width: u32,
     height: u32,
@@ -196,16 +350,66 @@ pub fn write_bitmap(
 }
 
 /// Reads an icon. The image is handed back as a part of the message.
+///
+/// # Errors
+///
+/// Refuses 2, 20, 15 and 16.
+///
+/// ```
+/// use ohakelm::Kind;
+/// let message = [b'0', 0x00, 8, 2, 0x01, 0xFF, 0x01];
+/// let bitmap = ohakelm::read_icon(&message)?;
+/// assert_eq!((bitmap.width, bitmap.height, bitmap.black), (8, 2, 9));
+/// assert_eq!(bitmap.image, [0xFF, 0x01]);
+///
+/// // Without its version it is a bitmap.
+/// let refused = ohakelm::read_icon(&message[1..]);
+/// assert_eq!(refused.map_err(|refusal| refusal.kind()), Err(Kind::Ahead));
+/// # Ok::<(), ohakelm::Refusal>(())
+/// ```
 pub fn read_icon(message: &[u8]) -> Result<Bitmap<'_>, Refusal> {
     bitmap(message, numbers::icon_read(message))
 }
 
-/// Writes an icon from its sizes and image. Answers the octets written.
+/// Writes an icon from its sizes and image. Fills the front of `out` with it.
+/// Answers the octets written.
+///
+/// # Errors
+///
+/// Refuses 15, 16 and 11.
+///
+/// ```
+/// use ohakelm::Kind;
+/// let mut out = [0; 7];
+/// assert_eq!(ohakelm::write_icon(8, 2, &[0xFF, 0x01], &mut out), Ok(7));
+/// assert_eq!(out, [b'0', 0x00, 8, 2, 0x01, 0xFF, 0x01]);
+///
+/// let refused = ohakelm::write_icon(8, 2, &[0xFF, 0x01], &mut out[1..]);
+/// assert_eq!(refused.map_err(|refusal| refusal.kind()), Err(Kind::NoRoom));
+/// ```
 pub fn write_icon(width: u32, height: u32, image: &[u8], out: &mut [u8]) -> Result<usize, Refusal> {
     written(numbers::icon_write(width, height, image, out))
 }
 
 /// Reads a logo. Codes, date and image are handed back as parts of the message.
+///
+/// # Errors
+///
+/// Refuses 2, 20, 15 and 16.
+///
+/// ```
+/// use ohakelm::Kind;
+/// let message = b"02440519991231\n\x00\x08\x02\x01\xFF\x01";
+/// let logo = ohakelm::read_logo(message)?;
+/// assert_eq!((logo.mcc, logo.mnc), (&b"244"[..], &b"05"[..]));
+/// assert_eq!(logo.date, b"19991231");
+/// assert_eq!((logo.bitmap.width, logo.bitmap.image), (8, &[0xFF, 0x01][..]));
+///
+/// // The end of the line is not a line feed.
+/// let refused = ohakelm::read_logo(b"02440519991231\r\x00\x08\x02\x01\xFF\x01");
+/// assert_eq!(refused.map_err(|refusal| refusal.kind()), Err(Kind::Ahead));
+/// # Ok::<(), ohakelm::Refusal>(())
+/// ```
 pub fn read_logo(message: &[u8]) -> Result<Logo<'_>, Refusal> {
     let answer = numbers::logo_read(message);
     accepted(answer.refusal, answer.place)?;
@@ -224,8 +428,24 @@ pub fn read_logo(message: &[u8]) -> Result<Logo<'_>, Refusal> {
     })
 }
 
-/// Writes a logo from its codes, date, sizes and image. Answers the octets
-/// written.
+/// Writes a logo from its codes, date, sizes and image. Fills the front of `out`
+/// with it. Answers the octets written.
+///
+/// # Errors
+///
+/// Refuses 20, 15, 16 and 11.
+///
+/// ```
+/// use ohakelm::Kind;
+/// let (image, mut out) = ([0xFF, 0x01], [0; 21]);
+/// let octets = ohakelm::write_logo(b"244", b"05", b"19991231", 8, 2, &image, &mut out)?;
+/// assert_eq!(out[..octets], *b"02440519991231\n\x00\x08\x02\x01\xFF\x01");
+///
+/// // A network code of three digits.
+/// let refused = ohakelm::write_logo(b"244", b"051", b"19991231", 8, 2, &image, &mut out);
+/// assert_eq!(refused.map_err(|refusal| refusal.kind()), Err(Kind::Ahead));
+/// # Ok::<(), ohakelm::Refusal>(())
+/// ```
 pub fn write_logo(
     mcc: &[u8],
     mnc: &[u8],

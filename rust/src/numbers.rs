@@ -9,6 +9,11 @@ use ohakelm_answers::{Bitmap, Edited, Entry, Label, Listed, Logo, Tone, Written}
 use crate::raw;
 
 #[inline(always)]
+pub fn version() -> u32 {
+    unsafe { raw::ohakelm_version() }
+}
+
+#[inline(always)]
 pub fn read(message: &[u8], table: &mut [u32], title: &mut [u8]) -> Tone {
     unsafe {
         raw::ohakelm_read(

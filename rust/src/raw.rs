@@ -3,9 +3,11 @@
 //! A slice passes as a pointer and a length in elements. A lent buffer (`*mut`)
 //! must overlap no other argument. `include/ohakelm.h` says what each call does.
 
-pub use ohakelm_answers::{Bitmap, Edited, Entry, Label, Listed, Logo, Tone, Written};
+pub use ohakelm_answers::{Bitmap, Edited, Entry, Label, Listed, Logo, Tone, Written, NO_MARK};
 
 extern "C" {
+    pub fn ohakelm_version() -> u32;
+
     pub fn ohakelm_read(
         msg: *const u8,
         msg_len: usize,

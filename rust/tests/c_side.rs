@@ -4,7 +4,7 @@
 //!
 //! `CC`, `CXX` and `NM` name other tools than `cc`, `c++` and `nm`.
 
-mod c;
+mod support;
 
 use std::collections::BTreeSet;
 use std::env;
@@ -12,7 +12,8 @@ use std::fs;
 use std::path::{Path, PathBuf};
 use std::process::Command;
 
-use c::{output, own_archive, printed, root, said, source, text, Folder, Language, BOTH};
+use support::c::{output, own_archive, printed, said, source, write, Folder, Language, BOTH};
+use support::{root, text};
 
 // ---- The header
 
@@ -78,7 +79,7 @@ const WRONG_HEADERS: [(&str, &str, &str); 9] = [
 #[test]
 fn wrong_headers_are_found() {
     let folder = Folder::new("wrong");
-    let header = text(&root("include/ohakelm.h"));
+    let header = text("include/ohakelm.h");
     for (right, wrong, name) in WRONG_HEADERS {
         assert!(header.contains(right), "the header has no {right}");
         write(&folder.file("ohakelm.h"), &header.replace(right, wrong));
@@ -140,11 +141,11 @@ fn the_example_builds_with_what_is_installed() {
 fn it_installs_below_destdir() {
     let folder = Folder::new("staged");
     let mut install = Command::new(root("link/install"));
-    printed(install.arg("/opt/tones/").env("DESTDIR", folder.path()));
-    let prefix = folder.file("opt/tones");
+    printed(install.arg("/usr/tones/").env("DESTDIR", folder.path()));
+    let prefix = folder.file("usr/tones");
     assert_installed(&prefix);
-    let described = text(&prefix.join("lib/pkgconfig/ohakelm.pc"));
-    assert!(described.starts_with("prefix=/opt/tones\n"), "{described}");
+    let described = text(prefix.join("lib/pkgconfig/ohakelm.pc"));
+    assert!(described.starts_with("prefix=/usr/tones\n"), "{described}");
     let packages = Packages {
         path: prefix.join("lib/pkgconfig"),
         sysroot: Some(folder.path().to_path_buf()),
@@ -217,7 +218,7 @@ impl Packages {
 
 /// The version that the header names in words.
 fn header_version() -> String {
-    let header = text(&root("include/ohakelm.h"));
+    let header = text("include/ohakelm.h");
     let front = "#define OHAKELM_VERSION_STRING \"";
     let line = header.lines().find_map(|line| line.strip_prefix(front));
     line.unwrap_or_default().trim_end_matches('"').to_string()
@@ -295,7 +296,7 @@ fn symbol(line: &str) -> Option<Symbol> {
 /// The names of the calls that the header declares. What is static is none.
 fn calls_of_header() -> BTreeSet<String> {
     // A macro of several lines becomes one.
-    let header = text(&root("include/ohakelm.h")).replace("\\\n", "");
+    let header = text("include/ohakelm.h").replace("\\\n", "");
     let code = without_comments(&header);
     let plain: Vec<&str> = code.lines().filter(|line| !line.starts_with('#')).collect();
     let plain = plain.join(" ");
@@ -315,10 +316,4 @@ fn without_comments(text: &str) -> String {
     let first = pieces.next().unwrap_or_default().to_string();
     let behind = pieces.filter_map(|piece| piece.split_once("*/"));
     behind.fold(first, |code, (_, rest)| code + rest)
-}
-
-fn write(path: &Path, text: &str) {
-    if let Err(error) = fs::write(path, text) {
-        panic!("{} cannot be written: {error}", path.display());
-    }
 }

@@ -1,6 +1,6 @@
 //! The safe functions of the package, as a caller uses them.
 
-use ohakelm::{Edit, Edited, Entry, Playing, Refusal, Tone};
+use ohakelm::{Edit, Edited, Entry, Kind, Playing, Refusal, Tone};
 
 const P1: [u8; 10] = [0x02, 0x4A, 0x3A, 0x80, 0x40, 0x00, 0x51, 0xC6, 0x90, 0x00];
 
@@ -29,7 +29,11 @@ fn a_refusal_has_a_number_and_a_place() {
         place: 72,
     };
     assert_eq!(refused, Err(refusal));
-    assert_eq!(refusal.to_string(), "refused 2 at 72");
+    assert_eq!(refusal.kind(), Kind::CutShort);
+    assert_eq!(
+        refusal.to_string(),
+        "refused 2 at 72: the input stops inside or before a due element"
+    );
     let refused = ohakelm::write(2, false, b"title", &[], &mut []);
     let refusal = Refusal {
         number: 17,

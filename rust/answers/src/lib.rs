@@ -125,7 +125,7 @@ mod tests {
     use super::*;
     use core::mem::{offset_of, size_of};
 
-    /// The layout that C gives the same fields on x86-64.
+    /// The layout that C gives the same fields on x86-64 and on 64-bit Arm.
     #[test]
     fn the_layout_is_that_of_c() {
         assert_eq!(size_of::<Tone>(), 48);

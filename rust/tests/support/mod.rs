@@ -4,6 +4,7 @@
 // Each test takes what it needs of this.
 #![allow(dead_code)]
 
+pub mod c;
 pub mod calls;
 pub mod cases;
 pub mod codecs;
@@ -14,6 +15,23 @@ pub mod lent;
 pub mod logos;
 pub mod rng;
 pub mod tones;
+
+use std::fs::read_to_string;
+use std::path::{Path, PathBuf};
+
+/// A file or a folder, by its path from the repository's root.
+pub fn root(path: impl AsRef<Path>) -> PathBuf {
+    Path::new(env!("CARGO_MANIFEST_DIR")).join("..").join(path)
+}
+
+/// The text of a file, by its path from the repository's root.
+pub fn text(path: impl AsRef<Path>) -> String {
+    let path = root(path);
+    match read_to_string(&path) {
+        Ok(text) => text,
+        Err(error) => panic!("{}: {error}", path.display()),
+    }
+}
 
 /// Octets as hexadecimal digits.
 pub fn hex(octets: &[u8]) -> String {

@@ -1,10 +1,11 @@
-//! What the tests of the C side share: the two compilers, a folder for what
-//! they make, and the repository's own files.
+//! The C side: the two compilers, and a folder for what they make.
 
 use std::env;
 use std::fs;
 use std::path::{Path, PathBuf};
 use std::process::{self, Command, Output};
+
+use super::root;
 
 /// A folder of its own, which goes with its owner.
 pub struct Folder(PathBuf);
@@ -35,21 +36,9 @@ impl Drop for Folder {
     }
 }
 
-/// A file or a folder of the repository.
-pub fn root(name: &str) -> PathBuf {
-    Path::new(env!("CARGO_MANIFEST_DIR")).join("..").join(name)
-}
-
 /// A C source of these tests.
 pub fn source(name: &str) -> PathBuf {
     root("rust/tests/c").join(name)
-}
-
-pub fn text(path: &Path) -> String {
-    match fs::read_to_string(path) {
-        Ok(text) => text,
-        Err(error) => panic!("{} cannot be read: {error}", path.display()),
-    }
 }
 
 /// The archive that the tests are linked with, as the build script finds it.
@@ -124,6 +113,30 @@ impl Language {
             return built;
         }
         output(&mut Command::new(&program))
+    }
+}
+
+/// What a C program prints that includes the header and runs these lines. It is
+/// of 2011, which can ask for a type. Tests run side by side, so each has a name.
+pub fn printed_by(name: &str, lines: &str) -> String {
+    let folder = Folder::new(name);
+    let (source, program) = (folder.file("program.c"), folder.file("program"));
+    write(
+        &source,
+        &format!(
+            "#include <stdio.h>\n#include \"ohakelm.h\"\nint main(void)\n{{\n{lines}\nreturn 0;\n}}\n"
+        ),
+    );
+    let mut compiler = Language::C.compiler();
+    compiler.args(["-std=c11", "-Wall", "-Wextra", "-Werror", "-I"]);
+    compiler.arg(root("include")).arg(source);
+    printed(compiler.arg("-o").arg(&program));
+    printed(&mut Command::new(program))
+}
+
+pub fn write(path: &Path, text: &str) {
+    if let Err(error) = fs::write(path, text) {
+        panic!("{} cannot be written: {error}", path.display());
     }
 }
 
