@@ -4,12 +4,10 @@ use native.Mathlib.Omega.{arith}
 use mathlib.Core.Bool.{Bool, true, false}
 use mathlib.Core.List.{List, [], _∷_, _++_}
 use lib.ListN.{length, length-append}
-use Rattle.bits.specs.Choice.{pick}
-use Rattle.bits.specs.Bits.{bitsN}
 use Rattle.bits.proofs.Numbers.{length-bits}
 use Rattle.tone.specs.Table.{kind, width}
 use Rattle.tone.specs.Tone.{Pattern, Tone, Front, frontOf, header, cells, learn, noneKnown, Titled, Instructions, Sequence}
-use Rattle.tone.specs.Writing.{programming, unicodePart, sound, commandLength, filledPart, commandBits, titleBits, entryBits, tableBits, frontBits, songBits, WellFormed}
+use Rattle.tone.specs.Writing.{commandBits, entryBits, tableBits, frontBits, songBits, WellFormed}
 use Rattle.tone.proofs.Rows.{length-entryBits, header-small, header-wide, tableBits-append}
 
 -- a title has at most 30 octets: fifteen characters of two
@@ -41,18 +39,19 @@ body-least (e ∷ b) h =
 table-least : (known : List Bool) (ps : List Pattern) → Sequence known ps → 12 * length ps + 5 * length (cells ps) ≤ length (tableBits (cells ps))
 table-least known [] h = omega arith
 table-least known (p ∷ ps) h =
-    let b = length (tableBits (p .body)) in
-    let c = length (tableBits (cells ps)) in
-    rw (length-append (entryBits (header p)) (tableBits (p .body ++ cells ps)), header-wide (header p) (header-small p (h .0) .0), tableBits-append (p .body) (cells ps), length-append (tableBits (p .body)) (tableBits (cells ps)), length-append (p .body) (cells ps))
+    rw (
+      length-append (entryBits (header p)) (tableBits (p .body ++ cells ps)),
+      header-wide (header p) (header-small p (h .0) .0),
+      tableBits-append (p .body) (cells ps),
+      length-append (tableBits (p .body)) (tableBits (cells ps)),
+      length-append (p .body) (cells ps),
+    )
     (omega (arith, body-least (p .body) (h .0 .each), table-least (learn known (header p)) ps (h .2)))
 
--- a front has 34, which is one of a temporary song without UNICODE
+-- a front has 34, as that of a temporary song without UNICODE
 front-least : (f : Front) → 34 ≤ length (frontBits f)
 unfolding frontBits commandBits
-front-least f =
-    let t = titleBits (f .song) (f .unicode) (f .title) in
-    let u = pick (f .unicode) (filledPart unicodePart) [] in
-    simp (length-append, length-bits) (omega arith)
+front-least f = simp (length-append, length-bits) (omega arith)
 
 -- ---- the most entries
 
