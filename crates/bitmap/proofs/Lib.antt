@@ -3,6 +3,7 @@ pub mod Ones
 pub mod Counting
 pub mod Pixels
 pub mod Sizing
+pub mod Largest
 pub mod Judging
 pub mod Filling
 pub mod Rules

@@ -114,12 +114,15 @@ read-formed m t q =
     let c = core-reads m (s .1) in
     (c .0, c .3 ∙ ap (λ (x : List Bool). toneBits t ++ x) (drop-of-length-le (bitsOf m) {i = 8 * length m} (omega (arith, length-bitsOf m))) ∙ append-nil (toneBits t))
 
--- what is accepted is a well-formed tone, and the message is its writing
-pub accepted-is-written : (m : List ℕ) (t : Tone) → Octets m → readTone m ≡ accepted t → WellFormed t × (toneOctets t ≡ m)
-accepted-is-written m t o q =
+-- what is accepted is a well-formed tone
+pub read-well-formed : (m : List ℕ) (t : Tone) → readTone m ≡ accepted t → WellFormed t
+read-well-formed m t q =
     let s : Says m (accepted t) = subst (Says m) q (read-says m) in
-    let f = read-formed m t q in
-    (record { formed = f .0; size = omega (arith, core-reads m (s .1) .1, s .0) }, octets-are m t o (f .1))
+    record { formed = read-formed m t q .0; size = omega (arith, core-reads m (s .1) .1, s .0) }
+
+-- and the message is its writing
+pub accepted-is-written : (m : List ℕ) (t : Tone) → Octets m → readTone m ≡ accepted t → WellFormed t × (toneOctets t ≡ m)
+accepted-is-written m t o q = (read-well-formed m t q, octets-are m t o (read-formed m t q .1))
 
 -- the writing of a well-formed tone is accepted, as that tone
 pub written-is-accepted : (t : Tone) → WellFormed t → readTone (toneOctets t) ≡ accepted t

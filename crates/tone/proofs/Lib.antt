@@ -3,6 +3,8 @@ pub mod Fronts
 pub mod Rows
 pub mod Demand2
 pub mod Refusals
+pub mod Grounds
 pub mod Tables
 pub mod Instructions
 pub mod Recalls
+pub mod Largest
