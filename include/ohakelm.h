@@ -1,9 +1,10 @@
 /* Ringing tones, OTA bitmaps, CLI icons and operator logos of Nokia Smart
  * Messaging 1.0.0. The library is written and proved in Rattle.
  *
- * WHAT TO LINK. There is an archive, libohakelm.a, for Linux and Android on
- * x86-64 and for each of them on 64-bit Arm. It needs memmove and memset of the
- * C library and nothing else. It is position independent.
+ * WHAT TO LINK. There are three archives, each named libohakelm.a: for x86-64
+ * with Linux or Android, for 64-bit Arm with Linux, and for 64-bit Arm with
+ * Android. An archive needs memmove and memset of the C library and nothing
+ * else. It may be linked into a program or a shared library.
  *
  * THREADS. Calls share nothing. They keep nothing, use no heap and no lock, and
  * have no variables of their own, so they may run in as many threads as there

@@ -37,23 +37,37 @@ fn number(digits: &str) -> usize {
     }
 }
 
+/// A room's name in the header and in the proof, and its number in the package.
+const ROOMS: [(&str, &str, usize); 8] = [
+    ("TITLE", "titleRoom", ohakelm::LARGEST_TITLE),
+    ("TABLE", "tableRoom", ohakelm::LARGEST_TABLE),
+    ("TONE", "toneRoom", ohakelm::LARGEST_TONE),
+    ("ROWS", "entriesRoom", ohakelm::LARGEST_ROWS),
+    ("LIST", "listRoom", ohakelm::LARGEST_LIST),
+    ("BITMAP", "bitmapRoom", ohakelm::LARGEST_BITMAP),
+    ("ICON", "iconRoom", ohakelm::LARGEST_ICON),
+    ("LOGO", "logoRoom", ohakelm::LARGEST_LOGO),
+];
+
 #[test]
 fn the_rooms_are_those_of_the_header() {
-    let package = [
-        ("TITLE", ohakelm::LARGEST_TITLE),
-        ("TABLE", ohakelm::LARGEST_TABLE),
-        ("TONE", ohakelm::LARGEST_TONE),
-        ("ROWS", ohakelm::LARGEST_ROWS),
-        ("LIST", ohakelm::LARGEST_LIST),
-        ("BITMAP", ohakelm::LARGEST_BITMAP),
-        ("ICON", ohakelm::LARGEST_ICON),
-        ("LOGO", ohakelm::LARGEST_LOGO),
-    ];
     let values = values();
     let rooms = values.iter().filter_map(|(name, value)| {
         let room = name.strip_prefix("OHAKELM_LARGEST_")?;
         Some((room, number(value)))
     });
+    let package = ROOMS.map(|(name, _, room)| (name, room));
+    assert_eq!(rooms.collect::<Vec<_>>(), package);
+}
+
+/// The proofs are about the numbers of this file.
+#[test]
+fn the_rooms_are_those_of_the_proof() {
+    let proved = text("crates/ohakelm/specs/Room.antt");
+    let lines = proved.lines().filter_map(|line| line.split_once(" = "));
+    let rooms = lines.filter(|(name, _)| name.ends_with("Room"));
+    let rooms = rooms.map(|(name, value)| (name, number(value)));
+    let package = ROOMS.map(|(_, name, room)| (name, room));
     assert_eq!(rooms.collect::<Vec<_>>(), package);
 }
 
