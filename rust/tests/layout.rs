@@ -221,7 +221,7 @@ fn size(kind: &str) -> usize {
 
 #[test]
 fn the_library_and_the_package_are_laid_out_alike() {
-    let sources = ["ohakelm", "bitmap_answers", "sounding"];
+    let sources = ["ohakelm", "bitmap_answers", "list_rules"];
     let structs = sources.map(|source| declared(&format!("crates/{source}/src/lib.rt")));
     let structs = structs.concat();
     let names: Vec<&str> = structs.iter().map(|it| &*it.0).collect();

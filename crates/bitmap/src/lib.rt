@@ -184,7 +184,7 @@ pub fn fill(width: u8, height: u8, image: &[u8], out: &mut [u8])
     out[1] = width;
     out[2] = height;
     out[3] = 1;
-    copying::copy(image, &mut out[4..]);
+    copy::copy(image, &mut out[4..]);
 }
 
 // Writes a bitmap of these sizes and this image to the front of a buffer.

@@ -208,7 +208,7 @@ fn put_at(src: &[u8], out: &mut [u8], at: usize)
     requires { ⌜ at + length (now src) ≤ length (now out) ⌝ }
     ensures { λ _. ⌜ now (out .exit) ≡ take at (now (out .entry)) ++ now (src .entry) ++ drop (at + length (now (src .entry))) (now (out .entry)) ⌝ }
 {
-    copying::copy(src, &mut out[at..]);
+    copy::copy(src, &mut out[at..]);
 }
 
 // Writes a logo's version and its two codes to the front of a buffer.

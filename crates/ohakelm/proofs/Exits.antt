@@ -13,26 +13,26 @@ use Rattle.bits.specs.Outcome.{Outcome, accepted, refused}
 use Rattle.bits.specs.declared.BitPlace.{BitPlace}
 use Rattle.bits.specs.declared.OctetCount.{OctetCount}
 use Rattle.tone.specs.Tone.{perCharacter}
-use Rattle.reader.specs.declared.Reading.{Reading}
-use Rattle.reader.specs.declared.Reading.the-variants.{Read, Refused}
-use Rattle.reader.specs.Promise.{numbers as toneNumbers, ReadPromise}
-use Rattle.writing.specs.declared.Writing.{Writing}
-use Rattle.writing.specs.declared.Writing.the-variants.{Written, Refused as Unspelt}
-use Rattle.writing.specs.Promise.{numbers as writtenNumbers, WritePromise}
+use Rattle.tone_read.specs.declared.Reading.{Reading}
+use Rattle.tone_read.specs.declared.Reading.the-variants.{Read, Refused}
+use Rattle.tone_read.specs.Promise.{numbers as toneNumbers, ReadPromise}
+use Rattle.tone_write.specs.declared.Writing.{Writing}
+use Rattle.tone_write.specs.declared.Writing.the-variants.{Written, Refused as Unspelt}
+use Rattle.tone_write.specs.Promise.{numbers as writtenNumbers, WritePromise}
 use Rattle.label.specs.declared.Supplier.{Supplier}
 use Rattle.label.specs.declared.Supplier.the-variants.{Title, StandIn}
 use Rattle.label.specs.Label.{leftOctets, standsIn, labelOf}
 use Rattle.label.specs.Promises.{numbers as labelNumbers, SuppliedPromise}
 use Rattle.label.proofs.Exits.{left-inside}
-use Rattle.sounding.specs.declared.Entry.{Entry}
-use Rattle.listing.specs.declared.Listed.{Listed}
-use Rattle.listing.specs.declared.Listed.the-variants.{Made, Refused as Unlisted}
-use Rattle.sounding.specs.Listing.{fitsNumbers}
-use Rattle.listing.specs.Promise.{numbersOf as listedNumbers, ListPromise, RowsPromise}
-use Rattle.changing.specs.declared.Edit.{Edit}
-use Rattle.editing.specs.declared.Answer.{Answer}
-use Rattle.editing.specs.declared.Answer.the-variants.{Edited, Refused as Unedited}
-use Rattle.editing.specs.Promise.{numbersOf as editNumbers, EditPromise}
+use Rattle.list_rules.specs.declared.Entry.{Entry}
+use Rattle.list.specs.declared.Listed.{Listed}
+use Rattle.list.specs.declared.Listed.the-variants.{Made, Refused as Unlisted}
+use Rattle.list_rules.specs.Listing.{fitsNumbers}
+use Rattle.list.specs.Promise.{numbersOf as listedNumbers, ListPromise, RowsPromise}
+use Rattle.edit_change.specs.declared.Edit.{Edit}
+use Rattle.edit.specs.declared.Answer.{Answer}
+use Rattle.edit.specs.declared.Answer.the-variants.{Edited, Refused as Unedited}
+use Rattle.edit.specs.Promise.{numbersOf as editNumbers, EditPromise}
 use Rattle.bitmap.specs.declared.Reading.{Reading as BitmapReading}
 use Rattle.bitmap.specs.declared.Reading.the-variants.{Read as BitmapRead, Refused as Unread}
 use Rattle.bitmap.specs.declared.Writing.{Writing as BitmapWriting}

@@ -16,22 +16,22 @@ use Rattle.tone.specs.Reading.{readTone}
 use Rattle.tone.proofs.Demand2.{read-well-formed}
 use Rattle.tone.proofs.Grounds.{read-number-most}
 use Rattle.tone.proofs.Largest.{title-most, entries-most}
-use Rattle.reading.specs.Answers.{entries}
-use Rattle.reader.specs.Promise.{readNumbers, roomed, readInto}
-use Rattle.weighing.specs.Weighing.{andThen, judgeTable}
-use Rattle.weighing.proofs.Grounds.{table-grounds}
-use Rattle.writing.specs.Judging.{songFine, titleFine, sized, toneOf, writeTone}
-use Rattle.writing.specs.Promise.{writeNumbers}
-use Rattle.sounding.specs.declared.Entry.{Entry}
-use Rattle.sounding.specs.Playing.{Listing, playingList}
-use Rattle.sounding.specs.Listing.{anyTooLong, fitted, listed, fitsNumbers, fitsBoth, listTone}
-use Rattle.sounding.proofs.Bounds.{list-most}
-use Rattle.listing.specs.Promise.{listNumbers}
-use Rattle.changing.specs.declared.Edit.{Edit}
-use Rattle.changing.specs.Change.{carriesNew, isThere, empties, overfills}
-use Rattle.editing.specs.Editing.{bodyLength, editTone, inBuffer, beside, withList, andThen as then, editMessage}
-use Rattle.editing.specs.Promise.{editNumbers}
-use Rattle.editing.proofs.Demand3.{edit-grounds, edit-formed}
+use Rattle.tone_elements.specs.Answers.{entries}
+use Rattle.tone_read.specs.Promise.{readNumbers, roomed, readInto}
+use Rattle.tone_table.specs.Weighing.{andThen, judgeTable}
+use Rattle.tone_table.proofs.Grounds.{table-grounds}
+use Rattle.tone_write.specs.Judging.{songFine, titleFine, sized, toneOf, writeTone}
+use Rattle.tone_write.specs.Promise.{writeNumbers}
+use Rattle.list_rules.specs.declared.Entry.{Entry}
+use Rattle.list_rules.specs.Playing.{Listing, playingList}
+use Rattle.list_rules.specs.Listing.{anyTooLong, fitted, listed, fitsNumbers, fitsBoth, listTone}
+use Rattle.list_rules.proofs.Bounds.{list-most}
+use Rattle.list.specs.Promise.{listNumbers}
+use Rattle.edit_change.specs.declared.Edit.{Edit}
+use Rattle.edit_change.specs.Change.{carriesNew, isThere, empties, overfills}
+use Rattle.edit.specs.Editing.{bodyLength, editTone, inBuffer, beside, withList, andThen as then, editMessage}
+use Rattle.edit.specs.Promise.{editNumbers}
+use Rattle.edit.proofs.Demand3.{edit-grounds, edit-formed}
 use Rattle.bitmap.specs.Bitmap.{Bitmap, writingInto}
 use Rattle.bitmap.specs.Promises.{writeNumbers as bitmapWritten}
 use Rattle.bitmap.proofs.Rules.{bitmap, JudgedCase, judged-is, WritingCase, writing-is}

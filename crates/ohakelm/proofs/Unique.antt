@@ -3,8 +3,8 @@ use Prim.Native.Nat.{ℕ}
 use mathlib.Core.Path.{_≡_, sym, _∙_}
 use mathlib.Core.Bool.{Bool}
 use mathlib.Core.List.{List}
-use Rattle.sounding.specs.declared.Entry.{Entry}
-use Rattle.changing.specs.declared.Edit.{Edit}
+use Rattle.list_rules.specs.declared.Entry.{Entry}
+use Rattle.edit_change.specs.declared.Edit.{Edit}
 use Rattle.bitmap_ahead.specs.declared.Kind.{Kind}
 use Rattle.bitmap_ahead.specs.Ahead.{Ahead}
 use Rattle.bitmap_answers.specs.declared.BitmapAnswer.{BitmapAnswer}

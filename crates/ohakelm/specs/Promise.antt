@@ -6,17 +6,17 @@ use mathlib.Core.List.{List}
 use lib.ListN.{length, take, drop}
 use Rattle.bits.specs.Choice.{pick}
 use Rattle.bits.specs.Outcome.{Outcome}
-use Rattle.reader.specs.Promise.{Numbers as ReadNumbers, readNumbers, readInto, tableAfter, titleAfter}
-use Rattle.writing.specs.Judging.{writeTone}
-use Rattle.writing.specs.Promise.{Numbers as WriteNumbers, writeNumbers, octetsAfter}
+use Rattle.tone_read.specs.Promise.{Numbers as ReadNumbers, readNumbers, readInto, tableAfter, titleAfter}
+use Rattle.tone_write.specs.Judging.{writeTone}
+use Rattle.tone_write.specs.Promise.{Numbers as WriteNumbers, writeNumbers, octetsAfter}
 use Rattle.label.specs.Label.{standsIn, labelOf}
-use Rattle.sounding.specs.declared.Entry.{Entry}
-use Rattle.sounding.specs.Playing.{Listing}
-use Rattle.sounding.specs.Listing.{listTone, fitsNumbers, fitsBoth}
-use Rattle.listing.specs.Promise.{Numbers as ListNumbers, listNumbers, cellsAfter, rowsAfter}
-use Rattle.changing.specs.declared.Edit.{Edit}
-use Rattle.editing.specs.Editing.{Edited, editMessage, bufferAfter, listAfter}
-use Rattle.editing.specs.Promise.{Numbers as EditNumbers, editNumbers}
+use Rattle.list_rules.specs.declared.Entry.{Entry}
+use Rattle.list_rules.specs.Playing.{Listing}
+use Rattle.list_rules.specs.Listing.{listTone, fitsNumbers, fitsBoth}
+use Rattle.list.specs.Promise.{Numbers as ListNumbers, listNumbers, cellsAfter, rowsAfter}
+use Rattle.edit_change.specs.declared.Edit.{Edit}
+use Rattle.edit.specs.Editing.{Edited, editMessage, bufferAfter, listAfter}
+use Rattle.edit.specs.Promise.{Numbers as EditNumbers, editNumbers}
 use Rattle.bitmap.specs.Bitmap.{reading, writingInto}
 use Rattle.bitmap.specs.Promises.{ReadNumbers as BitmapNumbers, readNumbers as bitmapNumbers, imageOf, imageStart, WriteNumbers as BitmapWritten, writeNumbers as bitmapWritten, lentAfter}
 use Rattle.bitmap_ahead.specs.declared.Kind.{Kind}

@@ -1,8 +1,8 @@
 ghost use mathlib.Core.Path.{_≡_};
 ghost use lib.ListN.{length};
-ghost use Rattle.listing.specs.Promise.{numbersOf as listedNumbers};
-ghost use Rattle.editing.specs.Promise.{numbersOf as editNumbers};
-ghost use Rattle.changing.specs.declared.Edit.the-variants.{Replace, Insert, Delete};
+ghost use Rattle.list.specs.Promise.{numbersOf as listedNumbers};
+ghost use Rattle.edit.specs.Promise.{numbersOf as editNumbers};
+ghost use Rattle.edit_change.specs.declared.Edit.the-variants.{Replace, Insert, Delete};
 ghost use Rattle.bitmap.specs.Promises.{numbersOfWriting as bitmapNumbers};
 ghost use Rattle.bitmap_ahead.specs.declared.Kind.the-variants.{Icon, Logo};
 ghost use Rattle.bitmap_ahead.specs.Ahead.{said, nothing};
@@ -12,13 +12,13 @@ use bitmap_ahead::Kind;
 use bitmap_answers::BitmapAnswer;
 use bitmap_answers::LogoAnswer;
 use bits::OctetCount;
-use changing::Edit;
-use editing::Answer;
+use edit::Answer;
+use edit_change::Edit;
 use label::Supplier;
-use listing::Listed;
-use reader::Reading;
-use sounding::Entry;
-use writing::Writing;
+use list::Listed;
+use list_rules::Entry;
+use tone_read::Reading;
+use tone_write::Writing;
 
 // ---- answers
 
@@ -87,7 +87,7 @@ pub extern "C" fn ohakelm_version() -> u32
 pub extern "C" fn ohakelm_read(msg: &[u8], table: &mut [u32], title: &mut [u8]) -> ToneAnswer
     ensures { λ r. ⌜ ReadExport (now (msg .entry)) (now (table .entry)) (now (title .entry)) (now (table .exit)) (now (title .exit)) r ⌝ }
 {
-    match reader::read(msg, table, title) {
+    match tone_read::read(msg, table, title) {
         Reading::Refused { number, place } => ToneAnswer {
             refusal: number,
             place: place.0,
@@ -126,7 +126,7 @@ pub extern "C" fn ohakelm_write(
 ) -> WrittenAnswer
     ensures { λ r. ⌜ WriteExport song unicode (now (title .entry)) (now (table .entry)) (now (out .entry)) (now (out .exit)) r ⌝ }
 {
-    match writing::write(song, unicode, title, table, out) {
+    match tone_write::write(song, unicode, title, table, out) {
         Writing::Refused { number, place } => WrittenAnswer {
             refusal: number,
             place: place.0,
@@ -184,7 +184,7 @@ fn list_answer(listed: Listed) -> ListAnswer
 pub extern "C" fn ohakelm_list(msg: &[u8], list: &mut [u32]) -> ListAnswer
     ensures { λ r. ⌜ ListExport (now (msg .entry)) (now (list .entry)) (now (list .exit)) r ⌝ }
 {
-    list_answer(listing::list(msg, list))
+    list_answer(list::list(msg, list))
 }
 
 // Makes the playing list in both forms: two numbers an entry, and one record an entry.
@@ -192,7 +192,7 @@ pub extern "C" fn ohakelm_list(msg: &[u8], list: &mut [u32]) -> ListAnswer
 pub extern "C" fn ohakelm_rows(msg: &[u8], list: &mut [u32], rows: &mut [Entry]) -> ListAnswer
     ensures { λ r. ⌜ RowsExport (now (msg .entry)) (now (list .entry)) (now (rows .entry)) (now (list .exit)) (now (rows .exit)) r ⌝ }
 {
-    list_answer(listing::rows(msg, list, rows))
+    list_answer(list::rows(msg, list, rows))
 }
 
 // ---- edits
@@ -238,7 +238,7 @@ fn edited(
     ensures { λ r. ⌜ EditExport edit (now (buf .entry)) used pattern instruction (now (list .entry)) (now (buf .exit)) (now (list .exit)) r ⌝ }
 {
     let used = OctetCount(used);
-    edit_answer(editing::edit_message(buf, used, edit, pattern, instruction, list))
+    edit_answer(edit::edit_message(buf, used, edit, pattern, instruction, list))
 }
 
 // Puts another instruction in an instruction's place.

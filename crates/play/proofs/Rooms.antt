@@ -3,7 +3,7 @@ use Prim.Native.Nat.{ℕ, _+_, _*_, _≤_}
 use mathlib.Core.Path.{_≡_, sym, _∙_}
 use mathlib.Core.List.{List}
 use lib.ListN.{length, replicate, length-replicate}
-use Rattle.wording.specs.Text.{Added}
+use Rattle.list_text.specs.Text.{Added}
 
 -- a buffer of zeros has as many as it was made with
 pub zeros-long : (n : ℕ) → n ≡ length (replicate {A = ℕ} n 0)

@@ -1,6 +1,6 @@
 // Reads one tone message from standard input and prints its playing list.
 //
-// All that matters is in the library, and `wording` makes the text. Here the message is read to its end, and the text is
+// All that matters is in the library, and `list_text` makes the text. Here the message is read to its end, and the text is
 // written in one piece.
 ghost use mathlib.Core.Path.{_≡_};
 ghost use Prim.Native.Nat.{_≤_};
@@ -72,7 +72,7 @@ fn show(buf: &[u8], n: OctetCount)
 {
     let mut list = [0u32; 8192];
     let mut text = [0u8; 229440];
-    let end = wording::answer(&buf[..n.0], &mut list, &mut text);
+    let end = list_text::answer(&buf[..n.0], &mut list, &mut text);
     write_text(&text, end);
 }
 

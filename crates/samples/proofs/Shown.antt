@@ -4,11 +4,11 @@ use Rattle.bits.specs.Bits.{field, bitsN}
 use Rattle.tone.specs.Table as table
 use Rattle.tone.specs.Writing as writing
 use Rattle.tone.specs.Reading as reading
-use Rattle.sounding.specs.Duration.{beats, units, microseconds}
-use Rattle.sounding.specs.Sounding.{applied, sounded}
-use Rattle.sounding.specs.Playing.{step, patternPlayed, playingList}
-use Rattle.counting.specs.Bodies.{passesOf, bodyOf, remember}
-use Rattle.editing.specs.Editing.{editMessage}
+use Rattle.list_rules.specs.Duration.{beats, units, microseconds}
+use Rattle.list_rules.specs.Sounding.{applied, sounded}
+use Rattle.list_rules.specs.Playing.{step, patternPlayed, playingList}
+use Rattle.list_count.specs.Bodies.{passesOf, bodyOf, remember}
+use Rattle.edit.specs.Editing.{editMessage}
 use Rattle.bitmap.proofs.Samples as bitmaps
 use Rattle.samples.specs.Samples.{Samples}
 

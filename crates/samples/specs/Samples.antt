@@ -8,12 +8,12 @@ use Rattle.bits.specs.Outcome.{Outcome, accepted, refused}
 use Rattle.tone.specs.Tone.{Tone, cells}
 use Rattle.tone.specs.Writing.{toneOctets}
 use Rattle.tone.specs.Reading.{readTone}
-use Rattle.sounding.specs.Duration.{beats, units, microseconds}
-use Rattle.sounding.specs.Playing.{Listing, playingList}
-use Rattle.counting.specs.Bodies.{noMark}
-use Rattle.changing.specs.declared.Edit.the-variants.{Insert, Delete}
-use Rattle.editing.specs.Editing.{Edited, editMessage, bufferAfter}
-use Rattle.editing.specs.Promise.{editNumbers}
+use Rattle.list_rules.specs.Duration.{beats, units, microseconds}
+use Rattle.list_rules.specs.Playing.{Listing, playingList}
+use Rattle.list_count.specs.Bodies.{noMark}
+use Rattle.edit_change.specs.declared.Edit.the-variants.{Insert, Delete}
+use Rattle.edit.specs.Editing.{Edited, editMessage, bufferAfter}
+use Rattle.edit.specs.Promise.{editNumbers}
 use Rattle.bitmap.specs.Samples.{P11, P12}
 
 -- P1: a temporary song with part A: tempo code 14, then A, quarter

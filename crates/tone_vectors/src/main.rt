@@ -19,8 +19,8 @@
 //   NAME: refusal place octets: output                                            of a writing
 ghost use Prim.Native.Nat.{_≤_, _<_};
 ghost use lib.ListN.{length};
-use reader::Reading;
-use writing::Writing;
+use tone_read::Reading;
+use tone_write::Writing;
 
 // How many octets and cells are in hand.
 struct InHand {
@@ -78,7 +78,7 @@ fn read(msg: &[u8], table: &mut [u32], title: &mut [u8])
 {
     let table_end = table.len() - 1;
     let title_end = title.len() - 1;
-    show_reading(reader::read(msg, &mut table[1..table_end], &mut title[1..title_end]));
+    show_reading(tone_read::read(msg, &mut table[1..table_end], &mut title[1..title_end]));
     io::write_all(1, b":");
     vectors::show_cells(table);
     io::write_all(1, b":");
@@ -105,7 +105,7 @@ fn write(song: u32, unicode: bool, title: &[u8], table: &[u32], out: &mut [u8])
     requires { ⌜ 2 ≤ length (now out) ⌝ }
 {
     let end = out.len() - 1;
-    show_writing(writing::write(song, unicode, title, table, &mut out[1..end]));
+    show_writing(tone_write::write(song, unicode, title, table, &mut out[1..end]));
     io::write_all(1, b":");
     vectors::show_octets(out);
 }

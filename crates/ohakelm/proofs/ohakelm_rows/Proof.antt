@@ -1,5 +1,5 @@
 -- `ohakelm::ohakelm_rows` meets its contract: a walk of its code, by hand.
--- The list and the rows are given to `listing::rows` for good. The message is copied for it.
+-- The list and the rows are given to `list::rows` for good. The message is copied for it.
 use mathlib.Core.Path.{_≡_, refl}
 use mathlib.Core.List.{List, [], _∷_}
 use Prim.Native.Nat.{ℕ}
@@ -39,16 +39,16 @@ use denote.Triple.Spec.{Meets, tripleOf}
 use denote.Triple.Table.{entered, cited}
 use denote.Triple.Walked.{says, Stays, stay-none-slice, gave-slice, walkOf, goes-none-slice, goes-gave-slice, Walks, ends-at, walked, walk-meets}
 use denote.Exit.{yes}
-use Rattle.sounding.specs.declared.Entry.{Entry}
-use Rattle.listing.specs.declared.Listed.{Listed}
-use Rattle.listing.specs.Promise.{numbersOf, RowsPromise}
-use Rattle.sounding.proofs.Entry as E
-use Rattle.listing.proofs.Listed as L
-use Rattle.listing.proofs.Listed.Laws as L′
-use Rattle.listing.proofs.rows as rows
-use Rattle.listing.proofs.rows.Symbol as rows-def
-use Rattle.listing.proofs.rows.Symbol.{name as #listing·rows}
-use Rattle.listing.proofs.rows.Met as rows-thm
+use Rattle.list_rules.specs.declared.Entry.{Entry}
+use Rattle.list.specs.declared.Listed.{Listed}
+use Rattle.list.specs.Promise.{numbersOf, RowsPromise}
+use Rattle.list_rules.proofs.Entry as E
+use Rattle.list.proofs.Listed as L
+use Rattle.list.proofs.Listed.Laws as L′
+use Rattle.list.proofs.rows as rows
+use Rattle.list.proofs.rows.Symbol as rows-def
+use Rattle.list.proofs.rows.Symbol.{name as #list·rows}
+use Rattle.list.proofs.rows.Met as rows-thm
 use Rattle.ohakelm.specs.declared.ListAnswer.{ListAnswer}
 use Rattle.ohakelm.specs.Promise.{listedAs, RowsExport}
 use Rattle.ohakelm.proofs.Exits.{rows-told}
@@ -158,7 +158,7 @@ module _ {M : Type 1} (𝓤 : URA M) (H : Heap 𝓤) (A : Atoms 𝓤) (W : Given
       -- [what msg owns; the last cells; the last rows; the answer]
       nothing ! $ move ! (3 ∷ 0 ∷ []) $ fjoin ! $ move ! (2 ∷ 0 ∷ []) $ fjoin ! $ move ! (1 ∷ 0 ∷ []) $ fjoin ! $ frame ! $ done !
 
-  -- ---- the call of `listing::rows`
+  -- ---- the call of `list::rows`
   abbrev making : Makes 𝓤 H A mem run .Ghost
   making = ((κs, (q₁, (q₂, (q₃, tt))), tt, args, at), tt)
 
@@ -241,7 +241,7 @@ module _ {M : Type 1} (𝓤 : URA M) (H : Heap 𝓤) (A : Atoms 𝓤) (W : Given
         ∷ ‵ (fat fullShare rowsTy l₃ 0 rowsAt) ∷ ‵ (fdies rowsTy l₃) ∷ ‵ (fat fullShare listTy l₂ 0 listAt) ∷ ‵ (fdies listTy l₂) ∷ ‵ (fat fullShare msgTy l₁ 0 msgAt) ∷ ‵ (fdies msgTy l₁) ∷ ‵ (froom R′.mir l₀ 0) ∷ ‵ (fdies R′.mir l₀) ∷ Tokens ∷ ‵ OwnAll ∷ []
 
     -- the references are passed on, and both forms are made
-    makes : Triple 𝓤 (C #listing·rows) (Makes 𝓤 H A mem run) → Triple 𝓤 (C #ohakelm·list-answer) (Tells 𝓤 H A mem run) → ent 𝓤 (⋆ 𝓤 H A Entered) (Wp 𝓤 H C Λ En body.t-1 (atReturn 𝓤 H En Post))
+    makes : Triple 𝓤 (C #list·rows) (Makes 𝓤 H A mem run) → Triple 𝓤 (C #ohakelm·list-answer) (Tells 𝓤 H A mem run) → ent 𝓤 (⋆ 𝓤 H A Entered) (Wp 𝓤 H C Λ En body.t-1 (atReturn 𝓤 H En Post))
     makes known known-tells =
         qed W Entered ∵ exec ! C Λ En body.t-1 (atRet En Post) $
         assigns ! (addr ! (from ! (fld ! refl (hop ! (look-in ! 12 (sub ! 0 refl (whole !))) (stop !))))) (from ! (stop !)) (init ! 6 refl (tt, tt)) $
@@ -277,13 +277,13 @@ module _ {M : Type 1} (𝓤 : URA M) (H : Heap 𝓤) (A : Atoms 𝓤) (W : Given
       pass1 ! (init ! 14 refl (tt, (tt, (record { fits = is .0 .1 .0 }, tt)))) $ pass1 ! (init ! 12 refl (tt, (tt, (record { fits = room .0 }, tt)))) $ pass1 ! (init ! 10 refl (tt, (tt, (record { fits = room′ .0 }, tt)))) $ pass0 ! $
       by ! (h l₀ l₁ l₂ l₃ l₄ l₅ l₆ l₇ l₈))))))))))
 
-  walk : (𝓣 : Tables 𝓤 H) → Triple 𝓤 (𝓣 .C #listing·rows) (Makes 𝓤 H A mem run) → Triple 𝓤 (𝓣 .C #ohakelm·list-answer) (Tells 𝓤 H A mem run)
+  walk : (𝓣 : Tables 𝓤 H) → Triple 𝓤 (𝓣 .C #list·rows) (Makes 𝓤 H A mem run) → Triple 𝓤 (𝓣 .C #ohakelm·list-answer) (Tells 𝓤 H A mem run)
       → Is (ShrSlice (named 0) κ₁ u8) m (msgAt ∷ []) → Room u32 (length ys) → Room E.the-row (length rs)
       → ent 𝓤 (onEntry 𝓤 H A f.signature κs (q₁, (q₂, (q₃, tt))) args at) (WpFn 𝓤 H (𝓣 .C) (𝓣 .Λ) code.function (msgAt ∷ listAt ∷ rowsAt ∷ []) Post)
   walk 𝓣 known-makes known-tells is room room′ = begins 𝓣 room room′ is body.t-1 (λ l₀ l₁ l₂ l₃ l₄ l₅ l₆ l₇ l₈. makes 𝓣 room room′ l₀ l₁ l₂ l₃ l₄ l₅ l₆ l₇ l₈ known-makes known-tells)
 
 module _ {M : Type 1} (𝓤 : URA M) (H : Heap 𝓤) (A : Atoms 𝓤) (W : Given 𝓤 H A) (mem : Memory → SProp 𝓤) (run : Routine → Fun 𝓤) (𝓣 : Tables 𝓤 H)
-    (known-makes : Triple 𝓤 (𝓣 .C #listing·rows) (Makes 𝓤 H A mem run)) (known-tells : Triple 𝓤 (𝓣 .C #ohakelm·list-answer) (Tells 𝓤 H A mem run)) where
+    (known-makes : Triple 𝓤 (𝓣 .C #list·rows) (Makes 𝓤 H A mem run)) (known-tells : Triple 𝓤 (𝓣 .C #ohakelm·list-answer) (Tells 𝓤 H A mem run)) where
   walks : Walks 𝓤 H A f.ended stayed (WpFn 𝓤 H (𝓣 .C) (𝓣 .Λ) code.function) (f.clauses 𝓤 H A mem run)
   walks = walked 𝓤 H A f.ended stayed (f.clauses 𝓤 H A mem run) (WpFn 𝓤 H (𝓣 .C) (𝓣 .Λ) code.function) (λ κs. (slice-vals, (slice-vals, (slice-vals, tt))))
       (λ κs. (shr-slice-tells (named 0) (κs .0) u8, (mut-slice-tells (named 1) (κs .1 .0) u32, (mut-slice-tells (named 2) (κs .1 .1 .0) E.the-row, tt))))
@@ -302,5 +302,5 @@ ohakelm-rows-spec 𝓤 H 𝓜 𝓖 𝓡 =
     entered 𝓤 H (tripleOf 𝓤 H (𝓖 .A) f.signature (f.spec 𝓤 H (𝓖 .A) (𝓜 .mem) (𝓡 .run)))
     (tables 𝓤 H 𝓜 𝓡 code.env .C) (tables 𝓤 H 𝓜 𝓡 code.env .Λ) #ohakelm·ohakelm-rows code.function (code.unfolded 𝓤 H 𝓜 𝓡)
     (meets 𝓤 H (𝓖 .A) (givenOf 𝓤 H 𝓜 𝓖) (𝓜 .mem) (𝓡 .run) (tablesOf 𝓤 H 𝓜 (tables 𝓤 H 𝓜 𝓡 code.env))
-    (cited 𝓤 H (Makes 𝓤 H (𝓖 .A) (𝓜 .mem) (𝓡 .run)) 𝓜 𝓡 code.env #listing·rows rows-def.routine code.calls-listing·rows (rows-thm.met 𝓤 H 𝓜 𝓖 𝓡))
+    (cited 𝓤 H (Makes 𝓤 H (𝓖 .A) (𝓜 .mem) (𝓡 .run)) 𝓜 𝓡 code.env #list·rows rows-def.routine code.calls-listing·rows (rows-thm.met 𝓤 H 𝓜 𝓖 𝓡))
     (cited 𝓤 H (Tells 𝓤 H (𝓖 .A) (𝓜 .mem) (𝓡 .run)) 𝓜 𝓡 code.env #ohakelm·list-answer answer-def.routine code.calls-ohakelm·list-answer (answer-thm.met 𝓤 H 𝓜 𝓖 𝓡)))

@@ -1,0 +1,98 @@
+-- Demand 3 of the rules, for a whole message: when an edit is accepted, and as what.
+use Prim.Native.Nat.{ℕ, _*_, _≤_}
+use mathlib.Core.Path.{_≡_, refl, sym, ap, subst, _∙_}
+use mathlib.Core.Logic.{_↔_}
+use mathlib.Core.List.{List}
+use lib.ListN.{length, take}
+use lib.Dec.{leb}
+use borrow.Author.Tests.{leb-true, le-leb}
+use Rattle.bits.specs.Outcome.{Outcome, accepted, refused}
+use Rattle.bits.proofs.Choice.{pick-elim}
+use Rattle.tone.specs.Tone.{Tone}
+use Rattle.tone.specs.Writing.{toneLength, mostOctets}
+use Rattle.tone.specs.Reading.{readTone}
+use Rattle.tone.proofs.Demand2.{read-formed}
+use Rattle.list_rules.specs.Playing.{Listing, playingList}
+use Rattle.list_rules.specs.Listing.{anyTooLong, fitsNumbers}
+use Rattle.list_rules.proofs.Bounds.{none-too-long}
+use Rattle.edit_change.specs.declared.Edit.{Edit}
+use Rattle.edit_change.specs.Change.{changed}
+use Rattle.edit.specs.Editing.{Edited, editTone, inBuffer, beside, withList, andThen, editMessage}
+use Rattle.edit.proofs.Demand3.{Grounds, edit-accepts, edit-grounds, edit-formed}
+
+-- one condition for each ground of an edit, t being the tone that the message reads as. The ground 19 has none: no duration is above 32 bits.
+pub record Conditions (buf : List ℕ) (used : ℕ) (ed : Edit) (k i cells : ℕ) (t : Tone) : Type 0 where
+  pub within : used ≤ length buf
+  pub reads : readTone (take used buf) ≡ accepted t
+  pub grounds : Grounds ed k i t
+  pub size : toneLength (changed ed k i t) ≤ mostOctets
+  pub room : toneLength (changed ed k i t) ≤ length buf
+  pub listRoom : 2 * length (playingList (changed ed k i t) .entries) ≤ cells
+
+-- the changed tone and its list
+abbrev pub edited : Edit → ℕ → ℕ → Tone → Edited
+edited ed k i t = record { tone = changed ed k i t; listing = playingList (changed ed k i t) }
+
+module _ (buf : List ℕ) (used : ℕ) (ed : Edit) (k i cells : ℕ) where
+  -- an outcome that accepts has its conditions met, and is the changed tone with its list
+  abbrev Met : Outcome Edited → Type 0
+  Met (accepted d) = (t : Tone) × Conditions buf used ed k i cells t × (d ≡ edited ed k i t)
+  Met (refused n p) = Unit {0}
+
+  met : Met (editMessage buf used ed k i cells)
+  unfolding editMessage
+  met = pick-elim Met (leb used (length buf)) (λ h. read (leb-true used (length buf) h) (readTone (take used buf)) refl) (λ _. tt)
+    where
+      put : used ≤ length buf → (t : Tone) → readTone (take used buf) ≡ accepted t → Grounds ed k i t → Met (withList cells (inBuffer (length buf) (changed ed k i t)))
+      put h t q g =
+          let t′ = changed ed k i t in
+          let o = playingList t′ in
+          pick-elim (λ (x : Outcome Tone). Met (withList cells x)) (leb (toneLength t′) mostOctets) (λ h₁.
+          pick-elim (λ (x : Outcome Tone). Met (withList cells x)) (leb (toneLength t′) (length buf)) (λ h₂.
+          pick-elim (λ (x : Outcome Listing). Met (beside t′ x)) (anyTooLong (o .entries)) (λ _. tt) (λ _.
+          pick-elim (λ (x : Outcome Listing). Met (beside t′ x)) (fitsNumbers cells o)
+          (λ h₃. (
+            t,
+            record {
+              within = h;
+              reads = q;
+              grounds = g;
+              size = leb-true (toneLength t′) mostOctets h₁;
+              room = leb-true (toneLength t′) (length buf) h₂;
+              listRoom = leb-true (2 * length (o .entries)) cells h₃;
+            },
+            refl,
+          ))
+          (λ _. tt)))
+          (λ _. tt)) (λ _. tt)
+
+      edit : used ≤ length buf → (t : Tone) → readTone (take used buf) ≡ accepted t → (x : Outcome Tone) → editTone ed k i t ≡ x → Met (withList cells (andThen x (inBuffer (length buf))))
+      edit h t q (accepted t′) e =
+          let g = edit-grounds ed k i t t′ e in
+          subst (λ (y : Tone). Met (withList cells (inBuffer (length buf) y))) (sym (g .1)) (put h t q (g .0))
+      edit h t q (refused n p) e = tt
+
+      read : used ≤ length buf → (x : Outcome Tone) → readTone (take used buf) ≡ x → Met (andThen x (λ t. withList cells (andThen (editTone ed k i t) (inBuffer (length buf)))))
+      read h (accepted t) q = edit h t q (editTone ed k i t) refl
+      read h (refused n p) q = tt
+
+  -- conditions that are met make the edit accepted
+  pub accepted-when : (t : Tone) → Conditions buf used ed k i cells t → editMessage buf used ed k i cells ≡ accepted (edited ed k i t)
+  unfolding editMessage
+  accepted-when t c =
+      let t′ = changed ed k i t in
+      let f = edit-formed ed k i t (read-formed (take used buf) t (c .reads) .0) (c .grounds) in
+      rw (
+        le-leb used (length buf) (c .within),
+        c .reads,
+        edit-accepts ed k i t (c .grounds),
+        le-leb (toneLength t′) mostOctets (c .size),
+        le-leb (toneLength t′) (length buf) (c .room),
+        none-too-long t′ f,
+        le-leb (2 * length (playingList t′ .entries)) cells (c .listRoom),
+      )
+      refl
+
+  -- an edit is accepted exactly if the conditions are met; then it is the changed tone with its list
+  pub edit-exactly : (d : Edited) → (editMessage buf used ed k i cells ≡ accepted d) ↔ ((t : Tone) × Conditions buf used ed k i cells t × (d ≡ edited ed k i t))
+  edit-exactly d = (λ q. subst Met q met, λ c. accepted-when (c .0) (c .1) ∙ ap accepted (sym (c .2)))

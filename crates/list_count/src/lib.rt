@@ -1,0 +1,75 @@
+ghost use mathlib.Core.Path.{_≡_};
+ghost use Prim.Native.Nat.{_≤_};
+ghost use lib.Dec.{eqb};
+ghost use Rattle.bits.specs.Choice.{pick};
+ghost use Rattle.tone.specs.Tone.{specifier};
+ghost use Rattle.list_count.specs.Bodies.{passesOf};
+ghost use Rattle.list_count.specs.Counting.{markOf, noCount, counted as countedOf};
+
+// What is counted so far of a playing list: the entries, the return mark, and whether a loop 15 has ended the list.
+pub struct Count {
+    pub entries: u32,
+    pub mark: u32,
+    pub ended: bool,
+}
+
+// The return mark where there is none.
+const NO_MARK: u32 = 4294967295;
+
+// How many passes a loop value lists.
+pub fn passes_of(value: u32) -> u32
+    requires { ⌜ value ≤ 15 ⌝ }
+    ensures { λ r. ⌜ (r ≡ passesOf value) × (1 ≤ r) × (r ≤ 15) ⌝ }
+{
+    if value == 15 { 1 } else { value + 1 }
+}
+
+// The mark of a loop-15 pass of so many notes that starts at `n`.
+fn mark_of(n: u32, notes: u32) -> u32
+    ensures { λ r. ⌜ r ≡ markOf n notes ⌝ }
+{
+    if notes == 0 { NO_MARK } else { n }
+}
+
+impl Count {
+    // Nothing is counted.
+    pub fn none() -> Count
+        ensures { λ r. ⌜ r ≡ noCount ⌝ }
+    {
+        Count {
+            entries: 0,
+            mark: NO_MARK,
+            ended: false,
+        }
+    }
+
+    // One pattern more, of so many notes and this loop value.
+    pub fn with(self, notes: u32, value: u32) -> Count
+        requires { ⌜ (self .entries ≤ 971550) × (notes ≤ 255) × (value ≤ 15) ⌝ }
+        ensures { λ r. ⌜ r ≡ countedOf self notes value ⌝ }
+    {
+        if self.ended {
+            return self;
+        }
+        let entries = self.entries + notes * passes_of(value);
+        if value == 15 {
+            return Count {
+                entries,
+                mark: mark_of(self.entries, notes),
+                ended: true,
+            };
+        }
+        Count {
+            entries,
+            mark: self.mark,
+            ended: false,
+        }
+    }
+}
+
+// The notes of the body that a header sounds: its own, or those of the part recalled.
+pub fn sounding(recalled: u32, header: u32, own: u32) -> u32
+    ensures { λ r. ⌜ r ≡ pick (eqb (specifier header) 0) recalled own ⌝ }
+{
+    if header % 256 == 0 { recalled } else { own }
+}

@@ -1,0 +1,355 @@
+-- The list of patterns is filled, one pattern a turn.
+use Prim.Native.Nat.{ℕ, zero, suc, _+_, _-_, _*_, _≤_, _<_}
+use native.Mathlib.Omega.{arith}
+use native.Mathlib.Nat.{zero-add}
+use mathlib.Core.Path.{_≡_, refl, sym, ap, ap₂, subst, _∙_}
+use mathlib.Core.Bool.{Bool, true, false}
+use mathlib.Core.List.{List, [], _∷_, _++_, append-assoc, append-nil}
+use lib.ListN.{length, getD, set, drop, replicate, length-append, List·getD-map}
+use lib.Seq.{sets, sets-eq, getD-set-same, set-getD}
+use lib.Dec.{eqb}
+use borrow.Author.Tests.{eqb-true}
+use Rattle.bits.specs.Choice.{pick}
+use Rattle.bits.specs.Bits.{bitsOf}
+use Rattle.bits.specs.Lent.{over}
+use Rattle.bits.specs.declared.BitPlace.{BitPlace}
+use Rattle.bits.proofs.Octets.{length-bitsOf}
+use Rattle.tone.specs.Table.{kind, width, allowed, InTable}
+use Rattle.tone.specs.Tone.{Pattern, specifier, loopOf, partOf, pattern, recallable, learn}
+use Rattle.tone.specs.Writing.{entryBits, tableBits}
+use Rattle.tone.specs.Reading.{Got, got, bad, onward, headerDue, bodyDue, patternsDue}
+use Rattle.tone.proofs.Exact.{Accepted}
+use Rattle.tone.proofs.Rows.{Header, Body, header-exact, body-exact}
+use Rattle.tone_elements.specs.Answers.{Within, place, notes, EntryAt, SomeEntry, Passed}
+use Rattle.list_rules.specs.declared.Settings.{Settings}
+use Rattle.list_rules.specs.declared.Entry.{Entry}
+use Rattle.list_fill.specs.declared.Part.{Part}
+use Rattle.list_fill.specs.declared.Part.the-variants.{Unknown, Known}
+use Rattle.list_fill.specs.declared.Walk.{Walk}
+use Rattle.list_rules.specs.Sounding.{atStart, numbers}
+use Rattle.list_rules.specs.Playing.{Played, ahead, Listing, passes, patternPlayed, play}
+use Rattle.list_count.specs.Bodies.{Remembered, unknown, known, recalled, noBodies, passesOf, bodyOf, remember}
+use Rattle.list_count.specs.Counting.{entryCount}
+use Rattle.list_fill.specs.Filling.{PatternsAt, partAfter, behindPattern, Ready, Advanced}
+use Rattle.tone_elements.specs.Standing.{BodyAt, behindOr, bodyIn, behindIn}
+use Rattle.list_rules.proofs.Counts.{list-count}
+use Rattle.list_count.proofs.Bodies.{isKnown, knownOf, remember-length, body-sounding, learn-read}
+use Rattle.list_rules.proofs.Joining.{play-one, play-last}
+use Rattle.list_rules.proofs.Packing.{length-numbers}
+use Rattle.list_fill.proofs.Stepping.{ready-four}
+use Rattle.list_fill.proofs.Walking.{and-then, advanced-long}
+
+-- ---- the four parts are the places of the bodies that are remembered
+
+abbrev PartAt : List ℕ → Part → Remembered → Type 0
+PartAt m Unknown unknown = Unit {0}
+PartAt m Unknown (known b) = ⊥
+PartAt m (Known at n) unknown = ⊥
+PartAt m (Known at n) (known b) = (q : ℕ) × BodyAt m (at .0) n b q
+
+abbrev PartsAt : List ℕ → List Part → List Remembered → Type 0
+PartsAt m [] [] = Unit {0}
+PartsAt m [] (r ∷ rs) = ⊥
+PartsAt m (p ∷ ps) [] = ⊥
+PartsAt m (p ∷ ps) (r ∷ rs) = PartAt m p r × PartsAt m ps rs
+
+part-at : (m : List ℕ) (ps : List Part) (rs : List Remembered) → PartsAt m ps rs → (i : ℕ) → PartAt m (getD ps i Unknown) (getD rs i unknown)
+part-at m [] [] h i = tt
+part-at m [] (r ∷ rs) h i = absurd h
+part-at m (p ∷ ps) [] h i = absurd h
+part-at m (p ∷ ps) (r ∷ rs) h zero = h .0
+part-at m (p ∷ ps) (r ∷ rs) h (suc i) = part-at m ps rs (h .1) i
+
+part-set : (m : List ℕ) (ps : List Part) (rs : List Remembered) → PartsAt m ps rs → (i : ℕ) (p : Part) (r : Remembered) → PartAt m p r → PartsAt m (set ps i p) (set rs i r)
+part-set m [] [] h i p r k = tt
+part-set m [] (y ∷ rs) h i p r k = absurd h
+part-set m (x ∷ ps) [] h i p r k = absurd h
+part-set m (x ∷ ps) (y ∷ rs) h zero p r k = (k, h .1)
+part-set m (x ∷ ps) (y ∷ rs) h (suc i) p r k = (h .0, part-set m ps rs (h .1) i p r k)
+
+parts-length : (m : List ℕ) (ps : List Part) (rs : List Remembered) → PartsAt m ps rs → length ps ≡ length rs
+parts-length m [] [] h = refl
+parts-length m [] (r ∷ rs) h = absurd h
+parts-length m (p ∷ ps) [] h = absurd h
+parts-length m (p ∷ ps) (r ∷ rs) h = ap suc (parts-length m ps rs (h .1))
+
+-- a header and its instructions change both alike
+parts-kept : (m : List ℕ) (ps : List Part) (rs : List Remembered) (h : ℕ) (next : BitPlace) (b : List ℕ) (q : ℕ) → PartsAt m ps rs → length b ≡ specifier h → BodyAt m (next .0) (specifier h) b q
+    → PartsAt m (set ps (partOf h) (partAfter (getD ps (partOf h) Unknown) h next)) (remember rs (pattern h b))
+unfolding remember
+parts-kept m ps rs h next b q k size stands = rw (← size) (go (eqb (length b) 0))
+  where
+    go : (t : Bool) → PartsAt m (set ps (partOf h) (pick t (getD ps (partOf h) Unknown) (Known next (length b)))) (pick t rs (set rs (partOf h) (known b)))
+    go true = subst (λ (l : List Part). PartsAt m l rs) (sym (set-getD ps (partOf h) Unknown)) k
+    go false = part-set m ps rs k (partOf h) (Known next (length b)) (known b) (q, rw size stands)
+
+-- ---- the first of some patterns that stand at a place
+
+record Head (m : List ℕ) (seen : List Bool) (p left : ℕ) (ps : List Pattern) (q : ℕ) : Type 0 where
+  header : ℕ
+  next : ℕ
+  body : List ℕ
+  behind : ℕ
+  others : List Pattern
+  patterns : ps ≡ pattern header body ∷ others
+  first : headerDue seen (bitsOf m) p ≡ got header next
+  second : bodyDue (specifier header) (bitsOf m) next ≡ got body behind
+  more : patternsDue (left - 1) (learn seen header) (bitsOf m) behind ≡ got others q
+
+head-of : (m : List ℕ) (seen : List Bool) (p left : ℕ) {ps : List Pattern} {q : ℕ} → 0 < left → patternsDue left seen (bitsOf m) p ≡ got ps q → Head m seen p left ps q
+unfolding patternsDue
+head-of m seen p left {ps} {q} h e =
+    let one-less : left ≡ suc (left - 1) = omega arith in
+    first (headerDue seen (bitsOf m) p) refl (subst (λ (x : ℕ). patternsDue x seen (bitsOf m) p ≡ got ps q) one-less e)
+  where
+    third : (c n : ℕ) (b : List ℕ) (r : ℕ) → headerDue seen (bitsOf m) p ≡ got c n → bodyDue (specifier c) (bitsOf m) n ≡ got b r
+        → (y : Got (List Pattern)) → patternsDue (left - 1) (learn seen c) (bitsOf m) r ≡ y → onward y (λ t s. got (pattern c b ∷ t) s) bad ≡ got ps q → Head m seen p left ps q
+    third c n b r i j (got t s) k z =
+        let f : s ≡ q = cc in
+        record { header = c; next = n; body = b; behind = r; others = t; patterns = cc; first = i; second = j; more = k ∙ ap (λ (x : ℕ). got t x) f }
+    third c n b r i j (bad x s u) k z = let y : _≡_ {A = ℕ} 0 1 = cc in absurd (omega arith)
+
+    second : (c n : ℕ) → headerDue seen (bitsOf m) p ≡ got c n → (y : Got (List ℕ)) → bodyDue (specifier c) (bitsOf m) n ≡ y
+        → onward y (λ b r. onward (patternsDue (left - 1) (learn seen c) (bitsOf m) r) (λ t s. got (pattern c b ∷ t) s) bad) bad ≡ got ps q → Head m seen p left ps q
+    second c n i (got b r) j z = third c n b r i j (patternsDue (left - 1) (learn seen c) (bitsOf m) r) refl z
+    second c n i (bad x s u) j z = let y : _≡_ {A = ℕ} 0 1 = cc in absurd (omega arith)
+
+    first : (x : Got ℕ) → headerDue seen (bitsOf m) p ≡ x
+        → onward x (λ c n. onward (bodyDue (specifier c) (bitsOf m) n) (λ b r. onward (patternsDue (left - 1) (learn seen c) (bitsOf m) r) (λ t s. got (pattern c b ∷ t) s) bad) bad) bad ≡ got ps q → Head m seen p left ps q
+    first (got c n) i z = second c n i (bodyDue (specifier c) (bitsOf m) n) refl z
+    first (bad x s u) i z = let y : _≡_ {A = ℕ} 0 1 = cc in absurd (omega arith)
+
+-- a header that was read is an entry of the table
+header-entry : (h : ℕ) → h < 16384 → InTable h
+unfolding width allowed
+header-entry h k = let e : kind h ≡ 0 = omega arith in record { known = omega arith; fits = rw e (omega arith); code = rw e refl }
+
+-- ---- the part that sounds
+
+known-there : (m : List ℕ) (p : Part) (r : Remembered) {from : BitPlace} {n : ℕ} → PartAt m p r → p ≡ Known from n → (q : ℕ) × BodyAt m (from .0) n (recalled r) q
+known-there m Unknown r h e = let y : _≡_ {A = ℕ} 0 1 = cc in absurd (omega arith)
+known-there m (Known at k) unknown h e = absurd h
+known-there m (Known at k) (known b) {from} {n} h e =
+    let e₁ : at ≡ from = cc in
+    let e₂ : k ≡ n = cc in
+    (h .0, rw (← e₁, ← e₂) (h .1))
+
+unknown-there : (m : List ℕ) (p : Part) (r : Remembered) → PartAt m p r → p ≡ Unknown → isKnown r ≡ true → ⊥
+unknown-there m Unknown unknown h e k = let y : _≡_ {A = ℕ} 0 1 = cc in omega arith
+unknown-there m Unknown (known b) h e k = h
+unknown-there m (Known at n) r h e k = let y : _≡_ {A = ℕ} 0 1 = cc in omega arith
+
+-- what a header may sound is known
+known-sounding : (bodies : List Remembered) (h : ℕ) (b : List ℕ) → length bodies ≡ 4 → length b ≡ specifier h → recallable (knownOf bodies) h ≡ true
+    → isKnown (getD (remember bodies (pattern h b)) (partOf h) unknown) ≡ true
+unfolding remember
+known-sounding bodies h b four size = rw (← size) (go (eqb (length b) 0))
+  where
+    go : (t : Bool) → pick t (getD (knownOf bodies) (partOf h) false) true ≡ true → isKnown (getD (pick t bodies (set bodies (partOf h) (known b))) (partOf h) unknown) ≡ true
+    go true k = sym (List·getD-map isKnown bodies (partOf h) unknown) ∙ k
+    go false k = ap isKnown (getD-set-same bodies (partOf h) (known b) unknown (omega arith))
+
+-- ---- the loop
+
+-- with `left` patterns to come at p, from the bodies that are remembered and the settings of the walk
+pub record ListWalk (m : List ℕ) (ps : List Pattern) (old new lasts : List ℕ) (parts : List Part) (p : ℕ) (w : Walk) (left : ℕ) : Type 0 where
+  pub within : Within m p
+  pub bodies : List Remembered
+  pub four : length bodies ≡ 4
+  pub places : PartsAt m parts bodies
+  pub others : List Pattern
+  pub end : ℕ
+  pub reads : patternsDue left (knownOf bodies) (bitsOf m) p ≡ got others end
+  pub done : List Entry
+  pub advanced : Advanced 0 (record { entries = done; after = w .settings }) (w .at .0) old new lasts w
+  pub goes : play atStart noBodies 0 ps .entries ≡ done ++ play (w .settings) bodies (length done) others .entries
+  pub room : 2 * entryCount noBodies ps ≤ length old
+
+pub list-begins : {m : List ℕ} {at n : ℕ} {ps : List Pattern} {q : ℕ} {old lasts : List ℕ} {w : Walk} {p : BitPlace} → PatternsAt m at n ps q → 2 * entryCount noBodies ps ≤ length old
+    → Ready w lasts × (w .settings ≡ atStart) × (w .at ≡ p) × (w .cells ≡ 0) → ListWalk m ps old old lasts (replicate 4 Unknown) at w n
+list-begins {ps = ps} {q} {w = w} h k s = record {
+  within = h .within;
+  bodies = noBodies;
+  four = refl;
+  places = (tt, (tt, (tt, (tt, tt))));
+  others = ps;
+  end = q;
+  reads = h .reads;
+  done = [];
+  advanced = record { settings = refl; ready = s .0; place = refl; cells = s .3; list = refl };
+  goes = rw (s .1) refl;
+  room = k;
+}
+
+-- what was written from the front stands over the old cells
+over-sets : (old : List ℕ) (rs : List Entry) → 2 * length rs ≤ length old → sets old 0 (numbers rs) ≡ over (numbers rs) old
+over-sets old rs h = sets-eq (numbers rs) old 0 (omega (arith, length-numbers rs)) ∙ ap (λ (n : ℕ). numbers rs ++ drop n old) (zero-add (length (numbers rs)))
+
+module _ {m : List ℕ} {ps : List Pattern} {old new lasts : List ℕ} {parts : List Part} {p : ℕ} {w : Walk} {left : ℕ} (v : ListWalk m ps old new lasts parts p w left) where
+  pub list-same : length new ≡ length old
+  list-same = advanced-long (v .advanced)
+
+  pub list-four : length lasts ≡ 4
+  list-four = ready-four (v .advanced .ready)
+
+  -- all entries
+  count : 2 * length (play atStart noBodies 0 ps .entries) ≤ length old
+  count = rw (list-count atStart noBodies 0 ps) (v .room)
+
+  pub list-done : left ≤ 0 → new ≡ over (numbers (play atStart noBodies 0 ps .entries)) old
+  unfolding patternsDue
+  list-done h =
+      let z : left ≡ 0 = omega arith in
+      let e : got [] p ≡ got (v .others) (v .end) = subst (λ (x : ℕ). patternsDue x (knownOf (v .bodies)) (bitsOf m) p ≡ got (v .others) (v .end)) z (v .reads) in
+      let e₁ : v .others ≡ [] = cc in
+      let f : play atStart noBodies 0 ps .entries ≡ v .done =
+      v .goes ∙ ap (λ (x : List Pattern). v .done ++ play (w .settings) (v .bodies) (length (v .done)) x .entries) e₁ ∙ append-nil (v .done) in
+      v .advanced .list ∙ ap (λ (x : List Entry). sets old 0 (numbers x)) (sym f) ∙ over-sets old (play atStart noBodies 0 ps .entries) count
+
+  module _ (h : 0 < left) where
+    head : Head m (knownOf (v .bodies)) p left (v .others) (v .end)
+    head = head-of m (knownOf (v .bodies)) p left h (v .reads)
+
+    taken : Accepted (Header (knownOf (v .bodies))) (λ _ c. entryBits c) (bitsOf m) p (head .header) (head .next)
+    taken = header-exact (knownOf (v .bodies)) .sound (bitsOf m) p (rw (length-bitsOf m) (v .within .inside)) (head .first)
+
+    entry : EntryAt m p (head .header) (drop (head .next) (bitsOf m))
+    entry = record { inTable = header-entry (head .header) (taken .good .small); here = taken .here }
+
+    pub list-entry : SomeEntry m p
+    list-entry = record { entry = head .header; behind = drop (head .next) (bitsOf m); stands = entry }
+
+    module _ {cell : ℕ} {next : BitPlace} (k : (e : ℕ) (r : List Bool) → EntryAt m p e r → Passed p e cell (next .0)) where
+      same : head .header ≡ cell
+      same = sym (k (head .header) (drop (head .next) (bitsOf m)) entry .taken)
+
+      there : head .next ≡ next .0
+      there = taken .end ∙ sym (k (head .header) (drop (head .next) (bitsOf m)) entry .behind)
+
+      small : cell < 16384
+      small = rw (← same) (taken .good .small)
+
+      others : v .others ≡ pattern cell (head .body) ∷ head .others
+      others = head .patterns ∙ ap (λ (c : ℕ). pattern c (head .body) ∷ head .others) same
+
+      -- the pattern that was read
+      one : Pattern
+      one = pattern cell (head .body)
+
+      reads : bodyDue (specifier cell) (bitsOf m) (next .0) ≡ got (head .body) (head .behind)
+      reads = rw (← same, ← there) (head .second)
+
+      next-within : Within m (next .0)
+      next-within = record { inside = rw (← there, ← length-bitsOf m) (taken .inside); counted = v .within .counted }
+
+      stands : BodyAt m (next .0) (specifier cell) (head .body) (head .behind)
+      stands = record { within = next-within; short = omega arith; reads = reads }
+
+      read : Accepted (Body (specifier cell)) (λ _ b. tableBits b) (bitsOf m) (next .0) (head .body) (head .behind)
+      read = body-exact (specifier cell) .sound (bitsOf m) (next .0) (rw (length-bitsOf m) (next-within .inside)) reads
+
+      size : length (head .body) ≡ specifier cell
+      size = read .good .size
+
+      module _ {part : Part} (e : part ≡ partAfter (getD parts (partOf cell) Unknown) cell next) where
+        places : PartsAt m (set parts (partOf cell) part) (remember (v .bodies) one)
+        unfolding one
+        places = rw e (parts-kept m parts (v .bodies) cell next (head .body) (head .behind) (v .places) size stands)
+
+        sounding : PartAt m part (getD (remember (v .bodies) one) (partOf cell) unknown)
+        sounding =
+            let four : length parts ≡ 4 = parts-length m parts (v .bodies) (v .places) ∙ v .four in
+            subst (λ (p : Part). PartAt m p (getD (remember (v .bodies) one) (partOf cell) unknown)) (getD-set-same parts (partOf cell) part Unknown (omega arith))
+            (part-at m (set parts (partOf cell) part) (remember (v .bodies) one) places (partOf cell))
+
+        pub list-unknown : part ≡ Unknown → ⊥
+        unfolding one
+        list-unknown z =
+            unknown-there m part (getD (remember (v .bodies) one) (partOf cell) unknown) sounding z
+            (known-sounding (v .bodies) cell (head .body) (v .four) size (rw (← same) (taken .good .recall)))
+
+        module _ {from : BitPlace} {n : ℕ} (g : part ≡ Known from n) where
+          body : (q : ℕ) × BodyAt m (from .0) n (recalled (getD (remember (v .bodies) one) (partOf cell) unknown)) q
+          body = known-there m part (getD (remember (v .bodies) one) (partOf cell) unknown) sounding g
+
+          body-is : bodyIn m (from .0) n ≡ bodyOf (v .bodies) one
+          unfolding one
+          body-is = rw (body .1 .reads) (body-sounding (v .bodies) cell (head .body) (v .four))
+
+          pub list-body : BodyAt m (from .0) n (bodyIn m (from .0) n) (behindIn m (from .0) n)
+          list-body = record { within = body .1 .within; short = body .1 .short; reads = rw (body .1 .reads) refl }
+
+          -- a pattern's passes are the passes of its body
+          module _ {times : ℕ} (x : (times ≡ passesOf (loopOf cell)) × (1 ≤ times) × (times ≤ 15)) where
+            played : passes times (w .settings) (bodyIn m (from .0) n) ≡ patternPlayed (w .settings) (v .bodies) one
+            unfolding patternPlayed one
+            played = ap₂ (λ (y : ℕ) (b : List ℕ). passes y (w .settings) b) (x .0) body-is
+
+            -- there is room for them
+            pub list-fits : w .cells + 2 * (notes (bodyIn m (from .0) n) * times) ≤ length new
+            unfolding one
+            list-fits =
+                let e : entryCount noBodies ps ≡ length (v .done) + entryCount (v .bodies) (v .others) =
+                sym (list-count atStart noBodies 0 ps) ∙ ap length (v .goes) ∙ length-append (v .done) (play (w .settings) (v .bodies) (length (v .done)) (v .others) .entries)
+                ∙ ap (λ (y : ℕ). length (v .done) + y) (list-count (w .settings) (v .bodies) (length (v .done)) (v .others)) in
+                let f : notes (bodyIn m (from .0) n) * times ≡ notes (bodyOf (v .bodies) one) * passesOf (loopOf cell) = ap₂ (λ (b : List ℕ) (y : ℕ). notes b * y) body-is (x .0) in
+                omega (arith, ap (entryCount (v .bodies)) others, v .room, v .advanced .cells, list-same)
+
+            module _ {new′ lasts′ : List ℕ} {w′ : Walk} (a : Advanced (w .cells) (passes times (w .settings) (bodyIn m (from .0) n)) (behindIn m (from .0) n) new new′ lasts′ w′) where
+              d : Played
+              d = patternPlayed (w .settings) (v .bodies) one
+
+              both : Advanced 0 (ahead (v .done) d) (behindIn m (from .0) n) old new′ lasts′ w′
+              unfolding d
+              both = and-then (v .advanced) (subst (λ (y : Played). Advanced (w .cells) y (behindIn m (from .0) n) new new′ lasts′ w′) played a)
+
+              -- listing stops with a loop 15
+              pub list-ends : loopOf cell ≡ 15 → new′ ≡ over (numbers (play atStart noBodies 0 ps .entries)) old
+              unfolding d one
+              list-ends z =
+                  let f : play atStart noBodies 0 ps .entries ≡ v .done ++ d .entries =
+                  v .goes ∙ ap (λ (y : List Pattern). v .done ++ play (w .settings) (v .bodies) (length (v .done)) y .entries) others
+                  ∙ ap (λ (y : Listing). v .done ++ y .entries) (play-last (w .settings) (v .bodies) (length (v .done)) one (head .others) z) in
+                  both .list ∙ ap (λ (y : List Entry). sets old 0 (numbers y)) (sym f) ∙ over-sets old (play atStart noBodies 0 ps .entries) count
+
+              behind-is : {place′ : BitPlace} → place′ ≡ behindPattern cell next (w′ .at) → place′ .0 ≡ head .behind
+              unfolding bodyDue
+              behind-is z = ap (λ (y : BitPlace). y .0) z ∙ go (eqb (specifier cell) 0) refl
+                where
+                  go : (t : Bool) → eqb (specifier cell) 0 ≡ t → pick t next (w′ .at) .0 ≡ head .behind
+                  go true y =
+                      let r : got [] (next .0) ≡ got (head .body) (head .behind) = subst (λ (u : ℕ). bodyDue u (bitsOf m) (next .0) ≡ got (head .body) (head .behind)) (eqb-true (specifier cell) 0 y) reads in
+                      cc
+                  go false y =
+                      let r : Known next (specifier cell) ≡ Known from n = ap (λ (t : Bool). pick t (getD parts (partOf cell) Unknown) (Known next (specifier cell))) (sym y) ∙ sym e ∙ g in
+                      let e₁ : next ≡ from = cc in
+                      let e₂ : specifier cell ≡ n = cc in
+                      a .place ∙ ap₂ (λ (u : BitPlace) (c : ℕ). behindIn m (u .0) c) (sym e₁) (sym e₂) ∙ ap behindOr reads
+
+              pub list-on : {place′ : BitPlace} → (loopOf cell ≡ 15 → ⊥) → place′ ≡ behindPattern cell next (w′ .at) → ListWalk m ps old new′ lasts′ (set parts (partOf cell) part) (place′ .0) w′ (left - 1)
+              unfolding d one
+              list-on {place′} other z =
+                  let q = behind-is z in
+                  let s : d .after ≡ w′ .settings = sym (both .settings) in
+                  record {
+                    within = record { inside = rw (q, ← length-bitsOf m) (read .inside); counted = v .within .counted };
+                    bodies = remember (v .bodies) one;
+                    four = remember-length (v .bodies) one ∙ v .four;
+                    places = places;
+                    others = head .others;
+                    end = v .end;
+                    reads = rw q (ap (λ (u : List Bool). patternsDue (left - 1) u (bitsOf m) (head .behind)) (sym (ap (learn (knownOf (v .bodies))) same ∙ learn-read (v .bodies) cell (head .body) (ap (λ (x : ℕ). eqb x 0) size))) ∙ head .more);
+                    done = v .done ++ d .entries;
+                    advanced = record { settings = refl; ready = both .ready; place = refl; cells = both .cells; list = both .list };
+                    goes = v .goes ∙ ap (λ (y : List Pattern). v .done ++ play (w .settings) (v .bodies) (length (v .done)) y .entries) others
+                        ∙ ap (λ (y : Listing). v .done ++ y .entries) (play-one (w .settings) (v .bodies) (length (v .done)) one (head .others) other)
+                        ∙ sym (append-assoc (v .done) (d .entries) (play (d .after) (remember (v .bodies) one) (length (v .done) + length (d .entries)) (head .others) .entries))
+                        ∙ ap₂ (λ (u : Settings) (k : ℕ). (v .done ++ d .entries) ++ play u (remember (v .bodies) one) k (head .others) .entries) s (sym (length-append (v .done) (d .entries)));
+                    room = v .room;
+                  }
+
+-- the list keeps its length in a turn
+pub list-long : {m : List ℕ} {ps : List Pattern} {old new new′ lasts lasts′ : List ℕ} {parts : List Part} {p : ℕ} {w w′ : Walk} {left i q : ℕ} {d : Played} → ListWalk m ps old new lasts parts p w left → Advanced i d q new new′ lasts′ w′ → length new′ ≡ length old
+list-long v a = advanced-long a ∙ list-same v
+
+pub ruleset listings = (list-begins, list-same, list-four, list-long, list-done, list-entry, list-unknown, list-body, list-fits, list-ends, list-on)

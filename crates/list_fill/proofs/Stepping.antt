@@ -1,0 +1,182 @@
+-- One instruction is filled in.
+use Prim.Native.Nat.{ℕ, _+_, _-_, _*_, _/_, _%_, _^_, _≤_, _<_}
+use native.Mathlib.Omega.{arith}
+use native.Mathlib.Nat.{add-zero}
+use native.Mathlib.Numerals.{add-one}
+use mathlib.Core.Path.{_≡_, refl, sym, ap, _∙_}
+use mathlib.Core.List.{List}
+use lib.ListN.{length, getD, set, length-set}
+use lib.Pow.{shr-shr}
+use lib.Dec.{eqb, leb}
+use borrow.Author.Tests.{eq-eqb, ne-eqb, leb-true}
+use mir.Val.{Fits}
+use mir.Syntax.{w32}
+use Rattle.bits.specs.declared.BitPlace.{BitPlace}
+use Rattle.bits.proofs.Choice.{pick-elim}
+use Rattle.tone.specs.Table.{kind, payload, width, allowed, noteOf, durationOf, specifierOf, Instruction}
+use Rattle.tone.specs.Writing.{entryBits}
+use Rattle.tone.proofs.Rows.{length-entryBits}
+use Rattle.tone_elements.specs.Answers.{place, noteIn}
+use Rattle.list_rules.specs.declared.Settings.{Settings}
+use Rattle.list_fill.specs.declared.Walk.{Walk}
+use Rattle.list_rules.specs.Duration.{beats, units, microseconds}
+use Rattle.list_rules.specs.Sounding.{atStart, applied, sounded, packed}
+use Rattle.list_rules.specs.Ranges.{InRange}
+use Rattle.list_rules.specs.Playing.{step}
+use Rattle.list_rules.specs.Tempo.{lastsOf, baseOf}
+use Rattle.list_fill.specs.Filling.{entrySeen, Ready, Advanced}
+use Rattle.list_rules.proofs.Below.{both}
+use Rattle.list_rules.proofs.Bounds.{range-start, range-applied}
+use Rattle.list_rules.proofs.Durations.{lasts-exact}
+use Rattle.list_fill.proofs.Seeing.{seen-kind, seen-note, seen-entry, seen-small, width-some}
+
+-- ---- the start
+
+pub start-ready : {s : Settings} {b : ℕ} {lasts : List ℕ} (p : BitPlace) → s ≡ atStart → b ≡ baseOf s → lasts ≡ lastsOf (beats (s .tempo)) → Ready (record { settings = s; base = b; at = p; cells = 0 }) lasts
+start-ready p e f g = record { range = rw e range-start; based = f; tuned = g }
+
+pub start-range : {s : Settings} → s ≡ atStart → InRange s
+start-range e = rw e range-start
+
+pub start-tempo : {s : Settings} → s ≡ atStart → s .tempo ≤ 31
+start-tempo e = start-range e .tempo
+
+pub ruleset starts = (start-ready, start-range, start-tempo)
+
+-- ---- one instruction
+
+-- a note leaves the settings
+applied-note : (s : Settings) (e : ℕ) → kind e ≡ 1 → applied s e ≡ s
+unfolding applied
+applied-note s e h = rw h
+
+-- only a tempo changes the tempo
+applied-tempo : (s : Settings) (e : ℕ) → (kind e ≡ 4 → ⊥) → applied s e .tempo ≡ s .tempo
+unfolding applied
+applied-tempo s e h =
+    pick-elim (λ (r : Settings). r .tempo ≡ s .tempo) (eqb (kind e) 2) (λ _. refl) (λ _.
+    pick-elim (λ (r : Settings). r .tempo ≡ s .tempo) (eqb (kind e) 3) (λ _. refl) (λ _. rw (ne-eqb (kind e) 4 h) (
+    pick-elim (λ (r : Settings). r .tempo ≡ s .tempo) (eqb (kind e) 5) (λ _. refl) (λ _. refl))))
+
+-- a tempo changes nothing else
+applied-base : (s : Settings) (e : ℕ) → kind e ≡ 4 → baseOf (applied s e) ≡ baseOf s
+unfolding applied
+applied-base s e h = rw h
+
+-- a table that is ready has four numbers
+pub ready-four : {w : Walk} {lasts : List ℕ} → Ready w lasts → length lasts ≡ 4
+ready-four r = ap length (r .tuned)
+
+pub ready-same : {v w : Walk} {lasts lasts′ : List ℕ} → Ready v lasts → Ready w lasts′ → length lasts ≡ length lasts′
+ready-same r s = ready-four r ∙ sym (ready-four s)
+
+pub step-specifier : (n : ℕ) {w : Walk} {lasts : List ℕ} → Ready w lasts → n % 4 < length lasts
+step-specifier n r = omega (arith, ready-four r)
+
+pub step-kind : (x : ℕ) → Instruction (entrySeen x) → x / 2 ^ 61 ≤ 5
+step-kind x i = omega (arith, seen-kind x, i .inTable .known)
+
+-- the payload of a note, as the code takes it
+abbrev noteSeen : ℕ → ℕ
+noteSeen x = x / 2 ^ 52 % 512
+
+-- its parts, taken one by one
+pitch-seen : (x : ℕ) → x / 2 ^ 57 % 16 ≡ noteOf (noteSeen x)
+pitch-seen x = omega (arith, shr-shr x 52 5)
+
+duration-seen : (x : ℕ) → x / 2 ^ 54 % 8 ≡ durationOf (noteSeen x)
+duration-seen x = omega (arith, shr-shr x 52 2)
+
+specifier-seen : (x : ℕ) → x / 2 ^ 52 % 4 ≡ specifierOf (noteSeen x)
+specifier-seen x = omega arith
+
+-- a note
+module _ (x : ℕ) (h : x / 2 ^ 61 ≡ 1) where
+  note : kind (entrySeen x) ≡ 1
+  note = seen-kind x ∙ h
+
+  one-note : noteIn (entrySeen x) ≡ 1
+  one-note = rw (eq-eqb (kind (entrySeen x)) 1 note)
+
+  duration : Instruction (entrySeen x) → durationOf (noteSeen x) ≤ 5
+  unfolding allowed
+  duration i =
+      rw (← seen-note x h)
+      (leb-true (durationOf (payload (entrySeen x))) 5 (both (leb (noteOf (payload (entrySeen x))) 12) (leb (durationOf (payload (entrySeen x))) 5) (rw note at (i .inTable .code)) .1))
+
+  twelve : length (entryBits (entrySeen x)) ≡ 12
+  unfolding width
+  twelve = length-entryBits (entrySeen x) ∙ ap (λ (k : ℕ). 3 + width k) note
+
+  module _ (w : Walk) (old : List ℕ) (i : Instruction (entrySeen x) × (w .cells + 2 * noteIn (entrySeen x) ≤ length old)) where
+    pub step-first : w .cells < length old
+    step-first = omega (arith, i .1, one-note)
+
+    pub step-second : (v : ℕ) → w .cells + 1 < length (set old (w .cells) v)
+    step-second v = rw (length-set old (w .cells) v) (omega (arith, i .1, one-note))
+
+    pub step-note : {lasts : List ℕ} → Ready w lasts
+        → Advanced (w .cells) (step (w .settings) (entrySeen x)) (w .at .0 + length (entryBits (entrySeen x))) old
+        (set (set old (w .cells) (x / 2 ^ 57 % 16 * 1024 + w .base)) (w .cells + 1) (getD lasts (x / 2 ^ 52 % 4) 0 / 2 ^ (x / 2 ^ 54 % 8))) lasts
+        (record { settings = w .settings; base = w .base; at = place (w .at .0 + 12); cells = w .cells + 2 })
+    unfolding step sounded
+    step-note {lasts} r =
+        let b = beats (w .settings .tempo) in
+        let first : noteOf (noteSeen x) * 1024 + w .base ≡ packed (sounded (w .settings) (payload (entrySeen x))) = omega (arith, r .based, seen-note x h) in
+        let second : getD lasts (specifierOf (noteSeen x)) 0 / 2 ^ durationOf (noteSeen x) ≡ sounded (w .settings) (payload (entrySeen x)) .microseconds =
+        ap (λ (l : List ℕ). getD l (specifierOf (noteSeen x)) 0 / 2 ^ durationOf (noteSeen x)) (r .tuned) ∙ lasts-exact (durationOf (noteSeen x)) (specifierOf (noteSeen x)) b (duration (i .0)) (omega arith)
+        ∙ ap (λ (y : ℕ). microseconds (units (durationOf y) (specifierOf y)) b) (sym (seen-note x h)) in
+        record {
+          settings = sym (applied-note (w .settings) (entrySeen x) note);
+          ready = record { range = r .range; based = r .based; tuned = r .tuned };
+          place = ap (λ (n : ℕ). w .at .0 + n) (sym twelve);
+          cells = rw (eq-eqb (kind (entrySeen x)) 1 note) refl;
+          list = rw (pitch-seen x, duration-seen x, specifier-seen x, eq-eqb (kind (entrySeen x)) 1 note, first, second, add-one (w .cells)) refl;
+        }
+
+-- any other
+abbrev restSeen : ℕ → ℕ → ℕ
+restSeen x n = x * 2 ^ 3 % 2 ^ 64 / 2 ^ (64 - n)
+
+pub step-shift : (x : ℕ) {n : ℕ} → Instruction (entrySeen x) → (n ≡ width (x / 2 ^ 61)) × (n ≤ 14) → 64 - n < 64
+step-shift x i b = omega (arith, b .0, width-some (x / 2 ^ 61) (step-kind x i))
+
+pub step-cast : (x : ℕ) {n : ℕ} → n ≤ 14 → Fits w32 (restSeen x n)
+step-cast x b = record { fits = omega (arith, seen-small x b) }
+
+pub step-sum : (x : ℕ) {n : ℕ} → n ≤ 14 → Instruction (entrySeen x) → Fits w32 (x / 2 ^ 61 * 65536 + restSeen x n)
+step-sum x b i = record { fits = omega (arith, seen-small x b, step-kind x i) }
+
+module _ {w : Walk} (x : ℕ) {n : ℕ} {s : Settings} (after : s ≡ applied (w .settings) (x / 2 ^ 61 * 65536 + restSeen x n)) (b : (n ≡ width (x / 2 ^ 61)) × (n ≤ 14)) (i : Instruction (entrySeen x)) {lasts : List ℕ} (r : Ready w lasts) where
+  same : s ≡ applied (w .settings) (entrySeen x)
+  same = after ∙ ap (applied (w .settings)) (seen-entry x b)
+
+  pub step-range : InRange s
+  step-range = rw same (range-applied (w .settings) (entrySeen x) (r .range) i)
+
+  pub step-slow : s .tempo ≤ 31
+  step-slow = step-range .tempo
+
+  module _ (h : x / 2 ^ 61 ≡ 1 → ⊥) (old : List ℕ) where
+    moved : {c : ℕ} {lasts′ : List ℕ} → c ≡ baseOf s → lasts′ ≡ lastsOf (beats (s .tempo))
+        → Advanced (w .cells) (step (w .settings) (entrySeen x)) (w .at .0 + length (entryBits (entrySeen x))) old old lasts′ (record { settings = s; base = c; at = place (w .at .0 + 3 + n); cells = w .cells })
+    unfolding step
+    moved f g =
+        let other : kind (entrySeen x) ≡ 1 → ⊥ = λ z. h (sym (seen-kind x) ∙ z) in
+        record {
+          settings = same;
+          ready = record { range = step-range; based = f; tuned = g };
+          place = omega (arith, length-entryBits (entrySeen x), ap width (seen-kind x), b .0);
+          cells = rw (ne-eqb (kind (entrySeen x)) 1 other) (sym (add-zero (w .cells)));
+          list = rw (ne-eqb (kind (entrySeen x)) 1 other) refl;
+        }
+
+    pub step-tempo : {lasts′ : List ℕ} → x / 2 ^ 61 ≡ 4 → lasts′ ≡ lastsOf (beats (s .tempo))
+        → Advanced (w .cells) (step (w .settings) (entrySeen x)) (w .at .0 + length (entryBits (entrySeen x))) old old lasts′ (record { settings = s; base = w .base; at = place (w .at .0 + 3 + n); cells = w .cells })
+    step-tempo z g = moved (r .based ∙ sym (ap baseOf same ∙ applied-base (w .settings) (entrySeen x) (seen-kind x ∙ z))) g
+
+    pub step-other : {c : ℕ} → (x / 2 ^ 61 ≡ 4 → ⊥) → c ≡ baseOf s
+        → Advanced (w .cells) (step (w .settings) (entrySeen x)) (w .at .0 + length (entryBits (entrySeen x))) old old lasts (record { settings = s; base = c; at = place (w .at .0 + 3 + n); cells = w .cells })
+    step-other z f = moved f (r .tuned ∙ ap (λ (t : ℕ). lastsOf (beats t)) (sym (ap (λ (t : Settings). t .tempo) same ∙ applied-tempo (w .settings) (entrySeen x) (λ y. z (sym (seen-kind x) ∙ y)))))
+
+pub ruleset steps = (ready-four, ready-same, step-specifier, step-kind, step-first, step-second, step-note, step-shift, step-cast, step-sum, step-range, step-slow, step-tempo, step-other)

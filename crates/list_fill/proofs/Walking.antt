@@ -1,0 +1,366 @@
+-- The list is filled, one pass at a time.
+use Prim.Native.Nat.{ℕ, zero, suc, _+_, _-_, _*_, _%_, _^_, _≤_, _<_}
+use native.Mathlib.Omega.{arith}
+use native.Mathlib.Nat.{add-zero, mul-suc}
+use mathlib.Core.Path.{_≡_, refl, sym, ap, ap₂, subst, _∙_}
+use mathlib.Core.List.{List, [], _∷_, _++_, append-assoc, append-nil}
+use lib.ListN.{length, set, drop, length-append}
+use lib.Seq.{sets, length-sets, drop-drop}
+use Rattle.bits.specs.Bits.{bitsOf}
+use Rattle.bits.specs.Window.{Sight}
+use Rattle.bits.specs.declared.BitPlace.{BitPlace}
+use Rattle.bits.proofs.Octets.{length-bitsOf}
+use Rattle.bits.proofs.Looking.{length-left, sight-on}
+use Rattle.tone.specs.Table.{kind, width, Instruction}
+use Rattle.tone.specs.Reading.{Got, got, bad, onward, instructionDue, bodyDue}
+use Rattle.tone.specs.Writing.{entryBits}
+use Rattle.tone.proofs.Exact.{Accepted}
+use Rattle.tone.proofs.Rows.{length-entryBits, instruction-exact, body-exact}
+use Rattle.tone_elements.specs.Answers.{noteIn, notes}
+use Rattle.list_rules.specs.declared.Settings.{Settings}
+use Rattle.list_rules.specs.declared.Entry.{Entry}
+use Rattle.list_fill.specs.declared.Walk.{Walk}
+use Rattle.list_rules.specs.Sounding.{numbers}
+use Rattle.list_rules.specs.Playing.{Played, ahead, step, pass, passes}
+use Rattle.list_fill.specs.Filling.{entrySeen, Ready, Advanced}
+use Rattle.tone_elements.specs.Standing.{bodyIn, behindIn, BodyAt}
+use Rattle.list_rules.proofs.Packing.{length-numbers, numbers-append}
+use Rattle.list_rules.proofs.Counts.{pass-count, passes-count}
+use Rattle.list_fill.proofs.Stepping.{ready-same}
+use Rattle.tone_elements.proofs.Seeing.{instruction-width}
+use Rattle.tone_elements.proofs.Walks.{notes-more}
+use Rattle.list_fill.proofs.Seeing.{seen-is}
+
+-- ---- one thing after another
+
+sets-append : (l : List ℕ) (i : ℕ) (a b : List ℕ) → sets (sets l i a) (i + length a) b ≡ sets l i (a ++ b)
+sets-append l i [] b = ap (λ (n : ℕ). sets l n b) (add-zero i)
+sets-append l i (v ∷ a) b =
+    let e : i + suc (length a) ≡ suc i + length a = omega arith in
+    ap (λ (n : ℕ). sets (sets (set l i v) (suc i) a) n b) e ∙ sets-append (set l i v) (suc i) a b
+
+nothing-yet : (w : Walk) (old lasts : List ℕ) → Ready w lasts → Advanced (w .cells) (record { entries = []; after = w .settings }) (w .at .0) old old lasts w
+nothing-yet w old lasts h = record { settings = refl; ready = h; place = refl; cells = sym (add-zero (w .cells)); list = refl }
+
+-- what is played next is written next
+pub and-then : {i : ℕ} {d f : Played} {q q′ : ℕ} {old mid new lasts lasts′ : List ℕ} {w w′ : Walk} → Advanced i d q old mid lasts w → Advanced (w .cells) f q′ mid new lasts′ w′ → Advanced i (ahead (d .entries) f) q′ old new lasts′ w′
+and-then {i} {d} {f} {old = old} {w = w} a b =
+    let k = length-append (d .entries) (f .entries) in
+    let n : i + length (numbers (d .entries)) ≡ w .cells = ap (λ (x : ℕ). i + x) (length-numbers (d .entries)) ∙ sym (a .cells) in
+    record {
+      settings = b .settings;
+      ready = b .ready;
+      place = b .place;
+      cells = omega (arith, a .cells, b .cells);
+      list = b .list ∙ ap₂ (λ (l : List ℕ) (x : ℕ). sets l x (numbers (f .entries))) (a .list) (sym n)
+          ∙ sets-append old i (numbers (d .entries)) (numbers (f .entries)) ∙ ap (sets old i) (sym (numbers-append (d .entries) (f .entries)));
+    }
+
+-- the list keeps its length
+pub advanced-long : {i : ℕ} {d : Played} {q : ℕ} {old new lasts : List ℕ} {w : Walk} → Advanced i d q old new lasts w → length new ≡ length old
+advanced-long {i} {d} {old = old} a = ap length (a .list) ∙ length-sets old i (numbers (d .entries))
+
+ahead-twice : (a b : List Entry) (d : Played) → ahead a (ahead b d) ≡ ahead (a ++ b) d
+ahead-twice a b d = λ i. record { entries = sym (append-assoc a b (d .entries)) i; after = d .after }
+
+-- with nothing more to play
+all-played : {i : ℕ} {d f : Played} {q q′ : ℕ} {old new lasts : List ℕ} {w : Walk} → Advanced i d q old new lasts w → f ≡ ahead (d .entries) (record { entries = []; after = w .settings }) → q ≡ q′ → Advanced i f q′ old new lasts w
+all-played {i} {d} {old = old} a e z =
+    let n = append-nil (d .entries) in
+    rw e (record {
+      settings = refl;
+      ready = a .ready;
+      place = a .place ∙ z;
+      cells = a .cells ∙ ap (λ (rs : List Entry). i + 2 * length rs) (sym n);
+      list = a .list ∙ ap (λ (rs : List Entry). sets old i (numbers rs)) (sym n);
+    })
+
+here-now : {i : ℕ} {d : Played} {q : ℕ} {old new lasts : List ℕ} {w : Walk} → Advanced i d q old new lasts w → Advanced i d (w .at .0) old new lasts w
+here-now a = record { settings = a .settings; ready = a .ready; place = refl; cells = a .cells; list = a .list }
+
+-- ---- the instructions of a body
+
+-- the first of some instructions that stand at a place
+record Head (m : List ℕ) (p left : ℕ) (b : List ℕ) (q : ℕ) : Type 0 where
+  entry : ℕ
+  others : List ℕ
+  behind : ℕ
+  body : b ≡ entry ∷ others
+  first : instructionDue (bitsOf m) p ≡ got entry behind
+  more : bodyDue (left - 1) (bitsOf m) behind ≡ got others q
+
+head-of : (m : List ℕ) (p left : ℕ) {b : List ℕ} {q : ℕ} → 0 < left → bodyDue left (bitsOf m) p ≡ got b q → Head m p left b q
+unfolding bodyDue
+head-of m p left {b} {q} h e =
+    let one-less : left ≡ suc (left - 1) = omega arith in
+    first (instructionDue (bitsOf m) p) refl (subst (λ (x : ℕ). bodyDue x (bitsOf m) p ≡ got b q) one-less e)
+  where
+    then : (c p′ : ℕ) → instructionDue (bitsOf m) p ≡ got c p′ → (y : Got (List ℕ)) → bodyDue (left - 1) (bitsOf m) p′ ≡ y → onward y (λ t r. got (c ∷ t) r) bad ≡ got b q → Head m p left b q
+    then c p′ i (got t r) j z = let e : r ≡ q = cc in record { entry = c; others = t; behind = p′; body = cc; first = i; more = j ∙ ap (λ (x : ℕ). got t x) e }
+    then c p′ i (bad n r s) j z = let y : _≡_ {A = ℕ} 0 1 = cc in absurd (omega arith)
+
+    first : (x : Got ℕ) → instructionDue (bitsOf m) p ≡ x → onward x (λ c p′. onward (bodyDue (left - 1) (bitsOf m) p′) (λ t r. got (c ∷ t) r) bad) bad ≡ got b q → Head m p left b q
+    first (got c p′) i z = then c p′ i (bodyDue (left - 1) (bitsOf m) p′) refl z
+    first (bad n r s) i z = let y : _≡_ {A = ℕ} 0 1 = cc in absurd (omega arith)
+
+-- the first k of some instructions that stand at a place
+record Split (m : List ℕ) (p k left : ℕ) (b : List ℕ) (q : ℕ) : Type 0 where
+  front : List ℕ
+  others : List ℕ
+  behind : ℕ
+  body : b ≡ front ++ others
+  first : bodyDue k (bitsOf m) p ≡ got front behind
+  more : bodyDue (left - k) (bitsOf m) behind ≡ got others q
+
+-- one instruction more
+split-more : {m : List ℕ} {k p left : ℕ} {b : List ℕ} {q : ℕ} (f : Head m p left b q) → Split m (f .behind) k (left - 1) (f .others) q → Split m p (suc k) left b q
+unfolding bodyDue
+split-more {m} {k} {left = left} {q = q} f t =
+    let n : left - 1 - k ≡ left - suc k = omega arith in
+    record {
+      front = f .entry ∷ t .front;
+      others = t .others;
+      behind = t .behind;
+      body = f .body ∙ ap (λ (l : List ℕ). f .entry ∷ l) (t .body);
+      first = rw (f .first, t .first) refl;
+      more = subst (λ (x : ℕ). bodyDue x (bitsOf m) (t .behind) ≡ got (t .others) q) n (t .more);
+    }
+
+split-of : (m : List ℕ) (k p left : ℕ) {b : List ℕ} {q : ℕ} → k ≤ left → bodyDue left (bitsOf m) p ≡ got b q → Split m p k left b q
+unfolding bodyDue
+split-of m zero p left {b} {q} h e =
+    let n : left ≡ left - 0 = omega arith in
+    record { front = []; others = b; behind = p; body = refl; first = refl; more = subst (λ (x : ℕ). bodyDue x (bitsOf m) p ≡ got b q) n e }
+split-of m (suc k) p left h e = let f = head-of m p left (omega arith) e in split-more f (split-of m k (f .behind) (left - 1) (omega arith) (f .more))
+
+-- two bodies on end are played on end
+pass-append : (s : Settings) (a b : List ℕ) → pass s (a ++ b) ≡ ahead (pass s a .entries) (pass (pass s a .after) b)
+pass-append s [] b = refl
+pass-append s (e ∷ a) b =
+    let d = step s e in
+    ap (ahead (d .entries)) (pass-append (d .after) a b) ∙ ahead-twice (d .entries) (pass (d .after) a .entries) (pass (pass (d .after) a .after) b)
+
+-- ---- one pass
+
+-- with `left` instructions to come at the walk's place, of the body b that began behind the first i cells with the settings s
+pub record PassWalk (m : List ℕ) (s : Settings) (b : List ℕ) (i q : ℕ) (old new lasts : List ℕ) (w : Walk) (left : ℕ) : Type 0 where
+  pub done : Played
+  pub others : List ℕ
+  pub stands : BodyAt m (w .at .0) left others q
+  pub advanced : Advanced i done (w .at .0) old new lasts w
+  pub goes : pass s b ≡ ahead (done .entries) (pass (w .settings) others)
+  pub room : i + 2 * notes b ≤ length old
+
+begins : {m : List ℕ} {b : List ℕ} {q n : ℕ} {old lasts : List ℕ} (w : Walk) → Ready w lasts → BodyAt m (w .at .0) n b q → w .cells + 2 * notes b ≤ length old
+    → PassWalk m (w .settings) b (w .cells) q old old lasts w n
+begins {b = b} {old = old} {lasts} w r h k = record { done = record { entries = []; after = w .settings }; others = b; stands = h; advanced = nothing-yet w old lasts r; goes = refl; room = k }
+
+pub pass-begins : {m : List ℕ} {b : List ℕ} {q n : ℕ} {old lasts : List ℕ} (w : Walk) (from : BitPlace) → Ready w lasts → BodyAt m (from .0) n b q → w .cells + 2 * notes b ≤ length old
+    → PassWalk m (w .settings) b (w .cells) q old old lasts (record { settings = w .settings; base = w .base; at = from; cells = w .cells }) n
+pass-begins w from r h k = begins (record { settings = w .settings; base = w .base; at = from; cells = w .cells }) (record { range = r .range; based = r .based; tuned = r .tuned }) h k
+
+module _ {m : List ℕ} {s : Settings} {b : List ℕ} {i q : ℕ} {old new lasts : List ℕ} {w : Walk} {left : ℕ} (v : PassWalk m s b i q old new lasts w left) where
+  pub pass-long : length new ≡ length old
+  pass-long = advanced-long (v .advanced)
+
+  -- there is room for what is left
+  left-room : w .cells + 2 * notes (v .others) ≤ length new
+  left-room =
+      let n : notes b ≡ length (v .done .entries) + notes (v .others) =
+      sym (pass-count s b) ∙ ap (λ (d : Played). length (d .entries)) (v .goes) ∙ length-append (v .done .entries) (pass (w .settings) (v .others) .entries)
+      ∙ ap (λ (x : ℕ). length (v .done .entries) + x) (pass-count (w .settings) (v .others)) in
+      omega (arith, v .advanced .cells, v .room, pass-long)
+
+  -- what is played next, and what is left then
+  go-on : {d : Played} {p n : ℕ} {rest : List ℕ} {new′ lasts′ : List ℕ} {w′ : Walk} → Advanced (w .cells) d p new new′ lasts′ w′ → pass (w .settings) (v .others) ≡ ahead (d .entries) (pass (d .after) rest)
+      → bodyDue n (bitsOf m) p ≡ got rest q → p ≤ length (bitsOf m) → n ≤ 255 → PassWalk m s b i q old new′ lasts′ w′ n
+  go-on {d} {rest = rest} a e more inside short = record {
+    done = ahead (v .done .entries) d;
+    others = rest;
+    stands = record {
+      within = record { inside = rw (a .place, ← length-bitsOf m) inside; counted = v .stands .within .counted };
+      short = short;
+      reads = rw (a .place) more;
+    };
+    advanced = here-now (and-then (v .advanced) a);
+    goes = v .goes ∙ ap (ahead (v .done .entries)) e ∙ ahead-twice (v .done .entries) (d .entries) (pass (d .after) rest)
+        ∙ ap (λ (r : Settings). ahead (v .done .entries ++ d .entries) (pass r rest)) (sym (a .settings));
+    room = v .room;
+  }
+
+  -- k instructions at once
+  module _ {k : ℕ} (h : (0 < k) × (k ≤ 4) × (k ≤ left)) where
+    split : Split m (w .at .0) k left (v .others) q
+    split = split-of m k (w .at .0) left (h .2) (v .stands .reads)
+
+    front : bodyIn m (w .at .0) k ≡ split .front
+    front = rw (split .first) refl
+
+    behind : behindIn m (w .at .0) k ≡ split .behind
+    behind = rw (split .first) refl
+
+    pub pass-few : BodyAt m (w .at .0) k (bodyIn m (w .at .0) k) (behindIn m (w .at .0) k)
+    pass-few = record { within = v .stands .within; short = omega (arith, h .1); reads = rw (split .first) refl }
+
+    pub pass-fits : w .cells + 2 * notes (bodyIn m (w .at .0) k) ≤ length new
+    pass-fits = omega (arith, left-room, ap notes (split .body) ∙ notes-more (split .front) (split .others), ap notes front)
+
+    pub pass-on : {new′ lasts′ : List ℕ} {w′ : Walk} → Advanced (w .cells) (pass (w .settings) (bodyIn m (w .at .0) k)) (behindIn m (w .at .0) k) new new′ lasts′ w′
+        → PassWalk m s b i q old new′ lasts′ w′ (left - k)
+    pass-on a =
+        let read = body-exact k .sound (bitsOf m) (w .at .0) (rw (length-bitsOf m) (v .stands .within .inside)) (split .first) in
+        go-on {rest = split .others} a (ap (pass (w .settings)) (split .body) ∙ pass-append (w .settings) (split .front) (split .others) ∙ ap (λ (x : List ℕ). ahead (pass (w .settings) x .entries) (pass (pass (w .settings) x .after) (split .others))) (sym front))
+        (rw behind (split .more)) (rw behind (read .inside)) (omega (arith, v .stands .short))
+
+pub pass-done : {m : List ℕ} {s : Settings} {b : List ℕ} {i q : ℕ} {old new lasts : List ℕ} {w : Walk} {left : ℕ} → PassWalk m s b i q old new lasts w left → left ≤ 0 → Advanced i (pass s b) q old new lasts w
+unfolding bodyDue
+pass-done {m} {s} {b} {q = q} {w = w} {left} v h =
+    let z : left ≡ 0 = omega arith in
+    let e : got [] (w .at .0) ≡ got (v .others) q = subst (λ (x : ℕ). bodyDue x (bitsOf m) (w .at .0) ≡ got (v .others) q) z (v .stands .reads) in
+    let e₁ : v .others ≡ [] = cc in
+    let e₂ : w .at .0 ≡ q = cc in
+    all-played (v .advanced) (v .goes ∙ ap (λ (x : List ℕ). ahead (v .done .entries) (pass (w .settings) x)) e₁) e₂
+
+pub ruleset passings = (ready-same, pass-begins, pass-long, pass-few, pass-fits, pass-on, pass-done)
+
+-- ---- some instructions in one sight
+
+-- the same within one sight, that was taken at a place: an instruction has at most 12 bits, and four have 48 of its 57
+pub record FewWalk (m : List ℕ) (s : Settings) (b : List ℕ) (at i q : ℕ) (old new lasts : List ℕ) (w : Walk) (left : ℕ) : Type 0 where
+  pub walked : PassWalk m s b i q old new lasts w left
+  pub behind : at ≤ w .at .0
+  pub near : w .at .0 + 12 * left ≤ at + 48
+
+pub few-begins : {m : List ℕ} {b : List ℕ} {q n : ℕ} {old lasts : List ℕ} (w : Walk) → Ready w lasts × (n ≤ 4) → BodyAt m (w .at .0) n b q → w .cells + 2 * notes b ≤ length old
+    → FewWalk m (w .settings) b (w .at .0) (w .cells) q old old lasts w n
+few-begins w r h k = record { walked = begins w (r .0) h k; behind = omega arith; near = omega (arith, r .1) }
+
+module _ {m : List ℕ} {s : Settings} {b : List ℕ} {at i q : ℕ} {old new lasts : List ℕ} {w : Walk} {left : ℕ} (f : FewWalk m s b at i q old new lasts w left) where
+  pub few-ready : Ready w lasts
+  few-ready = f .walked .advanced .ready
+
+  pub few-long : length new ≡ length old
+  few-long = pass-long (f .walked)
+
+  module _ (h : 0 < left) where
+    pub few-back : at ≤ w .at .0
+    few-back = f .behind
+
+    pub few-near : w .at .0 - at ≤ 36
+    few-near = omega (arith, f .behind, f .near)
+
+    -- the place can be counted
+    pub few-place : w .at .0 < 2 ^ 63
+    few-place = let r = f .walked .stands .within in omega (arith, r .inside, r .counted)
+
+    head : Head m (w .at .0) left (f .walked .others) q
+    head = head-of m (w .at .0) left h (f .walked .stands .reads)
+
+    taken : Accepted Instruction (λ _ e. entryBits e) (bitsOf m) (w .at .0) (head .entry) (head .behind)
+    taken = instruction-exact .sound (bitsOf m) (w .at .0) (rw (length-bitsOf m) (f .walked .stands .within .inside)) (head .first)
+
+    short : width (kind (head .entry)) ≤ 9
+    short = instruction-width (kind (head .entry)) (taken .good .some)
+
+    module _ {x : ℕ} (sight : Sight 57 (drop at (bitsOf m)) x) where
+      -- the sight from the walk's place on
+      abbrev y : ℕ
+      y = x * 2 ^ (w .at .0 - at) % 2 ^ 64
+
+      same : entrySeen y ≡ head .entry
+      same =
+          let k = w .at .0 - at in
+          let n : at + k ≡ w .at .0 = omega (arith, f .behind) in
+          let l : k ≤ length (drop at (bitsOf m)) = rw (length-left m at) (omega (arith, f .walked .stands .within .inside)) in
+          let o = sight-on sight (omega arith) (omega (arith, f .near)) l in
+          seen-is (drop (head .behind) (bitsOf m)) (head .entry) (taken .good .inTable) (drop-drop k at (bitsOf m) ∙ ap (λ (z : ℕ). drop z (bitsOf m)) n ∙ taken .here) (omega (arith, short, f .near)) o
+
+      pub few-instruction : Instruction (entrySeen y)
+      few-instruction = rw same (taken .good)
+
+      pub few-room : w .cells + 2 * noteIn (entrySeen y) ≤ length new
+      few-room = omega (arith, left-room (f .walked), ap notes (head .body), ap noteIn same)
+
+      pub few-on : {new′ lasts′ : List ℕ} {w′ : Walk} → Advanced (w .cells) (step (w .settings) (entrySeen y)) (w .at .0 + length (entryBits (entrySeen y))) new new′ lasts′ w′
+          → FewWalk m s b at i q old new′ lasts′ w′ (left - 1)
+      unfolding step
+      few-on {new′} {lasts′} {w′} a =
+          let z : w .at .0 + length (entryBits (entrySeen y)) ≡ head .behind = ap (λ (c : ℕ). w .at .0 + length (entryBits c)) same ∙ sym (taken .end) in
+          let l = length-entryBits (head .entry) in
+          let d : Advanced (w .cells) (step (w .settings) (head .entry)) (head .behind) new new′ lasts′ w′ =
+          subst (λ (c : ℕ). Advanced (w .cells) (step (w .settings) c) (head .behind) new new′ lasts′ w′) same (subst (λ (p : ℕ). Advanced (w .cells) (step (w .settings) (entrySeen y)) p new new′ lasts′ w′) z a) in
+          record {
+            walked = go-on (f .walked) d (ap (pass (w .settings)) (head .body)) (head .more) (taken .inside) (omega (arith, f .walked .stands .short));
+            behind = omega (arith, f .behind, d .place, taken .end);
+            near = omega (arith, f .near, d .place, taken .end, l, short);
+          }
+
+  pub few-done : left ≤ 0 → Advanced i (pass s b) q old new lasts w
+  few-done h = pass-done (f .walked) h
+
+pub ruleset seeings = (ready-same, few-begins, few-ready, few-long, few-back, few-near, few-place, few-instruction, few-room, few-on, few-done)
+
+-- ---- so many passes
+
+-- with `left` of so many passes to come, of a body b that began behind the first i cells with the settings s
+pub record TimesWalk (s : Settings) (b : List ℕ) (i q : ℕ) (old new lasts : List ℕ) (w : Walk) (times left : ℕ) : Type 0 where
+  pub done : Played
+  pub advanced : Advanced i done q old new lasts w
+  pub goes : passes times s b ≡ ahead (done .entries) (passes left (w .settings) b)
+  pub room : i + 2 * (notes b * times) ≤ length old
+
+one-pass-more : (times : ℕ) (s : Settings) (b : List ℕ) → 1 ≤ times → passes times s b ≡ ahead (pass s b .entries) (passes (times - 1) (pass s b .after) b)
+one-pass-more times s b h = let e : times ≡ suc (times - 1) = omega arith in ap (λ (n : ℕ). passes n s b) e
+
+one-time-more : (k times : ℕ) → 1 ≤ times → k * times ≡ k + k * (times - 1)
+one-time-more k times h = let e : times ≡ suc (times - 1) = omega arith in ap (λ (n : ℕ). k * n) e ∙ mul-suc k (times - 1) ∙ omega arith
+
+-- a pass fits where so many do
+pub times-fit : (k i n : ℕ) {times : ℕ} → (1 ≤ times) × (times ≤ 15) × (i + 2 * (k * times) ≤ n) → i + 2 * k ≤ n
+times-fit k i n {times} h = omega (arith, one-time-more k times (h .0), h .2)
+
+-- the first pass
+pub times-begins : (s : Settings) (b : List ℕ) {i q : ℕ} {old new lasts : List ℕ} {w : Walk} {times : ℕ} → Advanced i (pass s b) q old new lasts w → (1 ≤ times) × (times ≤ 15) × (i + 2 * (notes b * times) ≤ length old)
+    → TimesWalk (w .settings) b (w .cells) q new new lasts w (times - 1) (times - 1)
+times-begins s b {i} {q} {old} {new} {lasts} {w} {times} a h = record {
+  done = record { entries = []; after = w .settings };
+  advanced = record { settings = refl; ready = a .ready; place = a .place; cells = sym (add-zero (w .cells)); list = refl };
+  goes = refl;
+  room = omega (arith, one-time-more (notes b) times (h .0), h .2, a .cells, pass-count s b, advanced-long a);
+}
+
+module _ {s : Settings} {b : List ℕ} {i q : ℕ} {old new lasts : List ℕ} {w : Walk} {times left : ℕ} (v : TimesWalk s b i q old new lasts w times left) where
+  times-long : length new ≡ length old
+  times-long = advanced-long (v .advanced)
+
+  module _ (h : 0 < left) where
+    pub times-room : w .cells + 2 * notes b ≤ length new
+    times-room =
+        let n : notes b * times ≡ length (v .done .entries) + notes b * left =
+        sym (passes-count times s b) ∙ ap (λ (d : Played). length (d .entries)) (v .goes) ∙ length-append (v .done .entries) (passes left (w .settings) b .entries)
+        ∙ ap (λ (x : ℕ). length (v .done .entries) + x) (passes-count left (w .settings) b) in
+        omega (arith, one-time-more (notes b) left h, v .advanced .cells, v .room, times-long)
+
+    pub times-on : {new′ lasts′ : List ℕ} {w′ : Walk} → Advanced (w .cells) (pass (w .settings) b) q new new′ lasts′ w′ → TimesWalk s b i q old new′ lasts′ w′ times (left - 1)
+    times-on a = record {
+      done = ahead (v .done .entries) (pass (w .settings) b);
+      advanced = and-then (v .advanced) a;
+      goes = v .goes ∙ ap (ahead (v .done .entries)) (one-pass-more left (w .settings) b h)
+          ∙ ahead-twice (v .done .entries) (pass (w .settings) b .entries) (passes (left - 1) (pass (w .settings) b .after) b)
+          ∙ ap (λ (r : Settings). ahead (v .done .entries ++ pass (w .settings) b .entries) (passes (left - 1) r b)) (sym (a .settings));
+      room = v .room;
+    }
+
+-- the list keeps its length
+pub times-same : {s′ : Settings} {d : Played} {b : List ℕ} {i i′ q q′ : ℕ} {old mid new lasts lasts′ : List ℕ} {w w′ : Walk} {times left : ℕ} → Advanced i d q old mid lasts w → TimesWalk s′ b i′ q′ mid new lasts′ w′ times left → length new ≡ length old
+times-same a v = times-long v ∙ advanced-long a
+
+pub times-done : (s : Settings) (b : List ℕ) {i q : ℕ} {old mid new lasts lasts′ : List ℕ} {w w′ : Walk} {times left : ℕ} → 1 ≤ times → Advanced i (pass s b) q old mid lasts w
+    → TimesWalk (w .settings) b (w .cells) q mid new lasts′ w′ (times - 1) left → left ≤ 0 → Advanced i (passes times s b) q old new lasts′ w′
+times-done s b {i} {q} {old} {mid} {new} {lasts} {lasts′} {w} {w′} {times} {left} h a v l =
+    let z : left ≡ 0 = omega arith in
+    let e = v .goes ∙ ap (λ (n : ℕ). ahead (v .done .entries) (passes n (w′ .settings) b)) z in
+    let rest = all-played (v .advanced) e refl in
+    subst (λ (d : Played). Advanced i d q old new lasts′ w′) (sym (one-pass-more times s b h ∙ ap (λ (r : Settings). ahead (pass s b .entries) (passes (times - 1) r b)) (sym (a .settings)))) (and-then a rest)
+
+pub ruleset timings = (ready-same, times-fit, times-begins, times-room, times-on, times-same, times-done)

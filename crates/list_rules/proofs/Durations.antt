@@ -1,0 +1,180 @@
+-- Durations are whole units, and none is longer than 16.8 seconds.
+use Prim.Native.Nat.{ℕ, zero, suc, _+_, _-_, _*_, _/_, _%_, _^_, _≤_, _<_}
+use native.Mathlib.Omega.{arith}
+use native.Mathlib.Nat.{add-zero, mul-add, add-mul, mul-assoc, mul-right-comm, mul-le-mul, lt-of-le-of-lt, mod-lt, div-le-self, div-le-of-le-mul, div-eq-of-lt, div-add-mod', mul-add-div, mul-div-mul-right, div-div-eq-div-mul}
+use mathlib.Core.Path.{_≡_, refl, sym, ap, ap₂, _∙_}
+use mathlib.Core.List.{List, [], _∷_}
+use lib.ListN.{length, getD, set}
+use lib.Pow.{pow-pos}
+use lib.Dec.{leb, eqb, lit<}
+use mir.Val.{Fits}
+use mir.Syntax.{w32, w64}
+use borrow.Author.Tests.{leb-true}
+use Rattle.bits.proofs.Choice.{pick-elim}
+use Rattle.list_rules.specs.Duration.{beats, plainUnits, units, microseconds}
+use Rattle.list_rules.specs.Tempo.{paceOf, lastsOf}
+use Rattle.list_rules.proofs.Below.{at-each, same-each}
+
+-- ---- whole units
+
+-- each duration code halves a full note, and nothing is lost
+pub halves-whole : (d : ℕ) → d ≤ 5 → plainUnits d * 2 ^ d ≡ 384
+halves-whole d h = same-each (λ k. plainUnits k * 2 ^ k) (λ k. 384) 6 refl d (omega arith)
+
+-- with no specifier a note has its plain units
+pub plain-whole : (d : ℕ) → units d 0 ≡ plainUnits d
+unfolding units
+plain-whole d = refl
+
+-- dotted is exactly 3/2 of it
+pub dotted-whole : (d : ℕ) → d ≤ 5 → 2 * units d 1 ≡ 3 * plainUnits d
+unfolding units
+dotted-whole d h = same-each (λ k. 2 * units k 1) (λ k. 3 * plainUnits k) 6 refl d (omega arith)
+
+-- double dotted is exactly 7/4
+pub double-dotted-whole : (d : ℕ) → d ≤ 5 → 4 * units d 2 ≡ 7 * plainUnits d
+unfolding units
+double-dotted-whole d h = same-each (λ k. 4 * units k 2) (λ k. 7 * plainUnits k) 6 refl d (omega arith)
+
+-- the last specifier is exactly 2/3
+pub two-thirds-whole : (d : ℕ) → d ≤ 5 → 3 * units d 3 ≡ 2 * plainUnits d
+unfolding units
+two-thirds-whole d h = same-each (λ k. 3 * units k 3) (λ k. 2 * plainUnits k) 6 refl d (omega arith)
+
+-- ---- bounds
+
+-- no tempo is slower than 25 beats a minute
+pub slowest : (tempo : ℕ) → tempo < 32 → 25 ≤ beats tempo
+unfolding beats
+slowest tempo h = leb-true 25 (beats tempo) (at-each (λ k. leb 25 (beats k)) 32 refl tempo h)
+
+-- none is faster than 900
+pub fastest : (tempo : ℕ) → tempo < 32 → beats tempo ≤ 900
+unfolding beats
+fastest tempo h = leb-true (beats tempo) 900 (at-each (λ k. leb (beats k) 900) 32 refl tempo h)
+
+-- a full note is the longest plain one
+pub plain-most : (d : ℕ) → plainUnits d ≤ 384
+plain-most d = div-le-self 384 (2 ^ d)
+
+-- no note has more units than a full one, double dotted
+pub units-most : (d s : ℕ) → units d s ≤ 672
+unfolding units
+units-most d s =
+    let h = plain-most d in
+    pick-elim (λ (n : ℕ). n ≤ 672) (eqb s 1) (λ _. omega arith) (λ _.
+    pick-elim (λ (n : ℕ). n ≤ 672) (eqb s 2) (λ _. omega arith) (λ _.
+    pick-elim (λ (n : ℕ). n ≤ 672) (eqb s 3) (λ _. omega arith) (λ _. omega arith)))
+
+-- no duration exceeds 16,800,000 microseconds
+pub duration-most : (d s tempo : ℕ) → tempo < 32 → microseconds (units d s) (beats tempo) ≤ 16800000
+unfolding microseconds
+duration-most d s tempo h =
+    let u = units-most d s in
+    let b = slowest tempo h in
+    div-le-of-le-mul (beats tempo) (omega arith)
+
+-- ---- how the code gets there
+
+-- the units of a full note under each specifier as sixteen bits of one number, halved by each duration code
+pub units-packed : (d s : ℕ) → d ≤ 5 → s ≤ 3 → 72060480293699968 / 2 ^ (16 * s) % 65536 / 2 ^ d ≡ units d s
+unfolding units
+units-packed d zero h k = same-each (λ n. 384 / 2 ^ n) (λ n. units n 0) 6 refl d (omega arith)
+units-packed d (suc zero) h k = same-each (λ n. 576 / 2 ^ n) (λ n. units n 1) 6 refl d (omega arith)
+units-packed d (suc (suc zero)) h k = same-each (λ n. 672 / 2 ^ n) (λ n. units n 2) 6 refl d (omega arith)
+units-packed d (suc (suc (suc zero))) h k = same-each (λ n. 256 / 2 ^ n) (λ n. units n 3) 6 refl d (omega arith)
+units-packed d (suc (suc (suc (suc s)))) h k = absurd (omega arith)
+
+-- the pace of the slowest tempo is the longest
+pub pace-most : (b : ℕ) → 25 ≤ b → paceOf b ≤ 26214400001
+pace-most b h = let l : 655360000000 / b ≤ 26214400000 = div-le-of-le-mul b (omega arith) in omega arith
+
+-- in the code's terms
+module _ {b tempo : ℕ} (e : b ≡ beats tempo) (h : tempo ≤ 31) where
+  pub beats-least : 25 ≤ b
+  beats-least = rw e (slowest tempo (omega arith))
+
+  pub pace-fits : Fits w64 (655360000000 / b + 1)
+  pace-fits = let p = pace-most b beats-least in record { fits = omega arith }
+
+  pub pace-told : (655360000000 / b + 1 ≡ paceOf (beats tempo)) × (655360000000 / b + 1 ≤ 26214400001)
+  pace-told = (ap paceOf e, pace-most b beats-least)
+
+module _ {u k : ℕ} (h : (u ≤ 672) × (k ≤ 26214400001)) where
+  product-most : u * k ≤ 17616076800672
+  product-most = mul-le-mul (h .0) (h .1)
+
+  pub product-fits : Fits w64 (u * k)
+  product-fits = let p = product-most in record { fits = omega arith }
+
+  pub short-fits : Fits w32 (u * k / 2 ^ 20)
+  short-fits = let p = product-most in record { fits = omega arith }
+
+rounded-up : (q k b n : ℕ) → q * b + k ≡ n → k < b → (q + 1) * b ≡ n + (b - k)
+rounded-up q k b n e h = add-mul q 1 b ∙ omega arith
+
+-- units times pace comes to the rule's quotient: what the pace is too long by does not add up to a microsecond
+pub pace-exact : (u b : ℕ) → u ≤ 672 → 25 ≤ b → b ≤ 900 → u * paceOf b / 2 ^ 20 ≡ microseconds u b
+unfolding microseconds
+pace-exact u b hu low high =
+    let n : ℕ = 655360000000 in
+    let some : 0 < b = omega arith in
+    let r : ℕ = b - n % b in
+    let up : paceOf b * b ≡ n + r = rounded-up (n / b) (n % b) b n (div-add-mod' n b) (mod-lt n some) in
+    let whole : u * paceOf b * b ≡ 1048576 * (u * 625000) + u * r =
+    mul-assoc u (paceOf b) b ∙ ap (λ (x : ℕ). u * x) up ∙ mul-add u n r ∙ ap (λ (x : ℕ). x + u * r) (omega arith) in
+    let most : r ≤ 900 = omega arith in
+    let small : u * r < 1048576 = lt-of-le-of-lt (mul-le-mul hu most) (lit< tt) in
+    sym (mul-div-mul-right (u * paceOf b) 1048576 some) ∙ ap (λ (x : ℕ). x / (1048576 * b)) whole
+    ∙ sym (div-div-eq-div-mul (1048576 * (u * 625000) + u * r) 1048576 b)
+    ∙ ap (λ (x : ℕ). x / b) (mul-add-div (lit< tt) (u * 625000) (u * r) ∙ ap (λ (x : ℕ). u * 625000 + x) (div-eq-of-lt small) ∙ add-zero (u * 625000))
+
+-- ---- the table of a tempo
+
+-- the units of a note are those of a full one, halved by each duration code, and nothing is lost
+units-whole : (d s : ℕ) → d ≤ 5 → s ≤ 3 → units d s * 2 ^ d ≡ units 0 s
+unfolding units
+units-whole d zero h k = same-each (λ n. units n 0 * 2 ^ n) (λ n. 384) 6 refl d (omega arith)
+units-whole d (suc zero) h k = same-each (λ n. units n 1 * 2 ^ n) (λ n. 576) 6 refl d (omega arith)
+units-whole d (suc (suc zero)) h k = same-each (λ n. units n 2 * 2 ^ n) (λ n. 672) 6 refl d (omega arith)
+units-whole d (suc (suc (suc zero))) h k = same-each (λ n. units n 3 * 2 ^ n) (λ n. 256) 6 refl d (omega arith)
+units-whole d (suc (suc (suc (suc s)))) h k = absurd (omega arith)
+
+-- each duration code halves what a full note takes: rounded down twice is rounded down once
+halved : (d s b : ℕ) → d ≤ 5 → s ≤ 3 → microseconds (units 0 s) b / 2 ^ d ≡ microseconds (units d s) b
+unfolding microseconds
+halved d s b h k =
+    let whole : units 0 s * 625000 ≡ units d s * 625000 * 2 ^ d = ap (λ (x : ℕ). x * 625000) (sym (units-whole d s h k)) ∙ mul-right-comm (units d s) (2 ^ d) 625000 in
+    div-div-eq-div-mul (units 0 s * 625000) b (2 ^ d) ∙ ap (λ (x : ℕ). x / (b * 2 ^ d)) whole ∙ mul-div-mul-right (units d s * 625000) b (pow-pos d)
+
+lasts-at : (s b : ℕ) → s ≤ 3 → getD (lastsOf b) s 0 ≡ microseconds (units 0 s) b
+lasts-at zero b k = refl
+lasts-at (suc zero) b k = refl
+lasts-at (suc (suc zero)) b k = refl
+lasts-at (suc (suc (suc zero))) b k = refl
+lasts-at (suc (suc (suc (suc s)))) b k = absurd (omega arith)
+
+-- the table comes to the rule's quotient
+pub lasts-exact : (d s b : ℕ) → d ≤ 5 → s ≤ 3 → getD (lastsOf b) s 0 / 2 ^ d ≡ microseconds (units d s) b
+lasts-exact d s b h k = ap (λ (x : ℕ). x / 2 ^ d) (lasts-at s b k) ∙ halved d s b h k
+
+all-four : (l : List ℕ) (x y z u : ℕ) → length l ≡ 4 → set (set (set (set l 0 x) 1 y) 2 z) 3 u ≡ x ∷ y ∷ z ∷ u ∷ []
+all-four [] x y z u h = absurd (omega arith)
+all-four (a ∷ []) x y z u h = absurd (omega arith)
+all-four (a ∷ b ∷ []) x y z u h = absurd (omega arith)
+all-four (a ∷ b ∷ c ∷ []) x y z u h = absurd (omega arith)
+all-four (a ∷ b ∷ c ∷ d ∷ []) x y z u h = refl
+all-four (a ∷ b ∷ c ∷ d ∷ e ∷ l) x y z u h = absurd (omega arith)
+
+-- in the code's terms
+pub full-most : (s : ℕ) {u : ℕ} → u ≡ units 0 s → u ≤ 672
+full-most s e = rw e (units-most 0 s)
+
+module _ {tempo k : ℕ} (h : tempo ≤ 31) (e : (k ≡ paceOf (beats tempo)) × (k ≤ 26214400001)) where
+  full : (s : ℕ) {u x : ℕ} → u ≡ units 0 s → x ≡ u * k / 2 ^ 20 → x ≡ microseconds (units 0 s) (beats tempo)
+  full s a b =
+      b ∙ ap₂ (λ (y z : ℕ). y * z / 2 ^ 20) a (e .0) ∙ pace-exact (units 0 s) (beats tempo) (units-most 0 s) (slowest tempo (omega arith)) (fastest tempo (omega arith))
+
+  pub lasts-set : (old : List ℕ) {u v w t x y z q : ℕ} → length old ≡ 4 → u ≡ units 0 0 → x ≡ u * k / 2 ^ 20 → v ≡ units 0 1 → y ≡ v * k / 2 ^ 20 → w ≡ units 0 2 → z ≡ w * k / 2 ^ 20
+      → t ≡ units 0 3 → q ≡ t * k / 2 ^ 20 → set (set (set (set old 0 x) 1 y) 2 z) 3 q ≡ lastsOf (beats tempo)
+  lasts-set old {x = x} {y} {z} {q} l a a′ b b′ c c′ d d′ = rw (← full 0 a a′, ← full 1 b b′, ← full 2 c c′, ← full 3 d d′) (all-four old x y z q l)

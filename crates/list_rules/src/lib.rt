@@ -1,0 +1,169 @@
+ghost use mathlib.Core.Path.{_≡_};
+ghost use Prim.Native.Nat.{_+_, _*_, _/_, _^_, _≤_};
+ghost use lib.ListN.{length};
+ghost use Rattle.list_rules.specs.Duration.{beats as beatsOf, units as unitsOf};
+ghost use Rattle.list_rules.specs.Sounding.{atStart, applied as appliedTo, unpacked};
+ghost use Rattle.list_rules.specs.Ranges.{InRange};
+ghost use Rattle.list_rules.specs.Tempo.{paceOf, lastsOf, baseOf};
+
+// The four settings, as codes.
+pub struct Settings {
+    pub scale: u32,
+    pub style: u32,
+    pub tempo: u32,
+    pub volume: u32,
+}
+
+// An entry of the playing list, as the mixer receives it.
+#[repr(C)]
+pub struct Entry {
+    pub note: u32,
+    pub scale: u32,
+    pub style: u32,
+    pub volume: u32,
+    pub microseconds: u32,
+}
+
+impl Settings {
+    // The defaults of 000.
+    pub fn at_start() -> Settings
+        ensures { λ r. ⌜ r ≡ atStart ⌝ }
+    {
+        Settings {
+            scale: 1,
+            style: 0,
+            tempo: 8,
+            volume: 7,
+        }
+    }
+
+    // The settings after an instruction.
+    pub fn applied(self, cell: u32) -> Settings
+        ensures { λ r. ⌜ r ≡ appliedTo self cell ⌝ }
+    {
+        let kind = cell / 65536;
+        let code = cell % 65536;
+        let mut next = self;
+        if kind == 2 {
+            next.scale = code;
+            return next;
+        }
+        if kind == 3 {
+            next.style = code;
+            return next;
+        }
+        if kind == 4 {
+            next.tempo = code;
+            return next;
+        }
+        if kind == 5 {
+            next.volume = code;
+            return next;
+        }
+        next
+    }
+}
+
+// Beats a minute, table 3.7-11 of 000.
+const BEATS: [u32; 32] = [
+    25,
+    28,
+    31,
+    35,
+    40,
+    45,
+    50,
+    56,
+    63,
+    70,
+    80,
+    90,
+    100,
+    112,
+    125,
+    140,
+    160,
+    180,
+    200,
+    225,
+    250,
+    285,
+    320,
+    355,
+    400,
+    450,
+    500,
+    565,
+    635,
+    715,
+    800,
+    900,
+];
+
+// The beats a minute of a tempo code.
+fn beats(tempo: u32) -> u32
+    requires { ⌜ tempo ≤ 31 ⌝ }
+    ensures { λ r. ⌜ r ≡ beatsOf tempo ⌝ }
+{
+    BEATS[tempo as usize]
+}
+
+// The units of a note: a full one has 384, or 576 dotted, 672 double dotted, 256 with the last specifier, sixteen bits of
+// one number for each. Each duration code halves them.
+fn units(duration: u32, specifier: u32) -> u32
+    requires { ⌜ (duration ≤ 5) × (specifier ≤ 3) ⌝ }
+    ensures { λ r. ⌜ r ≡ unitsOf duration specifier ⌝ }
+{
+    let full = (0x0100_02A0_0240_0180u64 >> (16 * specifier)) % 65536;
+    full as u32 >> duration
+}
+
+// How long a unit sounds at a tempo, in parts of a microsecond of which 2 ^ 20 make one, rounded up: 625,000 times
+// 2 ^ 20, divided by the beats. With it a note takes a product, where the rule has a division.
+fn pace(tempo: u32) -> u64
+    requires { ⌜ tempo ≤ 31 ⌝ }
+    ensures { λ r. ⌜ (r ≡ paceOf (beatsOf tempo)) × (r ≤ 26214400001) ⌝ }
+{
+    655360000000 / beats(tempo) as u64 + 1
+}
+
+// From units and the pace of a tempo to microseconds, rounded down.
+fn microseconds(units: u32, pace: u64) -> u32
+    requires { ⌜ (units ≤ 672) × (pace ≤ 26214400001) ⌝ }
+    ensures { λ r. ⌜ r ≡ units * pace / 2 ^ 20 ⌝ }
+{
+    ((units as u64 * pace) >> 20) as u32
+}
+
+// Sets the table of a tempo: how long a full note sounds, in microseconds, for each specifier.
+pub fn set_lasts(tempo: u32, lasts: &mut [u32])
+    requires { ⌜ (tempo ≤ 31) × (length (now lasts) ≡ 4) ⌝ }
+    ensures { λ _. ⌜ now (lasts .exit) ≡ lastsOf (beatsOf tempo) ⌝ }
+{
+    let pace = pace(tempo);
+    lasts[0] = microseconds(units(0, 0), pace);
+    lasts[1] = microseconds(units(0, 1), pace);
+    lasts[2] = microseconds(units(0, 2), pace);
+    lasts[3] = microseconds(units(0, 3), pace);
+}
+
+// What the settings put in an entry's first number.
+pub fn base(s: Settings) -> u32
+    requires { ⌜ InRange s ⌝ }
+    ensures { λ r. ⌜ r ≡ baseOf s ⌝ }
+{
+    s.scale * 256 + s.style * 16 + s.volume
+}
+
+// An entry from its two numbers.
+pub fn entry_of(first: u32, second: u32) -> Entry
+    ensures { λ r. ⌜ r ≡ unpacked first second ⌝ }
+{
+    Entry {
+        note: first / 1024,
+        scale: first / 256 % 4,
+        style: first / 16 % 16,
+        volume: first % 16,
+        microseconds: second,
+    }
+}

@@ -1,0 +1,75 @@
+-- `list_text::put_entries` meets its contract. Each turn puts one line more; the entries left fall.
+use Rattle.list_text.proofs.put_entries.Statement.{statement}
+use Rattle.list_text.proofs.put_entries.Tie as tie
+use borrow.Author.Needs.{needs}
+use Prim.Native.Nat.{_-_}
+use Rattle.list_text.proofs.Texts.{Lining, lining}
+
+abbrev Inv-loop : tie.InvT-loop
+Inv-loop out₀ start list entries at₀ i₀ out at i = Lining out₀ start list entries out at i
+
+abbrev μ-loop : tie.MeasureT-loop
+μ-loop out₀ start list entries at₀ i₀ out at i = entries - i
+
+loop-holds : tie.Need-loop-holds Inv-loop μ-loop
+loop-holds c = search (lining, needs)
+
+mul-put-entry : tie.Need-mul-put-entry Inv-loop μ-loop
+mul-put-entry c = search (lining, needs)
+
+mul-put-entry-2 : tie.Need-mul-put-entry-2 Inv-loop μ-loop
+mul-put-entry-2 c = search (lining, needs)
+
+shared-slice-read-put-entry : tie.Need-shared-slice-read-put-entry Inv-loop μ-loop
+shared-slice-read-put-entry c = search (lining, needs)
+
+mul-put-entry-3 : tie.Need-mul-put-entry-3 Inv-loop μ-loop
+mul-put-entry-3 c = search (lining, needs)
+
+add-put-entry : tie.Need-add-put-entry Inv-loop μ-loop
+add-put-entry c = search (lining, needs)
+
+mul-put-entry-4 : tie.Need-mul-put-entry-4 Inv-loop μ-loop
+mul-put-entry-4 c = search (lining, needs)
+
+shared-slice-read-put-entry-2 : tie.Need-shared-slice-read-put-entry-2 Inv-loop μ-loop
+shared-slice-read-put-entry-2 c = search (lining, needs)
+
+put-entry-requires : tie.Need-put-entry-requires Inv-loop μ-loop
+put-entry-requires c κs = search (lining, needs)
+
+add-i : tie.Need-add-i Inv-loop μ-loop
+add-i c = search (lining, needs)
+
+loop-less : tie.Need-loop-less Inv-loop μ-loop
+loop-less c = search (lining, needs)
+
+loop-again : tie.Need-loop-again Inv-loop μ-loop
+loop-again c = search (lining, needs)
+
+same-length : tie.Need-same-length Inv-loop μ-loop
+same-length c = search (lining, needs)
+
+returns : tie.Need-returns Inv-loop μ-loop
+returns c = search (lining, needs)
+
+pub put-entries-spec : {M : Type 1} → statement M
+put-entries-spec =
+    tie.close
+    (tie.spec
+    Inv-loop
+    μ-loop
+    loop-holds
+    mul-put-entry
+    mul-put-entry-2
+    shared-slice-read-put-entry
+    mul-put-entry-3
+    add-put-entry
+    mul-put-entry-4
+    shared-slice-read-put-entry-2
+    put-entry-requires
+    add-i
+    loop-less
+    loop-again
+    same-length
+    returns)

@@ -1,0 +1,38 @@
+-- What an answer of the code says of the reading behind it.
+use Prim.Native.Nat.{ℕ, _-_}
+use native.Mathlib.Omega.{arith}
+use mathlib.Core.Path.{_≡_, refl, sym, ap, _∙_}
+use Rattle.bits.specs.declared.BitPlace.{BitPlace}
+use Rattle.tone_elements.specs.declared.Step.the-variants.{Good, Bad}
+use Rattle.tone.specs.Reading.{Got, got, bad, onward}
+use Rattle.tone_elements.specs.Answers.{place, stepAs, stepOf}
+
+-- a value was read there
+pub step-good : {A : Type 0} (f : A → ℕ) (x : Got A) {v : ℕ} {q : BitPlace} → Good v q ≡ stepAs f x → (a : A) × (x ≡ got a (q .0)) × (v ≡ f a)
+step-good f (got a p) {v} {q} e =
+    let e₁ : v ≡ f a = cc in
+    let e₂ : q ≡ place p = cc in
+    (a, ap (λ (y : ℕ). got a y) (sym (ap (λ (z : BitPlace). z .0) e₂)), e₁)
+step-good f (bad n p e′) e = let z : _≡_ {A = ℕ} 0 1 = cc in absurd (omega arith)
+
+-- a number was read there
+pub step-there : (x : Got ℕ) {v : ℕ} {q : BitPlace} → Good v q ≡ stepOf x → x ≡ got v (q .0)
+step-there x {v} {q} e = let b = step-good (λ v. v) x e in b .1 ∙ ap (λ (y : ℕ). got y (q .0)) (sym (b .2))
+
+-- a refusal is there
+pub step-bad : {A : Type 0} (f : A → ℕ) (x : Got A) {n : ℕ} {q : BitPlace} → Bad n q ≡ stepAs f x → (e : ℕ) × (x ≡ bad n (q .0) e)
+step-bad f (got a p) e = let z : _≡_ {A = ℕ} 0 1 = cc in absurd (omega arith)
+step-bad f (bad n′ p e′) {n} {q} e =
+    let e₁ : n ≡ n′ = cc in
+    let e₂ : q ≡ place p = cc in
+    (e′, rw (e₁, e₂) refl)
+
+-- two ways to count agree
+pub step-cong : {A : Type 0} {f g : A → ℕ} (x : Got A) → ((a : A) → f a ≡ g a) → stepAs f x ≡ stepAs g x
+step-cong (got a p) h = ap (λ (v : ℕ). Good v (place p)) (h a)
+step-cong (bad n p e) h = refl
+
+-- what is made of a value can be counted at once
+pub step-map : {A B : Type 0} (f : B → ℕ) (h : A → B) (x : Got A) → stepAs f (onward x (λ a p. got (h a) p) bad) ≡ stepAs (λ a. f (h a)) x
+step-map f h (got a p) = refl
+step-map f h (bad n p e) = refl

@@ -1,0 +1,28 @@
+-- `tone_elements::filled_part` meets its contract.
+use borrow.Author.Needs.{needs}
+use Rattle.tone_elements.proofs.filled_part.Statement.{statement}
+use Rattle.tone_elements.proofs.filled_part.Tie as tie
+use Rattle.tone_elements.proofs.Openings.{commands}
+
+due-requires : tie.Need-due-requires
+due-requires c κs = search needs
+
+enum-known-number : tie.Need-enum-known-number
+enum-known-number c = search needs
+
+enum-known-next : tie.Need-enum-known-next
+enum-known-next c = search needs
+
+due-requires-2 : tie.Need-due-requires-2
+due-requires-2 c κs = search (commands, needs)
+
+returns : tie.Need-returns
+returns c = search (commands, needs)
+
+returns-2 : tie.Need-returns-2
+returns-2 c = search (commands, needs)
+
+pub filled-part-spec : {M : Type 1} → statement M
+filled-part-spec =
+    tie.close
+    (tie.spec due-requires enum-known-number enum-known-next due-requires-2 returns returns-2)

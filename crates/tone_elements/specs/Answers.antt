@@ -1,0 +1,90 @@
+-- What the code answers of an element that was due.
+use Prim.Native.Nat.{ℕ, _+_, _^_, _≤_, _<_}
+use mathlib.Core.Bool.{Bool}
+use mathlib.Core.Path.{_≡_}
+use mathlib.Core.List.{List, [], _∷_, _++_}
+use lib.ListN.{length, drop}
+use lib.Dec.{eqb}
+use Rattle.bits.specs.Choice.{pick}
+use Rattle.bits.specs.Bits.{bitsOf, placeAfter}
+use Rattle.bits.specs.declared.BitPlace.{BitPlace}
+use Rattle.bits.specs.declared.OctetCount.{OctetCount}
+use Rattle.bits.specs.Window.{Sight}
+use Rattle.tone_elements.specs.declared.Step.{Step}
+use Rattle.tone_elements.specs.declared.Step.the-variants.{Good, Bad}
+use Rattle.tone_elements.specs.declared.Command.{Command}
+use Rattle.tone_elements.specs.declared.Command.the-variants.{Announced, Withheld}
+use Rattle.tone_elements.specs.declared.Opening.{Opening}
+use Rattle.tone_elements.specs.declared.Opening.the-variants.{Opened, Closed}
+use Rattle.tone.specs.Table.{kind}
+use Rattle.tone.specs.Table.{InTable}
+use Rattle.tone.specs.Tone.{Pattern, Front, cells}
+use Rattle.tone.specs.Writing.{entryBits}
+use Rattle.tone.specs.Reading.{Got, got, bad, instructionDue}
+
+-- a place within a message, whose bits a place can count
+pub record Within (m : List ℕ) (at : ℕ) : Type 0 where
+  pub inside : at ≤ placeAfter (length m)
+  pub counted : length m < 2 ^ 60
+
+-- a number as a bit place
+abbrev pub place : ℕ → BitPlace
+place p = record { 0 = p }
+
+-- a number as an octet count
+abbrev pub octetCount : ℕ → OctetCount
+octetCount n = record { 0 = n }
+
+-- what was read, as the number that f makes of it, or the refusal
+abbrev pub stepAs : {A : Type 0} → (A → ℕ) → Got A → Step
+stepAs f (got a p) = Good (f a) (place p)
+stepAs f (bad n p e) = Bad n (place p)
+
+-- a number that was read, or the refusal
+abbrev pub stepOf : Got ℕ → Step
+stepOf g = stepAs (λ v. v) g
+
+-- 1 for a note or pause, 0 for any other instruction
+abbrev pub noteIn : ℕ → ℕ
+noteIn e = pick (eqb (kind e) 1) 1 0
+
+-- how many notes and pauses a body has
+abbrev pub notes : List ℕ → ℕ
+notes [] = 0
+notes (e ∷ b) = noteIn e + notes b
+
+-- s is what is due of an instruction at a place, in every message that has 12 bits there, on top of x: none has more
+pub record Seen (at x : ℕ) (s : Step) : Type 0 where
+  pub due : (m : List ℕ) (n : ℕ) → 12 ≤ n → Sight n (drop at (bitsOf m)) x → at + 12 ≤ placeAfter (length m) → s ≡ stepAs noteIn (instructionDue (bitsOf m) at)
+
+-- how many entries patterns have in the tone table
+abbrev pub entries : List Pattern → ℕ
+entries ps = length (cells ps)
+
+-- whether UNICODE is announced, or the refusal
+abbrev pub commandOf : Got Bool → Command
+commandOf (got u p) = Announced u (place p)
+commandOf (bad n p e) = Withheld n (place p)
+
+-- the front as the code answers it, or the refusal
+abbrev pub openingOf : Got Front → Opening
+openingOf (got f p) = Opened (f .song) (place p) (octetCount (length (f .title))) (f .count) (f .unicode)
+openingOf (bad n p e) = Closed n (place p)
+
+-- ---- what stands at a place of a message that was judged
+
+-- the entry e stands at a place, and the bits r behind it
+pub record EntryAt (m : List ℕ) (at e : ℕ) (r : List Bool) : Type 0 where
+  pub inTable : InTable e
+  pub here : drop at (bitsOf m) ≡ entryBits e ++ r
+
+-- some entry does
+pub record SomeEntry (m : List ℕ) (at : ℕ) : Type 0 where
+  pub entry : ℕ
+  pub behind : List Bool
+  pub stands : EntryAt m at entry behind
+
+-- the entry e was taken up, and the place behind it
+pub record Passed (at e cell next : ℕ) : Type 0 where
+  pub taken : cell ≡ e
+  pub behind : next ≡ at + length (entryBits e)

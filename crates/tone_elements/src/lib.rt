@@ -1,0 +1,614 @@
+ghost use mathlib.Core.Path.{_≡_};
+ghost use Prim.Native.Nat.{ℕ, _+_, _-_, _*_, _/_, _%_, _^_, _≤_, _<_};
+ghost use lib.ListN.{length, drop};
+ghost use lib.Dec.{eqb};
+ghost use Rattle.bits.specs.Choice.{pick};
+ghost use Rattle.bits.specs.Bits.{bitsOf, placeAfter};
+ghost use Rattle.bits.specs.Window.{Look};
+ghost use Rattle.tone.specs.Table.{width as widthOf, allowed as allowedOf};
+ghost use Rattle.tone.specs.Tone.{perCharacter};
+ghost use Rattle.tone.specs.Reading.{element, anyOf, filled, soundPart, parts as partsDue, command, text as textDue, title as titleDue, titled as titledDue, front};
+ghost use Rattle.tone.specs.Reading.{headerDue, instructionDue, bodyDue, ending as endingDue};
+ghost use Rattle.tone_elements.specs.Answers.{Within, stepAs, stepOf, commandOf, noteIn, notes as notesOf, openingOf, Seen, SomeEntry, EntryAt, Passed};
+ghost use mathlib.Core.Bool.{Bool};
+ghost use mathlib.Core.List.{List};
+use bits::BitPlace;
+use bits::OctetCount;
+
+// An element that was due: its number and the place behind it, or the refusal's number and place.
+pub enum Step {
+    Good { value: u32, next: BitPlace },
+    Bad { number: u32, at: BitPlace },
+}
+
+// A message's command: UNICODE or not, and the place behind it; or the refusal.
+pub enum Command {
+    Announced { unicode: bool, next: BitPlace },
+    Withheld { number: u32, at: BitPlace },
+}
+
+// The front of a message: song type, the place behind it, the title's octets, the pattern count, UNICODE or not; or the
+// refusal. The first fields of the cases are alike, so that an answer is copied whole.
+pub enum Opening {
+    Opened {
+        song: u32,
+        next: BitPlace,
+        octets: OctetCount,
+        count: u32,
+        unicode: bool,
+    },
+    Closed {
+        number: u32,
+        at: BitPlace,
+    },
+}
+
+// An entry that stands at a place, and the place behind it.
+pub struct Cell {
+    pub cell: u32,
+    pub next: BitPlace,
+}
+
+// How many bits are left from a place on.
+fn left(msg: &[u8], at: BitPlace) -> usize
+    requires { ⌜ Within (now msg) (at .0) ⌝ }
+    ensures { λ r. ⌜ r + at .0 ≡ placeAfter (length (now (msg .entry))) ⌝ }
+{
+    bits::place_after(OctetCount(msg.len())).0 - at.0
+}
+
+// An element of `w` bits in which any code is allowed.
+pub fn any(msg: &[u8], at: BitPlace, w: u32) -> Step
+    requires { ⌜ Within (now msg) (at .0) ⌝ }
+    requires { ⌜ (1 ≤ w) × (w ≤ 24) ⌝ }
+    ensures { λ r. ⌜ r ≡ stepOf (anyOf w (bitsOf (now (msg .entry))) (at .0)) ⌝ }
+{
+    if left(msg, at) < w as usize {
+        return Step::Bad { number: 2, at };
+    }
+    let x = bits::look(msg, at);
+    Step::Good {
+        value: bits::part(x, 0, w),
+        next: BitPlace(at.0 + w as usize),
+    }
+}
+
+// An element of `w` bits in which one code is due, and any other is the refusal `number`.
+pub fn due(msg: &[u8], at: BitPlace, w: u32, code: u32, number: u32) -> Step
+    requires { ⌜ Within (now msg) (at .0) ⌝ }
+    requires { ⌜ (1 ≤ w) × (w ≤ 24) ⌝ }
+    ensures { λ r. ⌜ r ≡ stepOf (element w (eqb code) number (bitsOf (now (msg .entry))) (at .0)) ⌝ }
+{
+    if left(msg, at) < w as usize {
+        return Step::Bad { number: 2, at };
+    }
+    let x = bits::look(msg, at);
+    let value = bits::part(x, 0, w);
+    if code == value {
+        return Step::Good {
+            value,
+            next: BitPlace(at.0 + w as usize),
+        };
+    }
+    Step::Bad { number, at }
+}
+
+// How many payload bits a kind has: 14, 9, 2, 2, 5, 4, four bits of one number for each, kind 0 lowest. An array would be
+// laid out anew at each call.
+pub fn width(kind: u32) -> u32
+    requires { ⌜ kind ≤ 5 ⌝ }
+    ensures { λ r. ⌜ (r ≡ widthOf kind) × (r ≤ 14) ⌝ }
+{
+    (0x45229Eu32 >> (4 * kind)) % 16
+}
+
+// Is the payload a code that the instruction table has?
+pub fn allowed(kind: u32, payload: u32) -> bool
+    ensures { λ r. ⌜ r ≡ allowedOf kind payload ⌝ }
+{
+    if kind == 1 {
+        if payload / 32 <= 12 {
+            return payload / 4 % 8 <= 5;
+        }
+        return false;
+    }
+    if kind == 3 {
+        return payload <= 2;
+    }
+    true
+}
+
+// The rest of an instruction, `w` bits behind its id. `x` was seen at its place.
+fn payload(msg: &[u8], at: BitPlace, x: u32, kind: u32, w: u32) -> Step
+    requires { ⌜ Within (now msg) (at .0) ⌝ }
+    requires { ⌜ Look (drop (at .0) (bitsOf (now msg))) x ⌝ }
+    requires { ⌜ (at .0 + 3 ≤ placeAfter (length (now msg))) × (kind ≡ x / 2097152) × (1 ≤ kind) × (kind ≤ 5) ⌝ }
+    requires { ⌜ (w ≡ widthOf kind) × (w ≤ 14) ⌝ }
+    ensures { λ r. ⌜ r ≡ stepOf (instructionDue (bitsOf (now (msg .entry))) (at .0)) ⌝ }
+{
+    let rest = BitPlace(at.0 + 3);
+    if left(msg, at) < 3 + w as usize {
+        return Step::Bad {
+            number: 2,
+            at: rest,
+        };
+    }
+    let code = bits::part(x, 3, w);
+    if allowed(kind, code) {
+        return Step::Good {
+            value: kind * 65536 + code,
+            next: BitPlace(at.0 + 3 + w as usize),
+        };
+    }
+    Step::Bad {
+        number: 6,
+        at: rest,
+    }
+}
+
+// An instruction: its id, and then the rest of it. Most are notes: told first, the next place does not wait for a width.
+pub fn instruction(msg: &[u8], at: BitPlace) -> Step
+    requires { ⌜ Within (now msg) (at .0) ⌝ }
+    ensures { λ r. ⌜ r ≡ stepOf (instructionDue (bitsOf (now (msg .entry))) (at .0)) ⌝ }
+{
+    if left(msg, at) < 3 {
+        return Step::Bad { number: 2, at };
+    }
+    let x = bits::look(msg, at);
+    let kind = x / 2097152;
+    if kind == 1 {
+        return payload(msg, at, x, 1, 9);
+    }
+    if kind == 0 {
+        return Step::Bad { number: 6, at };
+    }
+    if 5 < kind {
+        return Step::Bad { number: 6, at };
+    }
+    payload(msg, at, x, kind, width(kind))
+}
+
+// A header: its id, and then the rest of it. `known` says which of A to D are defined.
+pub fn header(msg: &[u8], at: BitPlace, known: [bool; 4]) -> Step
+    requires { ⌜ Within (now msg) (at .0) ⌝ }
+    ensures { λ r. ⌜ r ≡ stepOf (headerDue known (bitsOf (now (msg .entry))) (at .0)) ⌝ }
+{
+    let rest = left(msg, at);
+    if rest < 3 {
+        return Step::Bad { number: 2, at };
+    }
+    let x = bits::look(msg, at);
+    if x / 2097152 != 0 {
+        return Step::Bad { number: 6, at };
+    }
+    if rest < 17 {
+        return Step::Bad {
+            number: 2,
+            at: BitPlace(at.0 + 3),
+        };
+    }
+    let payload = x / 128;
+    let next = BitPlace(at.0 + 17);
+    if payload % 256 != 0 {
+        return Step::Good {
+            value: payload,
+            next,
+        };
+    }
+    let id = (payload / 4096 % 4) as usize;
+    if known[id] {
+        return Step::Good {
+            value: payload,
+            next,
+        };
+    }
+    Step::Bad {
+        number: 7,
+        at: BitPlace(at.0 + 3),
+    }
+}
+
+// ---- the patterns
+
+// 1 for a note or pause, 0 for any other instruction.
+pub fn note_in(cell: u32) -> u32
+    ensures { λ r. ⌜ (r ≡ noteIn cell) × (r ≤ 1) ⌝ }
+{
+    if cell / 65536 == 1 { 1 } else { 0 }
+}
+
+// The instruction on top of a sight, where it is whole. The number is 1 for a note or pause, 0 for any other.
+fn seen(at: BitPlace, x: u64) -> Step
+    requires { ⌜ at .0 < 2 ^ 63 ⌝ }
+    ensures { λ r. ⌜ Seen (at .0) x r ⌝ }
+{
+    let kind = (x >> 61) as u32;
+    if kind == 1 {
+        if 12 < (x >> 57) % 16 {
+            return Step::Bad {
+                number: 6,
+                at: BitPlace(at.0 + 3),
+            };
+        }
+        if 5 < (x >> 54) % 8 {
+            return Step::Bad {
+                number: 6,
+                at: BitPlace(at.0 + 3),
+            };
+        }
+        return Step::Good {
+            value: 1,
+            next: BitPlace(at.0 + 12),
+        };
+    }
+    if kind == 0 {
+        return Step::Bad { number: 6, at };
+    }
+    if 5 < kind {
+        return Step::Bad { number: 6, at };
+    }
+    // Style 3 is not in the table.
+    if x >> 59 == 15 {
+        return Step::Bad {
+            number: 6,
+            at: BitPlace(at.0 + 3),
+        };
+    }
+    Step::Good {
+        value: 0,
+        next: BitPlace(at.0 + 3 + width(kind) as usize),
+    }
+}
+
+// Up to four instructions from one sight, where none of them is cut short: none has more than 12 bits. The number is how
+// many of them are notes or pauses.
+fn few(msg: &[u8], at: BitPlace, n: u32) -> Step
+    requires { ⌜ Within (now msg) (at .0) ⌝ }
+    requires { ⌜ (n ≤ 4) × (at .0 + 48 ≤ placeAfter (length (now msg))) ⌝ }
+    ensures { λ r. ⌜ r ≡ stepAs notesOf (bodyDue n (bitsOf (now (msg .entry))) (at .0)) ⌝ }
+{
+    let s = bits::sight(msg, at);
+    let mut place = at;
+    let mut left = n;
+    let mut notes: u32 = 0;
+    while 0 < left {
+        match seen(place, s << (place.0 - at.0) as u32) {
+            Step::Bad { number, at: fault } => {
+                return Step::Bad { number, at: fault };
+            }
+            Step::Good { value, next } => {
+                notes += value;
+                place = next;
+                left -= 1;
+            }
+        }
+    }
+    Step::Good {
+        value: notes,
+        next: place,
+    }
+}
+
+// `n` instructions one by one, as the message's end is near, with `c` notes so far. The number is how many notes and pauses
+// there are then.
+fn singly(msg: &[u8], at: BitPlace, n: u32, c: u32) -> Step
+    requires { ⌜ Within (now msg) (at .0) ⌝ }
+    requires { ⌜ c + n ≤ 255 ⌝ }
+    ensures { λ r. ⌜ r ≡ stepAs (λ b. c + notesOf b) (bodyDue n (bitsOf (now (msg .entry))) (at .0)) ⌝ }
+{
+    let mut place = at;
+    let mut left = n;
+    let mut notes = c;
+    while 0 < left {
+        match instruction(msg, place) {
+            Step::Bad { number, at: fault } => {
+                return Step::Bad { number, at: fault };
+            }
+            Step::Good { value, next } => {
+                notes += note_in(value);
+                place = next;
+                left -= 1;
+            }
+        }
+    }
+    Step::Good {
+        value: notes,
+        next: place,
+    }
+}
+
+// How many of the instructions to come one sight holds.
+pub fn turn(more: u32) -> u32
+    requires { ⌜ 0 < more ⌝ }
+    ensures { λ r. ⌜ (1 ≤ r) × (r ≤ more) × (r ≤ 4) ⌝ }
+{
+    if more < 4 { more } else { 4 }
+}
+
+// `n` instructions. The number is how many of them are notes or pauses. Four are judged at a turn: one load costs less than
+// four.
+pub fn body(msg: &[u8], at: BitPlace, n: u32) -> Step
+    requires { ⌜ Within (now msg) (at .0) ⌝ }
+    requires { ⌜ n ≤ 255 ⌝ }
+    ensures { λ r. ⌜ r ≡ stepAs notesOf (bodyDue n (bitsOf (now (msg .entry))) (at .0)) ⌝ }
+{
+    let mut place = at;
+    let mut more = n;
+    let mut notes: u32 = 0;
+    while 0 < more {
+        if left(msg, place) < 48 {
+            return singly(msg, place, more, notes);
+        }
+        let k = turn(more);
+        match few(msg, place, k) {
+            Step::Bad { number, at: fault } => {
+                return Step::Bad { number, at: fault };
+            }
+            Step::Good { value, next } => {
+                notes += value;
+                place = next;
+                more -= k;
+            }
+        }
+    }
+    Step::Good {
+        value: notes,
+        next: place,
+    }
+}
+
+// ---- the front
+
+// A command part of seven bits, and the filler bit behind it.
+fn filled_part(msg: &[u8], at: BitPlace, code: u32) -> Step
+    requires { ⌜ Within (now msg) (at .0) ⌝ }
+    ensures { λ r. ⌜ r ≡ stepOf (filled code (bitsOf (now (msg .entry))) (at .0)) ⌝ }
+{
+    match due(msg, at, 7, code, 3) {
+        Step::Bad { number, at: fault } => Step::Bad { number, at: fault },
+        Step::Good { value: _, next } => due(msg, next, 1, 0, 8),
+    }
+}
+
+// The sound part, with no filler behind it.
+fn sound_part(msg: &[u8], at: BitPlace, unicode: bool) -> Command
+    requires { ⌜ Within (now msg) (at .0) ⌝ }
+    ensures { λ r. ⌜ r ≡ commandOf (soundPart unicode (bitsOf (now (msg .entry))) (at .0)) ⌝ }
+{
+    match due(msg, at, 7, 29, 3) {
+        Step::Bad { number, at: fault } => Command::Withheld { number, at: fault },
+        Step::Good { value: _, next } => Command::Announced { unicode, next },
+    }
+}
+
+// The parts that a command length of 2 or 3 announces.
+fn parts(msg: &[u8], at: BitPlace, length: u32) -> Command
+    requires { ⌜ Within (now msg) (at .0) ⌝ }
+    ensures { λ r. ⌜ r ≡ commandOf (partsDue length (bitsOf (now (msg .entry))) (at .0)) ⌝ }
+{
+    match filled_part(msg, at, 37) {
+        Step::Bad { number, at: fault } => Command::Withheld { number, at: fault },
+        Step::Good { value: _, next } => {
+            if length != 3 {
+                return sound_part(msg, next, false);
+            }
+            match filled_part(msg, next, 34) {
+                Step::Bad { number, at: fault } => Command::Withheld { number, at: fault },
+                Step::Good {
+                    value: _,
+                    next: behind,
+                } => sound_part(msg, behind, true),
+            }
+        }
+    }
+}
+
+// The command, element by element.
+fn spelled(msg: &[u8], at: BitPlace) -> Command
+    requires { ⌜ Within (now msg) (at .0) ⌝ }
+    ensures { λ r. ⌜ r ≡ commandOf (command (bitsOf (now (msg .entry))) (at .0)) ⌝ }
+{
+    match any(msg, at, 8) {
+        Step::Bad { number, at: fault } => Command::Withheld { number, at: fault },
+        Step::Good { value, next } => {
+            if value == 2 {
+                return parts(msg, next, value);
+            }
+            if value == 3 {
+                return parts(msg, next, value);
+            }
+            Command::Withheld { number: 3, at }
+        }
+    }
+}
+
+// The command up to the sound part. Without UNICODE it is 23 bits that can be told at once: 00000010 for the length,
+// 0100101 for the programming part, a filler bit, 0011101 for the sound part.
+pub fn announced(msg: &[u8], at: BitPlace) -> Command
+    requires { ⌜ Within (now msg) (at .0) ⌝ }
+    ensures { λ r. ⌜ r ≡ commandOf (command (bitsOf (now (msg .entry))) (at .0)) ⌝ }
+{
+    if left(msg, at) < 23 {
+        return spelled(msg, at);
+    }
+    if bits::look(msg, at) / 2 == 75037 {
+        return Command::Announced {
+            unicode: false,
+            next: BitPlace(at.0 + 23),
+        };
+    }
+    spelled(msg, at)
+}
+
+// The bits of a title's character.
+fn character_bits(unicode: bool) -> usize
+    ensures { λ r. ⌜ (r ≡ pick unicode 16 8) × (r ≤ 16) × (1 ≤ r) ⌝ }
+{
+    if unicode { 16 } else { 8 }
+}
+
+// The octets of a title's character.
+pub fn character_octets(unicode: bool) -> u32
+    ensures { λ r. ⌜ (r ≡ perCharacter unicode) × (r ≤ 2) × (1 ≤ r) ⌝ }
+{
+    if unicode { 2 } else { 1 }
+}
+
+// `n` characters, told at once: every code is allowed. The number is how many octets they are.
+fn text(msg: &[u8], at: BitPlace, unicode: bool, n: u32) -> Step
+    requires { ⌜ Within (now msg) (at .0) ⌝ }
+    requires { ⌜ n ≤ 15 ⌝ }
+    ensures { λ r. ⌜ r ≡ stepAs length (textDue unicode n (bitsOf (now (msg .entry))) (at .0)) ⌝ }
+{
+    let bits = character_bits(unicode);
+    let rest = left(msg, at);
+    let all = n as usize * bits;
+    if rest < all {
+        return Step::Bad {
+            number: 2,
+            at: BitPlace(at.0 + (rest - rest % bits)),
+        };
+    }
+    Step::Good {
+        value: n * character_octets(unicode),
+        next: BitPlace(at.0 + all),
+    }
+}
+
+// The title of a basic song; a temporary one has none. The number is how many octets it is.
+fn title(msg: &[u8], at: BitPlace, song: u32, unicode: bool) -> Step
+    requires { ⌜ Within (now msg) (at .0) ⌝ }
+    ensures { λ r. ⌜ r ≡ stepAs length (titleDue song unicode (bitsOf (now (msg .entry))) (at .0)) ⌝ }
+{
+    if song != 1 {
+        return Step::Good { value: 0, next: at };
+    }
+    match any(msg, at, 4) {
+        Step::Bad { number, at: fault } => Step::Bad { number, at: fault },
+        Step::Good { value, next } => text(msg, next, unicode, value),
+    }
+}
+
+// The title and the pattern count behind it.
+fn titled(msg: &[u8], at: BitPlace, song: u32, unicode: bool) -> Opening
+    requires { ⌜ Within (now msg) (at .0) ⌝ }
+    ensures { λ r. ⌜ r ≡ openingOf (titledDue song unicode (bitsOf (now (msg .entry))) (at .0)) ⌝ }
+{
+    match title(msg, at, song, unicode) {
+        Step::Bad { number, at: fault } => Opening::Closed { number, at: fault },
+        Step::Good {
+            value: octets,
+            next: behind,
+        } => match any(msg, behind, 8) {
+            Step::Bad { number, at: fault } => Opening::Closed { number, at: fault },
+            Step::Good { value, next } => {
+                if value == 0 {
+                    return Opening::Closed {
+                        number: 5,
+                        at: behind,
+                    };
+                }
+                Opening::Opened {
+                    song,
+                    next,
+                    octets: OctetCount(octets as usize),
+                    count: value,
+                    unicode,
+                }
+            }
+        },
+    }
+}
+
+// The command, the song type, the title and the pattern count.
+pub fn open(msg: &[u8], at: BitPlace) -> Opening
+    requires { ⌜ Within (now msg) (at .0) ⌝ }
+    ensures { λ r. ⌜ r ≡ openingOf (front (bitsOf (now (msg .entry))) (at .0)) ⌝ }
+{
+    match announced(msg, at) {
+        Command::Withheld { number, at: fault } => Opening::Closed { number, at: fault },
+        Command::Announced { unicode, next } => match any(msg, next, 3) {
+            Step::Bad { number, at: fault } => Opening::Closed { number, at: fault },
+            Step::Good {
+                value,
+                next: behind,
+            } => {
+                if value == 0 {
+                    return Opening::Closed {
+                        number: 4,
+                        at: next,
+                    };
+                }
+                if 2 < value {
+                    return Opening::Closed {
+                        number: 4,
+                        at: next,
+                    };
+                }
+                titled(msg, behind, value, unicode)
+            }
+        },
+    }
+}
+
+// ---- the end
+
+// Filler to an octet's boundary, and the end octet, element by element.
+fn ended(msg: &[u8], at: BitPlace) -> Step
+    requires { ⌜ Within (now msg) (at .0) ⌝ }
+    ensures { λ r. ⌜ r ≡ stepOf (endingDue (bitsOf (now (msg .entry))) (at .0)) ⌝ }
+{
+    let reached = bits::place_after(bits::octets_to(at));
+    let filler = (reached.0 - at.0) as u32;
+    if filler == 0 {
+        return due(msg, at, 8, 0, 9);
+    }
+    match due(msg, at, filler, 0, 8) {
+        Step::Bad { number, at: fault } => Step::Bad { number, at: fault },
+        Step::Good { value: _, next } => due(msg, next, 8, 0, 9),
+    }
+}
+
+// The same. Where both are there and 0, it is told by two octets.
+pub fn ending(msg: &[u8], at: BitPlace) -> Step
+    requires { ⌜ Within (now msg) (at .0) ⌝ }
+    ensures { λ r. ⌜ r ≡ stepOf (endingDue (bitsOf (now (msg .entry))) (at .0)) ⌝ }
+{
+    let reached = bits::octets_to(at).0;
+    if reached < msg.len() {
+        if bits::through_octet(msg, at) == 0 {
+            return Step::Good {
+                value: 0,
+                next: bits::place_after(OctetCount(reached + 1)),
+            };
+        }
+    }
+    ended(msg, at)
+}
+
+// ---- what stands in a message that was judged
+
+// The entry of a kind, `w` payload bits wide, that was seen at a place.
+fn entry_of(at: BitPlace, x: u32, kind: u32, w: u32) -> Cell
+    requires { ⌜ (at .0 < 2 ^ 63) × (x < 16777216) × (kind ≤ 5) × (w ≤ 14) ⌝ }
+    ensures { λ r. ⌜ (r .cell ≡ kind * 65536 + x / 2 ^ (24 - (3 + w)) % 2 ^ w) × (r .next .0 ≡ at .0 + 3 + w) ⌝ }
+{
+    Cell {
+        cell: kind * 65536 + bits::part(x, 3, w),
+        next: BitPlace(at.0 + 3 + w as usize),
+    }
+}
+
+// The entry at a place where one stands.
+pub fn entry_at(msg: &[u8], at: BitPlace) -> Cell
+    requires { ⌜ Within (now msg) (at .0) ⌝ }
+    requires { ⌜ SomeEntry (now msg) (at .0) ⌝ }
+    ensures { λ r. ⌜ ((e : ℕ) (b : List Bool) → EntryAt (now (msg .entry)) (at .0) e b → Passed (at .0) e (r .cell) (r .next .0)) ⌝ }
+{
+    let x = bits::look(msg, at);
+    let kind = x / 2097152;
+    if kind == 1 {
+        return entry_of(at, x, 1, 9);
+    }
+    entry_of(at, x, kind, width(kind))
+}

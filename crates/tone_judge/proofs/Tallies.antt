@@ -1,0 +1,343 @@
+-- Patterns are judged and counted, one a turn.
+use Prim.Native.Nat.{ℕ, suc, _+_, _-_, _*_, _≤_, _<_}
+use native.Mathlib.Omega.{arith}
+use native.Mathlib.Nat.{add-zero, zero-add, add-assoc, le-trans}
+use mathlib.Core.Path.{_≡_, refl, sym, ap, ap₂, subst, _∙_}
+use mathlib.Core.Bool.{Bool, true, false}
+use mathlib.Core.List.{List, [], _∷_}
+use lib.ListN.{length, getD, set, replicate, length-append, length-map}
+use lib.Seq.{getD-set-same}
+use lib.Dec.{eqb}
+use Rattle.bits.specs.Choice.{pick}
+use Rattle.bits.specs.Bits.{bitsOf}
+use Rattle.bits.specs.declared.BitPlace.{BitPlace}
+use Rattle.bits.proofs.Choice.{pick-elim}
+use Rattle.bits.proofs.Octets.{length-bitsOf}
+use Rattle.tone.specs.Tone.{Pattern, cells, specifier, loopOf, partOf, header, pattern, noneKnown, learn}
+use Rattle.tone.specs.Writing.{entryBits, tableBits}
+use Rattle.tone.specs.Reading.{Got, got, bad, onward, headerDue, bodyDue, patternsDue}
+use Rattle.tone.proofs.Exact.{Accepted}
+use Rattle.tone.proofs.Rows.{Header, Body, header-exact, header-pattern, body-exact, header-wide, patterns-exact}
+use Rattle.tone.proofs.Recalls.{learn-set}
+use Rattle.tone_elements.specs.declared.Step.{Step}
+use Rattle.tone_elements.specs.declared.Step.the-variants.{Good, Bad}
+use Rattle.tone_elements.specs.Answers.{Within, place, stepAs, stepOf, notes, entries}
+use Rattle.tone_elements.proofs.Steps.{step-there, step-good, step-bad}
+use Rattle.tone_elements.proofs.Walks.{stays}
+use Rattle.edit_change.specs.Change.{withBody}
+use Rattle.list_count.specs.declared.Count.{Count}
+use Rattle.tone_judge.specs.declared.Wish.{Wish}
+use Rattle.tone_judge.specs.declared.Cut.{Cut}
+use Rattle.tone_judge.specs.declared.Own.{Own}
+use Rattle.tone_judge.specs.declared.Total.{Total}
+use Rattle.tone_judge.specs.declared.Single.{Single}
+use Rattle.tone_judge.specs.declared.Single.the-variants.{Fine, Fault}
+use Rattle.tone_judge.specs.declared.Tally.the-variants.{Counted, Stopped}
+use Rattle.list_count.specs.Bodies.{Remembered, noBodies, passesOf, bodyOf, remember}
+use Rattle.list_count.specs.Counting.{entryCount, markOf, markFrom, noCount, counted}
+use Rattle.tone_elements.specs.Standing.{bodyIn, PartAt}
+use Rattle.tone_judge.specs.Wishes.{wished, leftAt, noCut, cutOf, cutIn, Owned}
+use Rattle.tone_judge.specs.Answers.{singleOf, totalOf, tallyAs}
+use Rattle.list_count.proofs.Bodies.{knownOf, remember-length, learn-read, Each, each-start, each-sounds, each-kept, Brief, none-brief, notes-most}
+use Rattle.list_count.proofs.Counts.{notesOf, allNotes, noted-remembers, notes-sounding, counted-most, Unmarked, counted-unmarked}
+use Rattle.tone_judge.proofs.Wishing.{granted-length, behindPart, part-bits, bodyWished, wishedFrom, cutPast, cutFrom, wished-is, cut-is}
+
+-- ---- what is counted, resumed
+
+-- what a count comes to with the patterns that are left, behind t entries of the table: ps in the table, qs in the list
+abbrev resumed : ℕ → Count → List Remembered → ℕ → Cut → List Pattern → List Pattern → Total
+resumed t c bodies z k ps qs =
+    pick (c .ended)
+    (record { table = t + entries ps; list = c .entries; mark = c .mark; end = place z; cut = k })
+    (record { table = t + entries ps; list = c .entries + entryCount bodies qs; mark = markFrom bodies (c .entries) qs; end = place z; cut = k })
+
+-- one pattern more in the table
+table-one : (t : ℕ) (p : Pattern) (ps : List Pattern) → t + entries (p ∷ ps) ≡ t + (1 + length (p .body)) + entries ps
+table-one t p ps = rw (length-append (p .body) (cells ps)) (omega arith)
+
+-- one pattern
+resumed-one : (t : ℕ) (c : Count) (bodies : List Remembered) (z : ℕ) (k : Cut) (p q : Pattern) (ps qs : List Pattern)
+    → resumed t c bodies z k (p ∷ ps) (q ∷ qs) ≡ resumed (t + (1 + length (p .body))) (counted c (notes (bodyOf bodies q)) (q .loop)) (remember bodies q) z k ps qs
+unfolding counted
+resumed-one t c bodies z k p q ps qs = rw (table-one t p ps) (go (c .ended) (eqb (q .loop) 15))
+  where
+    go : (b u : Bool) →
+        let n = notes (bodyOf bodies q) in
+        let m = n * passesOf (q .loop) in
+        let more = entryCount (remember bodies q) qs in
+        let c′ : Count = pick b (record { entries = c .entries; mark = c .mark; ended = b }) (pick u (record { entries = c .entries + m; mark = markOf (c .entries) n; ended = true }) (record { entries = c .entries + m; mark = c .mark; ended = false })) in
+        _≡_ {A = Total} (pick b (record { table = t + (1 + length (p .body)) + entries ps; list = c .entries; mark = c .mark; end = place z; cut = k }) (record { table = t + (1 + length (p .body)) + entries ps; list = c .entries + (m + pick u 0 more); mark = pick u (markOf (c .entries) n) (markFrom (remember bodies q) (c .entries + m) qs); end = place z; cut = k }))
+        (resumed (t + (1 + length (p .body))) c′ (remember bodies q) z k ps qs)
+    go true u = refl
+    go false true = ap (λ (x : ℕ). record { table = t + (1 + length (p .body)) + entries ps; list = c .entries + x; mark = markOf (c .entries) (notes (bodyOf bodies q)); end = place z; cut = k }) (add-zero (notes (bodyOf bodies q) * passesOf (q .loop)))
+    go false false =
+        let m = notes (bodyOf bodies q) * passesOf (q .loop) in
+        ap (λ (x : ℕ). record { table = t + (1 + length (p .body)) + entries ps; list = x; mark = markFrom (remember bodies q) (c .entries + m) qs; end = place z; cut = k }) (sym (add-assoc (c .entries) m (entryCount (remember bodies q) qs)))
+
+-- the same of patterns that stand at a place, as they are wished
+abbrev summed : Wish → ℕ → ℕ → ℕ → Cut → ℕ → Count → List Remembered → List Pattern → Total
+summed w named left at k t c bodies ps = resumed t c bodies (at + length (tableBits (cells ps))) (cutFrom w named left at k ps) ps (wishedFrom w named left ps)
+
+summed-one : (w : Wish) (named left at : ℕ) (k : Cut) (t : ℕ) (c : Count) (bodies : List Remembered) (p : Pattern) (ps : List Pattern) →
+    let q = withBody p (bodyWished w named (suc left) (p .body)) in
+    summed w named (suc left) at k t c bodies (p ∷ ps)
+    ≡ summed w named left (behindPart at p) (cutPast w named (suc left) at p k) (t + (1 + length (p .body))) (counted c (notes (bodyOf bodies q)) (p .loop)) (remember bodies q) ps
+summed-one w named left at k t c bodies p ps =
+    let q = withBody p (bodyWished w named (suc left) (p .body)) in
+    let k′ = cutFrom w named left (behindPart at p) (cutPast w named (suc left) at p k) ps in
+    ap (λ (z : ℕ). resumed t c bodies z k′ (p ∷ ps) (q ∷ wishedFrom w named left ps)) (part-bits at p ps)
+    ∙ resumed-one t c bodies (behindPart at p + length (tableBits (cells ps))) k′ p q ps (wishedFrom w named left ps)
+
+-- from the start on
+summed-all : (w : Wish) (at : ℕ) {n : ℕ} (ps : List Pattern) → length ps ≡ n → summed w (leftAt n (w .pattern)) n at noCut 0 noCount noBodies ps ≡ totalOf w at ps
+summed-all w at ps e = rw (← e) (ap₂ (λ (k : Cut) (qs : List Pattern). resumed 0 noCount noBodies (at + length (tableBits (cells ps))) k ps qs) (cut-is w at ps) (wished-is w at ps)
+    ∙ ap₂ (λ (x y : ℕ). record { table = x; list = y; mark = markFrom noBodies 0 (wished w ps); end = place (at + length (tableBits (cells ps))); cut = cutIn w at ps }) (zero-add (entries ps)) (zero-add (entryCount noBodies (wished w ps))))
+
+-- ---- answers that count
+
+-- answers alike for all that can be read
+tally-cong : {f g : List Pattern → Total} (x : Got (List Pattern)) → ((ps : List Pattern) (p : ℕ) → x ≡ got ps p → f ps ≡ g ps) → tallyAs f x ≡ tallyAs g x
+tally-cong (got ps p) h = ap (λ (v : Total). Counted (place p) v) (h ps p refl)
+tally-cong (bad n p e) h = refl
+
+tally-map : (f : List Pattern → Total) (q : Pattern) (x : Got (List Pattern)) → tallyAs f (onward x (λ ps p. got (q ∷ ps) p) bad) ≡ tallyAs (λ ps. f (q ∷ ps)) x
+tally-map f q (got ps p) = refl
+tally-map f q (bad n p e) = refl
+
+-- one pattern is read
+tally-step : (w : Wish) (named : ℕ) {left k : ℕ} (at : ℕ) (z : Cut) (t : ℕ) (c : Count) (bodies : List Remembered) (seen : List Bool) (l : List Bool) {h q : ℕ} {b : List ℕ} {r : ℕ}
+    → left ≡ suc k → headerDue seen l at ≡ got h q → bodyDue (specifier h) l q ≡ got b r →
+    let x = pattern h (bodyWished w named left b) in
+    tallyAs (summed w named left at z t c bodies) (patternsDue left seen l at)
+    ≡ tallyAs (summed w named k (behindPart at (pattern h b)) (cutPast w named left at (pattern h b) z) (t + (1 + length b)) (counted c (notes (bodyOf bodies x)) (loopOf h)) (remember bodies x)) (patternsDue k (learn seen h) l r)
+unfolding patternsDue
+tally-step w named {left} {k} at z t c bodies seen l {h} {q} {b} {r} j e f =
+    rw (j, e, f)
+    (tally-map (summed w named (suc k) at z t c bodies) (pattern h b) (patternsDue k (learn seen h) l r)
+    ∙ tally-cong (patternsDue k (learn seen h) l r) (λ ps p _. summed-one w named k at z t c bodies (pattern h b) ps))
+
+-- nothing is left
+resumed-none : (t : ℕ) (c : Count) (bodies : List Remembered) (z : ℕ) (k : Cut) → Unmarked c → resumed t c bodies z k [] [] ≡ record { table = t; list = c .entries; mark = c .mark; end = place z; cut = k }
+resumed-none t c bodies z k h =
+    pick-elim (λ (v : Total). v ≡ record { table = t; list = c .entries; mark = c .mark; end = place z; cut = k }) (c .ended)
+    (λ _. λ i. record { table = add-zero t i; list = c .entries; mark = c .mark; end = place z; cut = k })
+    (λ e. λ i. record { table = add-zero t i; list = add-zero (c .entries) i; mark = sym (h e) i; end = place z; cut = k })
+
+-- ---- one pattern by itself
+
+-- a pattern that is fine: where its header ends, and its instructions
+record SingleThere (seen l : List Bool) (p v q own : ℕ) : Type 0 where
+  behind : ℕ
+  header : headerDue seen l p ≡ got v behind
+  body : List ℕ
+  reads : bodyDue (specifier v) l behind ≡ got body q
+  noted : own ≡ notes body
+
+single-fine : (seen l : List Bool) (p : ℕ) {v own : ℕ} {f : BitPlace} → Fine v f own ≡ singleOf seen l p → SingleThere seen l p v (f .0) own
+single-fine seen l p {v} {own} {f} e = go (headerDue seen l p) refl e
+  where
+    inner : (h q : ℕ) → headerDue seen l p ≡ got h q → (x : Got (List ℕ)) → bodyDue (specifier h) l q ≡ x → Fine v f own ≡ onward x (λ b r. Fine h (place r) (notes b)) (λ n z e. Fault n (place z)) → SingleThere seen l p v (f .0) own
+    inner h q g (got b r) k z =
+        let e₁ : v ≡ h = cc in
+        let e₂ : f ≡ place r = cc in
+        let e₃ : own ≡ notes b = cc in
+        record { behind = q; header = rw e₁ g; body = b; reads = rw (e₁, e₂) k; noted = e₃ }
+    inner h q g (bad n z x) k u = let w : _≡_ {A = ℕ} 0 1 = cc in absurd (omega arith)
+
+    go : (x : Got ℕ) → headerDue seen l p ≡ x
+        → Fine v f own ≡ onward x (λ h q. onward (bodyDue (specifier h) l q) (λ b r. Fine h (place r) (notes b)) (λ n z e. Fault n (place z))) (λ n z e. Fault n (place z)) → SingleThere seen l p v (f .0) own
+    go (got h q) g z = inner h q g (bodyDue (specifier h) l q) refl z
+    go (bad n z x) g u = let w : _≡_ {A = ℕ} 0 1 = cc in absurd (omega arith)
+
+-- one that is not stops the row
+single-fault : (a : List Pattern → Total) (k : ℕ) (seen l : List Bool) (p : ℕ) {x : ℕ} {f : BitPlace} → Fault x f ≡ singleOf seen l p → tallyAs a (patternsDue (suc k) seen l p) ≡ Stopped f x
+unfolding patternsDue
+single-fault a k seen l p {x} {f} e = go (headerDue seen l p) e
+  where
+    inner : (h : ℕ) (y : Got (List ℕ)) → Fault x f ≡ onward y (λ b r. Fine h (place r) (notes b)) (λ n z e. Fault n (place z)) → tallyAs a (onward y (λ b r. onward (patternsDue k (learn seen h) l r) (λ ps z. got (pattern h b ∷ ps) z) bad) bad) ≡ Stopped f x
+    inner h (got b r) z = let w : _≡_ {A = ℕ} 0 1 = cc in absurd (omega arith)
+    inner h (bad n z y) u = let e₁ : x ≡ n = cc in let e₂ : f ≡ place z = cc in rw (e₁, e₂) refl
+
+    go : (y : Got ℕ) → Fault x f ≡ onward y (λ h q. onward (bodyDue (specifier h) l q) (λ b r. Fine h (place r) (notes b)) (λ n z e. Fault n (place z))) (λ n z e. Fault n (place z))
+        → tallyAs a (onward y (λ h q. onward (bodyDue (specifier h) l q) (λ b r. onward (patternsDue k (learn seen h) l r) (λ ps z. got (pattern h b ∷ ps) z) bad) bad) bad) ≡ Stopped f x
+    go (got h q) z = inner h (bodyDue (specifier h) l q) z
+    go (bad n z y) u = let e₁ : x ≡ n = cc in let e₂ : f ≡ place z = cc in rw (e₁, e₂) refl
+
+single-made : (seen l : List Bool) (p : ℕ) {v q r : ℕ} {b : List ℕ} → headerDue seen l p ≡ got v q → bodyDue (specifier v) l q ≡ got b r → Fine v (place r) (notes b) ≡ singleOf seen l p
+single-made seen l p e f = rw (e, f) refl
+
+-- in the code's terms: what each return of `pattern` shows
+module _ (seen : List Bool) (m : List ℕ) (p : ℕ) {s : Step} (q : s ≡ stepOf (headerDue seen (bitsOf m) p)) where
+  pub pattern-unheaded : {x : ℕ} {f : BitPlace} → s ≡ Bad x f → Fault x f ≡ singleOf seen (bitsOf m) p
+  pattern-unheaded g = let b = step-bad (λ v. v) (headerDue seen (bitsOf m) p) (sym g ∙ q) in rw (b .1) refl
+
+  module _ {v : ℕ} {f : BitPlace} (g : s ≡ Good v f) where
+    there : headerDue seen (bitsOf m) p ≡ got v (f .0)
+    there = step-there (headerDue seen (bitsOf m) p) (sym g ∙ q)
+
+    pub pattern-inside : Within m p → Within m (f .0)
+    pattern-inside i = record { inside = stays (header-exact seen) m p (i .inside) there; counted = i .counted }
+
+    module _ {s′ : Step} (q′ : s′ ≡ stepAs notes (bodyDue (specifier v) (bitsOf m) (f .0))) where
+      pub pattern-bad : {x : ℕ} {f′ : BitPlace} → s′ ≡ Bad x f′ → Fault x f′ ≡ singleOf seen (bitsOf m) p
+      pattern-bad g′ = let b = step-bad notes (bodyDue (specifier v) (bitsOf m) (f .0)) (sym g′ ∙ q′) in rw (there, b .1) refl
+
+      pub pattern-good : {own : ℕ} {f′ : BitPlace} → s′ ≡ Good own f′ → Fine v f′ own ≡ singleOf seen (bitsOf m) p
+      pattern-good {f′ = f′} g′ = let b = step-good notes (bodyDue (specifier v) (bitsOf m) (f .0)) (sym g′ ∙ q′) in ap (λ (z : ℕ). Fine v f′ z) (b .2) ∙ single-made seen (bitsOf m) p there (b .1)
+
+pub ruleset singles = (pattern-unheaded, pattern-inside, pattern-bad, pattern-good)
+
+-- ---- the loop
+
+-- with `left` patterns to come at p, from the bodies that are remembered, the entries of the table, what is counted and where the wish has cut
+pub record TallyWalk (w : Wish) (named : ℕ) (m : List ℕ) (n at : ℕ) (seen : List Bool) (noteds : List ℕ) (p left t : ℕ) (c : Count) (k : Cut) : Type 0 where
+  pub inside : Within m p
+  pub fewer : c .entries + 3825 * left ≤ 3825 * n
+  pub small : t + 256 * left ≤ 256 * n
+  pub least : left ≤ n
+  pub bodies : List Remembered
+  pub four : length bodies ≡ 4
+  pub brief : Each Brief bodies
+  pub unmarked : Unmarked c
+  pub heard : seen ≡ knownOf bodies
+  pub hummed : noteds ≡ allNotes bodies
+  pub goes : tallyAs (totalOf w at) (patternsDue n noneKnown (bitsOf m) at) ≡ tallyAs (summed w named left p k t c bodies) (patternsDue left seen (bitsOf m) p)
+
+pub tally-begins : (w : Wish) {named : ℕ} (m : List ℕ) (n at : ℕ) {c : Count} {k : Cut} → named ≡ leftAt n (w .pattern) → Within m at → c ≡ noCount → k ≡ noCut → TallyWalk w named m n at noneKnown (replicate 4 0) at n 0 c k
+tally-begins w m n at q h e f = record {
+  inside = h;
+  fewer = rw e (omega arith);
+  small = omega arith;
+  least = omega arith;
+  bodies = noBodies;
+  four = refl;
+  brief = each-start Brief none-brief;
+  unmarked = rw e (λ _. refl);
+  heard = refl;
+  hummed = refl;
+  goes = rw (q, e, f) (sym (tally-cong (patternsDue n noneKnown (bitsOf m) at) (λ ps p r. summed-all w at ps (patterns-exact n noneKnown .sound (bitsOf m) at (rw (length-bitsOf m) (h .inside)) r .good .size))));
+}
+
+pub tally-done : {w : Wish} {named : ℕ} {m : List ℕ} {n at : ℕ} {seen : List Bool} {noteds : List ℕ} {left t : ℕ} {c : Count} {k : Cut} {q : BitPlace} → TallyWalk w named m n at seen noteds (q .0) left t c k → left ≤ 0
+    → Counted q (record { table = t; list = c .entries; mark = c .mark; end = q; cut = k }) ≡ tallyAs (totalOf w at) (patternsDue n noneKnown (bitsOf m) at)
+unfolding patternsDue
+tally-done {left = left} {t = t} {c = c} {k = k} {q = q} w h =
+    let e : left ≡ 0 = omega arith in
+    sym (w .goes ∙ (rw e (ap (Counted q) (resumed-none t c (w .bodies) (q .0 + 0) k (w .unmarked) ∙ ap (λ (x : ℕ). record { table = t; list = c .entries; mark = c .mark; end = place x; cut = k }) (add-zero (q .0))))))
+
+module _ {w : Wish} {named : ℕ} {m : List ℕ} {n at : ℕ} {seen : List Bool} {noteds : List ℕ} {p left t : ℕ} {c : Count} {k : Cut} (y : TallyWalk w named m n at seen noteds p left t c k) where
+  pub tally-within : Within m p
+  tally-within = y .inside
+
+  module _ {s : Single} (h : 0 < left) (q : s ≡ singleOf seen (bitsOf m) p) where
+    one-less : left ≡ suc (left - 1)
+    one-less = omega arith
+
+    pub tally-bad : {x : ℕ} {f : BitPlace} → s ≡ Fault x f → Stopped f x ≡ tallyAs (totalOf w at) (patternsDue n noneKnown (bitsOf m) at)
+    tally-bad g = sym (y .goes ∙ ap (λ (z : ℕ). tallyAs (summed w named left p k t c (y .bodies)) (patternsDue z seen (bitsOf m) p)) one-less ∙ single-fault (summed w named left p k t c (y .bodies)) (left - 1) seen (bitsOf m) p (sym g ∙ q))
+
+    module _ {v own : ℕ} {f′ : BitPlace} (g : s ≡ Fine v f′ own) where
+      single : SingleThere seen (bitsOf m) p v (f′ .0) own
+      single = single-fine seen (bitsOf m) p (sym g ∙ q)
+
+      abbrev f : ℕ
+      f = single .behind
+
+      abbrev b : List ℕ
+      b = single .body
+
+      header-is : Accepted (Header seen) (λ _ x. entryBits x) (bitsOf m) p v f
+      header-is = header-exact seen .sound (bitsOf m) p (rw (length-bitsOf m) (y .inside .inside)) (single .header)
+
+      inside : Within m f
+      inside = record { inside = stays (header-exact seen) m p (y .inside .inside) (single .header); counted = y .inside .counted }
+
+      -- a header has 17 bits
+      behind-header : f ≡ p + 17
+      behind-header = header-is .end ∙ ap (λ (x : ℕ). p + x) (header-wide v (header-is .good .small))
+
+      body-is : Accepted (Body (specifier v)) (λ _ x. tableBits x) (bitsOf m) f b (f′ .0)
+      body-is = body-exact (specifier v) .sound (bitsOf m) f (rw (length-bitsOf m) (inside .inside)) (single .reads)
+
+      size : length b ≡ specifier v
+      size = body-is .good .size
+
+      -- the body that was read stands behind the header
+      reads : bodyDue (specifier v) (bitsOf m) (p + 17) ≡ got b (f′ .0)
+      reads = ap (bodyDue (specifier v) (bitsOf m)) (sym behind-header) ∙ single .reads
+
+      pub tally-part : PartAt m p v own
+      tally-part = record {
+        stands = record { within = subst (Within m) behind-header inside; short = omega arith; reads = rw reads refl };
+        noted = single .noted ∙ (rw reads refl);
+      }
+
+      module _ {o : Own} (u : Owned (eqb left named) w p v (bodyIn m (p + 17) (specifier v)) k o) {heard : ℕ} (e : heard ≡ pick (eqb (specifier v) 0) (getD noteds (partOf v) 0) (o .notes)) where
+        wish : List ℕ
+        wish = bodyWished w named left b
+
+        wish-length : (eqb (length wish) 0 ≡ eqb (specifier v) 0) × (length wish ≤ 255)
+        unfolding wish
+        wish-length =
+            let short : length b ≤ 255 = omega (arith, size) in
+            rw (← size) (pick-elim (λ (x : List ℕ). (eqb (length x) 0 ≡ eqb (length b) 0) × (length x ≤ 255)) (eqb left named) (λ _. granted-length w b short) (λ _. (refl, short)))
+
+        own-is : (o .notes ≡ notes wish) × (o .cut ≡ cutPast w named left p (pattern v b) k)
+        unfolding wish
+        own-is =
+            let x : bodyIn m (p + 17) (specifier v) ≡ b = rw reads refl in
+            let z : header (pattern v b) ≡ v = header-pattern v b (header-is .good .small) size in (
+              u .0 ∙ ap (λ (z : List ℕ). notes (bodyWished w named left z)) x,
+              u .1 ∙ ap₂ (λ (u : List ℕ) (h : ℕ). pick (eqb left named) (cutOf w p h u) k) x (sym z),
+            )
+
+        after : List Remembered
+        after = remember (y .bodies) (pattern v wish)
+
+        hummed-after : set noteds (partOf v) heard ≡ allNotes after
+        unfolding after
+        hummed-after =
+            ap (set noteds (partOf v)) e
+            ∙ ap₂ (λ (l : List ℕ) (x : ℕ). set l (partOf v) (pick (eqb (specifier v) 0) (getD l (partOf v) 0) x)) (y .hummed) (own-is .0) ∙ noted-remembers (y .bodies) v wish (wish-length .0)
+
+        sounds : heard ≡ notes (bodyOf (y .bodies) (pattern v wish))
+        unfolding after
+        sounds =
+            let four : length noteds ≡ 4 = ap length (y .hummed) ∙ length-map (y .bodies) notesOf ∙ y .four in
+            sym (getD-set-same noteds (partOf v) heard 0 (omega arith)) ∙ ap (λ (l : List ℕ). getD l (partOf v) 0) hummed-after ∙ notes-sounding (y .bodies) v wish (y .four)
+
+        -- what sounds has few notes
+        pub tally-notes : heard ≤ 255
+        tally-notes = rw sounds (le-trans (notes-most (bodyOf (y .bodies) (pattern v wish))) (each-sounds Brief none-brief (y .bodies) (y .brief) (pattern v wish) (wish-length .1)))
+
+        behind-part : behindPart p (pattern v b) ≡ f′ .0
+        behind-part =
+            let z : header (pattern v b) ≡ v = header-pattern v b (header-is .good .small) size in
+            omega (arith, ap (λ (x : ℕ). length (entryBits x)) z, header-is .end, body-is .end)
+
+        pub tally-on : {c′ : Count} → c′ ≡ counted c heard (loopOf v)
+            → TallyWalk w named m n at (set seen (partOf v) true) (set noteds (partOf v) heard) (f′ .0) (left - 1) (t + (1 + specifier v)) c′ (o .cut)
+        unfolding after wish
+        tally-on {c′} j =
+            let l : set seen (partOf v) true ≡ learn seen v = sym (learn-set seen v (header-is .good .recall)) in
+            let j′ : c′ ≡ counted c (notes (bodyOf (y .bodies) (pattern v wish))) (loopOf v) = j ∙ ap (λ (x : ℕ). counted c x (loopOf v)) sounds in
+            let most : c′ .entries ≤ c .entries + 3825 = rw j (counted-most c heard (loopOf v) tally-notes (omega arith)) in
+            record {
+              inside = record { inside = stays (body-exact (specifier v)) m f (inside .inside) (single .reads); counted = y .inside .counted };
+              fewer = omega (arith, y .fewer);
+              small = omega (arith, y .small);
+              least = omega (arith, y .least);
+              bodies = after;
+              four = remember-length (y .bodies) (pattern v wish) ∙ y .four;
+              brief = each-kept Brief (y .bodies) (y .brief) (pattern v wish) (wish-length .1);
+              unmarked = rw j (counted-unmarked c heard (loopOf v) (y .unmarked));
+              heard = l ∙ ap (λ (x : List Bool). learn x v) (y .heard) ∙ learn-read (y .bodies) v wish (wish-length .0);
+              hummed = hummed-after;
+              goes = y .goes
+                  ∙ tally-step w named p k t c (y .bodies) seen (bitsOf m) one-less (single .header) (single .reads)
+                  ∙ ap₂ (λ (x : ℕ) (z : Cut). tallyAs (summed w named (left - 1) x z (t + (1 + length b)) (counted c (notes (bodyOf (y .bodies) (pattern v wish))) (loopOf v)) after) (patternsDue (left - 1) (learn seen v) (bitsOf m) (f′ .0))) behind-part (sym (own-is .1))
+                  ∙ ap (λ (x : ℕ). tallyAs (summed w named (left - 1) (f′ .0) (o .cut) (t + (1 + x)) (counted c (notes (bodyOf (y .bodies) (pattern v wish))) (loopOf v)) after) (patternsDue (left - 1) (learn seen v) (bitsOf m) (f′ .0))) size
+                  ∙ ap₂ (λ (x : Count) (z : List Bool). tallyAs (summed w named (left - 1) (f′ .0) (o .cut) (t + (1 + specifier v)) x after) (patternsDue (left - 1) z (bitsOf m) (f′ .0))) (sym j′) (sym l);
+            }
+
+pub ruleset tallies = (tally-begins, tally-done, tally-within, tally-bad, tally-part, tally-notes, tally-on)

@@ -1,0 +1,37 @@
+-- Where two grounds against writing meet, which of them is given.
+use Prim.Native.Nat.{ℕ, _≤_, _<_}
+use mathlib.Core.Path.{_≡_, refl}
+use mathlib.Core.Bool.{Bool, true, false}
+use mathlib.Core.List.{List}
+use borrow.Author.Tests.{le-leb, lt-leb}
+use Rattle.bits.specs.Outcome.{refused}
+use Rattle.tone.specs.Tone.{Tone}
+use Rattle.tone.specs.Writing.{toneLength, mostOctets}
+use Rattle.tone_table.specs.Weighing.{judgeTable}
+use Rattle.tone_write.specs.Judging.{songFine, titleFine, sized, writeTone}
+
+module _ (song : ℕ) (unicode : Bool) (title table : List ℕ) (room : ℕ) where
+  -- 4 whatever the title, the table and the room are
+  pub song-first : songFine song ≡ false → writeTone song unicode title table room ≡ refused 4 0
+  unfolding writeTone
+  song-first s = rw s refl
+
+  -- 17 whatever the table and the room are
+  pub title-second : songFine song ≡ true → titleFine song unicode title ≡ false → writeTone song unicode title table room ≡ refused 17 0
+  unfolding writeTone
+  title-second s t = rw (s, t) refl
+
+  -- the table's ground, too many patterns among them, whatever the size and the room are
+  pub table-third : {n p : ℕ} → songFine song ≡ true → titleFine song unicode title ≡ true → judgeTable table ≡ refused n p → writeTone song unicode title table room ≡ refused n p
+  unfolding writeTone
+  table-third s t j = rw (s, t, j) refl
+
+-- 1 whatever the room is
+pub bound-first : (room : ℕ) (t : Tone) → mostOctets < toneLength t → sized room t ≡ refused 1 0
+unfolding sized
+bound-first room t h = rw (lt-leb (toneLength t) mostOctets h) refl
+
+-- 11 last
+pub room-last : (room : ℕ) (t : Tone) → toneLength t ≤ mostOctets → room < toneLength t → sized room t ≡ refused 11 0
+unfolding sized
+room-last room t h k = rw (le-leb (toneLength t) mostOctets h, lt-leb (toneLength t) room k) refl
