@@ -1,8 +1,9 @@
 //! The proved library, the obvious implementation and the optimised one, put
 //! to the same inputs. Answers, places and every lent cell are compared.
 //!
-//! `OHAKELM_SEED` sets the seed and `OHAKELM_CASES` the number of cases. The
-//! long run is `cargo test --release --test compare -- --ignored --nocapture`.
+//! The gate's run has a fixed seed. A longer one, with a seed of its own that it
+//! prints, is `cargo test --release --test compare -- --ignored --nocapture`.
+//! For both `OHAKELM_SEED` sets the seed and `OHAKELM_CASES` the number of cases.
 
 mod support;
 
@@ -14,22 +15,24 @@ use support::codecs::{Codec, Edit, LogoParts, Obvious, Spot, ALL};
 use support::compare::Comparison;
 use support::rng::{cases_set, seed_from_clock, seed_set};
 
-const SHORT_RUN: usize = 100_000;
-const LONG_RUN: usize = 1_200_000;
+/// So many that a rule which is wrong only at a bound comes up too. It takes some
+/// fifteen seconds.
+const GATE_RUN: usize = 1_200_000;
+const LONGER_RUN: usize = 12_000_000;
 
 /// From this many cases on each refusal has surely come up.
 const ENOUGH_FOR_ALL: usize = 100_000;
 
 #[test]
 fn random_cases_agree() {
-    let cases = cases_set().unwrap_or(SHORT_RUN);
+    let cases = cases_set().unwrap_or(GATE_RUN);
     compare(cases, seed_set().unwrap_or(20_001_231));
 }
 
 #[test]
-#[ignore = "the long run, to be asked for"]
-fn a_million_random_cases_agree() {
-    let cases = cases_set().unwrap_or(LONG_RUN);
+#[ignore = "the longer run, to be asked for"]
+fn more_random_cases_agree() {
+    let cases = cases_set().unwrap_or(LONGER_RUN);
     compare(cases, seed_set().unwrap_or_else(seed_from_clock));
 }
 
