@@ -11,8 +11,10 @@ pub mod codecs;
 pub mod compare;
 pub mod inputs;
 pub mod kinds;
+pub mod largest;
 pub mod lent;
 pub mod logos;
+pub mod measured;
 pub mod rng;
 pub mod tones;
 
