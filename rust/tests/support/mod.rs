@@ -7,8 +7,10 @@
 pub mod c;
 pub mod calls;
 pub mod cases;
+pub mod code;
 pub mod codecs;
 pub mod compare;
+pub mod document;
 pub mod inputs;
 pub mod kinds;
 pub mod largest;

@@ -1,0 +1,296 @@
+//! The documents and the code say the same. Every name, path and count in
+//! docs/PROMISES.md, docs/TRUST.md and docs/TRACE.md is as they say.
+//!
+//! How a document is to be written so that this can be seen: a name is in
+//! backticks. Where its file is given, that stands in brackets behind it (and
+//! behind its neighbours), or ahead of it in the same item. A file's path is
+//! from the root or from crates/.
+
+mod support;
+
+use std::collections::{BTreeMap, BTreeSet};
+
+use support::c::calls_of_header;
+use support::code::{definitions_in, exports, files_below, signature, Code, Definition};
+use support::document::{blocks, resolved, Block, Named};
+use support::{root, text};
+
+const DOCUMENTS: [&str; 3] = ["docs/PROMISES.md", "docs/TRUST.md", "docs/TRACE.md"];
+
+/// What may stand in backticks and is no name of the repository.
+const OTHER_WORDS: [(&str, &[&str]); 4] = [
+    ("words of Rattle", &["ensures", "requires", "pub"]),
+    ("words of a check's last line", &["axioms", "axioms="]),
+    ("the toolchain", &["rattle-kit-5b logic 064da1ca440f63e7"]),
+    ("what link/archives adds to a name", &["_proved"]),
+];
+
+/// All that is wrong, as one list.
+fn assert_none(faults: Vec<String>) {
+    let lines = faults.join("\n");
+    assert!(faults.is_empty(), "{} faults:\n{lines}", faults.len());
+}
+
+// ---- Names and paths.
+
+#[test]
+fn every_name_is_there() {
+    let code = Code::new();
+    let mut faults = Vec::new();
+    for document in DOCUMENTS {
+        for block in blocks(&text(document)) {
+            let found = faults_of_block(&code, &block);
+            let lines = found
+                .into_iter()
+                .map(|it| format!("{document}:{}: {it}", block.line));
+            faults.extend(lines);
+        }
+    }
+    assert_none(faults);
+}
+
+fn faults_of_block(code: &Code, block: &Block) -> Vec<String> {
+    let paths = block.paths();
+    let missing = paths
+        .iter()
+        .filter(|path| resolved(path, &block.crate_name).is_none());
+    let mut faults: Vec<String> = missing.map(|path| format!("there is no {path}")).collect();
+    for named in block.named() {
+        faults.extend(fault_of_name(code, block, &named));
+    }
+    faults
+}
+
+fn fault_of_name(code: &Code, block: &Block, named: &Named) -> Option<String> {
+    let name = &named.name[..];
+    if let Some((function, rest)) = name.split_once('(') {
+        return fault_of_signature(&block.crate_name, function, rest);
+    }
+    // A theorem may stand with what it shows.
+    let (name, shown) = name.split_once(" : ").unwrap_or((name, name));
+    if !is_known(code, name) || !is_known(code, shown) {
+        return Some(format!("nothing is called {name}"));
+    }
+    let path = resolved(named.path.as_ref()?, &block.crate_name)?;
+    let places = code.places(name);
+    let elsewhere = !places.contains(&path) && !is_beside(&places);
+    elsewhere.then(|| format!("{name} is not in {path}, but in {places:?}"))
+}
+
+/// Whether a name is a crate's, or of the code alone. Such a name may stand
+/// beside those that a path is given for.
+fn is_beside(places: &BTreeSet<String>) -> bool {
+    let is_crate = |place: &String| place.matches('/').count() == 1;
+    let is_code = |place: &String| place.contains("/src/") || place.ends_with(".h");
+    places.iter().any(is_crate) || places.iter().all(is_code)
+}
+
+fn is_known(code: &Code, name: &str) -> bool {
+    let other = OTHER_WORDS.iter().any(|(_, words)| words.contains(&name));
+    let command = name.split(' ').next().unwrap_or_default();
+    let is_command = command == "rt" || name.contains('/') && root(command).exists();
+    let built = name.starts_with("target/");
+    let ending = name
+        .strip_prefix('…')
+        .is_some_and(|end| code.has_one_ending_in(end));
+    code.has(name) || other || is_command || built || ending || is_folder_of_crates(name)
+}
+
+/// `specs/` and the others that each crate may have.
+fn is_folder_of_crates(name: &str) -> bool {
+    ["specs/", "proofs/", "must-fail/", "src/"].contains(&name)
+}
+
+/// `NAME(PARAMETER, ..) -> ANSWER`, in the section of a crate. The parameters may
+/// be left out as `…`.
+fn fault_of_signature(crate_name: &str, function: &str, rest: &str) -> Option<String> {
+    let (parameters, answer) = rest.split_once(") -> ")?;
+    let Some(real) = signature(crate_name, function) else {
+        return Some(format!("{crate_name} has no function {function}"));
+    };
+    let parameters: Vec<&str> = parameters.split(", ").collect();
+    let alike = parameters == ["…"] || parameters == real.parameters;
+    (!alike || answer != real.answer).then(|| format!("{function} of {crate_name} is {real:?}"))
+}
+
+// ---- The exports.
+
+#[test]
+fn every_export_is_in_the_header_and_in_the_documents() {
+    let exports = exports();
+    assert!(!exports.is_empty());
+    assert_eq!(calls_of_header(), exports, "include/ohakelm.h");
+    for document in ["docs/PROMISES.md", "docs/TRACE.md"] {
+        let blocks = blocks(&text(document));
+        let names = blocks.iter().flat_map(Block::named).map(|named| named.name);
+        let named: BTreeSet<String> = names.filter(|name| name.starts_with("ohakelm_")).collect();
+        assert_eq!(named, exports, "{document}");
+    }
+}
+
+// ---- The definitions that must be believed.
+
+/// The files that a row of the table counts, and their lines.
+fn counted_files() -> Vec<(usize, Vec<String>, String)> {
+    let blocks = blocks(&text("docs/TRUST.md"));
+    let rows = blocks.windows(2).filter(|cells| cells[0].column == "file");
+    let row = |cells: &[Block]| {
+        let files = cells[0]
+            .paths()
+            .into_iter()
+            .filter_map(|path| resolved(&path, ""));
+        (
+            cells[0].line,
+            files.collect(),
+            cells[1].text.replace(',', ""),
+        )
+    };
+    rows.map(row).collect()
+}
+
+#[test]
+fn the_lines_of_the_definitions_are_counted() {
+    let rows = counted_files();
+    assert!(!rows.is_empty());
+    let wrong = rows.into_iter().filter_map(|(line, files, count)| {
+        let lines: usize = files.iter().map(|file| text(file).lines().count()).sum();
+        let fault = format!("docs/TRUST.md:{line}: {files:?} have {lines} lines, not {count}");
+        (lines.to_string() != count).then_some(fault)
+    });
+    assert_none(wrong.collect());
+}
+
+/// All files of specs/ but those that list the others.
+fn specs() -> Vec<String> {
+    let files = files_below("crates").into_iter();
+    let specs = files.filter(|file| file.contains("/specs/") && file.ends_with(".antt"));
+    specs.filter(|file| !file.ends_with("/Lib.antt")).collect()
+}
+
+#[test]
+fn no_definition_is_left_out() {
+    let blocks = blocks(&text("docs/TRUST.md"));
+    let paths = blocks.iter().flat_map(Block::paths);
+    let named: BTreeSet<String> = paths.filter_map(|path| resolved(&path, "")).collect();
+    let left_out = specs().into_iter().filter(|file| !named.contains(file));
+    assert_none(
+        left_out
+            .map(|file| format!("docs/TRUST.md has no {file}"))
+            .collect(),
+    );
+}
+
+/// Files of the table that no promise cites, and why they are read.
+const READ_BESIDE: [(&str, &str); 3] = [
+    ("/Samples.antt", "to hold the rules against"),
+    (
+        "/Room.antt",
+        "how much to lend, which the theorems are about",
+    ),
+    ("/Text.antt", "what the program prints"),
+];
+
+/// What a promise of a public call stands on must be read, and nothing else.
+#[test]
+fn the_table_has_what_the_promises_stand_on() {
+    let counted: BTreeSet<String> = counted_files().into_iter().flat_map(|row| row.1).collect();
+    let promises = counted.iter().filter(|file| file.contains("/Promise"));
+    let cited = files_cited(promises.cloned().collect());
+    assert!(cited.len() > 9, "{cited:?}");
+    let beside = |file: &str| READ_BESIDE.iter().any(|(end, _)| file.ends_with(end));
+    let left_out = cited
+        .difference(&counted)
+        .map(|file| format!("{file} is cited by a promise"));
+    let idle = counted.difference(&cited).filter(|file| !beside(file));
+    let idle = idle.map(|file| format!("{file} is cited by no promise"));
+    assert_none(left_out.chain(idle).collect());
+}
+
+/// The files of specs/ that have what the definitions of these files are stated
+/// with, directly or by way of others.
+fn files_cited(files: Vec<String>) -> BTreeSet<String> {
+    let specs: BTreeMap<String, String> = specs()
+        .into_iter()
+        .map(|it| (it.clone(), text(it)))
+        .collect();
+    let mut left: Vec<(String, Definition)> = Vec::new();
+    for file in files {
+        left.extend(
+            definitions_in(&specs[&file])
+                .into_iter()
+                .map(|it| (file.clone(), it)),
+        );
+    }
+    let (mut cited, mut seen) = (BTreeSet::new(), BTreeSet::new());
+    while let Some((file, definition)) = left.pop() {
+        for word in definition.words {
+            let (file, name) = used_as(&specs[&file], &word).unwrap_or((file.clone(), word));
+            if seen.insert((file.clone(), name.clone())) {
+                let there = definitions_in(&specs[&file]).into_iter();
+                let named = there.filter(|it| it.names.contains(&name));
+                left.extend(named.map(|it| (file.clone(), it)));
+            }
+        }
+        cited.insert(file);
+    }
+    cited
+}
+
+/// The file of specs/ that a file has a name from, and its name there: `use
+/// Rattle.CRATE.specs.FILE.{NAME, NAME as NAME}`, in its own crate with `·specs`
+/// behind the crate. The types of the code are declared there too, and are no
+/// files.
+fn used_as(text: &str, name: &str) -> Option<(String, String)> {
+    text.lines().find_map(|line| {
+        let (from, behind) = line.strip_prefix("use Rattle·")?.split_once(".specs.")?;
+        let (path, names) = behind.trim_end_matches('}').split_once(".{")?;
+        let mut pairs = names
+            .split(", ")
+            .map(|it| it.split_once(" as ").unwrap_or((it, it)));
+        let (there, _) = pairs.find(|(_, here)| *here == name)?;
+        let from = from.trim_end_matches("·specs");
+        let file = format!("crates/{from}/specs/{}.antt", path.replace('.', "/"));
+        root(&file).exists().then(|| (file, there.to_string()))
+    })
+}
+
+// ---- The trace.
+
+/// A row has the words of the rules, and then definitions, theorems and tests:
+/// `–`, or names with the place where each stands.
+#[test]
+fn every_row_of_the_trace_says_where_things_stand() {
+    let (code, mut faults) = (Code::new(), Vec::new());
+    let blocks = blocks(&text("docs/TRACE.md"));
+    let cells = blocks.iter().filter(|cell| !cell.column.is_empty());
+    let cells: Vec<&Block> = cells.filter(|cell| cell.position > 0).collect();
+    assert!(!cells.is_empty());
+    for cell in cells.into_iter().filter(|cell| cell.text != "–") {
+        for item in cell.text.split("; ") {
+            let fault = fault_of_item(&code, item);
+            faults.extend(fault.map(|it| format!("docs/TRACE.md:{}: {it}", cell.line)));
+        }
+    }
+    assert_none(faults);
+}
+
+/// `NAME`, `NAME` (PATH)
+fn fault_of_item(code: &Code, item: &str) -> Option<String> {
+    let block = Block {
+        text: item.to_string(),
+        ..Block::default()
+    };
+    let (named, paths) = (block.named(), block.paths());
+    if named.is_empty() || paths.len() != 1 || !item.ends_with(&format!(" ({})", paths[0])) {
+        return Some(format!("no names with their place: {item}"));
+    }
+    let place = resolved(&paths[0], "")?;
+    let mut elsewhere = named
+        .iter()
+        .filter(|it| !code.places(&it.name).contains(&place));
+    let name = &elsewhere.next()?.name;
+    Some(format!(
+        "{name} is not in {place}, but in {:?}",
+        code.places(name)
+    ))
+}
