@@ -18,12 +18,23 @@ use support::{root, text};
 const DOCUMENTS: [&str; 3] = ["docs/PROMISES.md", "docs/TRUST.md", "docs/TRACE.md"];
 
 /// What may stand in backticks and is no name of the repository.
-const OTHER_WORDS: [(&str, &[&str]); 4] = [
-    ("words of Rattle", &["ensures", "requires", "pub"]),
+const OTHER_WORDS: [(&str, &[&str]); 6] = [
+    ("words of Rattle", &["ensures", "requires", "pub", "where"]),
+    (
+        "types",
+        &["&[u8]", "&mut [u8]", "u8", "u32", "usize", "bool"],
+    ),
     ("words of a check's last line", &["axioms", "axioms="]),
     ("the toolchain", &["rattle-kit-5b logic 064da1ca440f63e7"]),
     ("what link/archives adds to a name", &["_proved"]),
+    (
+        "folders of a crate",
+        &["specs/", "proofs/", "src/", "must-fail/"],
+    ),
 ];
+
+/// Commands that the repository does not have itself.
+const COMMANDS: [&str; 2] = ["rt", "cargo"];
 
 /// All that is wrong, as one list.
 fn assert_none(faults: Vec<String>) {
@@ -62,19 +73,24 @@ fn faults_of_block(code: &Code, block: &Block) -> Vec<String> {
 }
 
 fn fault_of_name(code: &Code, block: &Block, named: &Named) -> Option<String> {
-    let name = &named.name[..];
-    if let Some((function, rest)) = name.split_once('(') {
-        return fault_of_signature(&block.crate_name, function, rest);
+    if let Some((function, rest)) = named.name.split_once('(') {
+        return fault_of_signature(code, &block.crate_name, function, rest);
     }
     // A theorem may stand with what it shows.
-    let (name, shown) = name.split_once(" : ").unwrap_or((name, name));
-    if !is_known(code, name) || !is_known(code, shown) {
-        return Some(format!("nothing is called {name}"));
+    let (name, shown) = named.name.split_once(" : ").unwrap_or((&named.name, ""));
+    let unknown = [name, shown].into_iter().find(|it| !is_known(code, it));
+    if let Some(unknown) = unknown {
+        return Some(format!("nothing is called {unknown}"));
     }
     let path = resolved(named.path.as_ref()?, &block.crate_name)?;
+    fault_of_place(code, name, &path).filter(|_| !is_beside(&code.places(name)))
+}
+
+fn fault_of_place(code: &Code, name: &str, place: &str) -> Option<String> {
     let places = code.places(name);
-    let elsewhere = !places.contains(&path) && !is_beside(&places);
-    elsewhere.then(|| format!("{name} is not in {path}, but in {places:?}"))
+    let elsewhere: Vec<&str> = places.iter().map(|it| &it[..]).collect();
+    let elsewhere = elsewhere.join(", ");
+    (!places.contains(place)).then(|| format!("{name} is not in {place} (it is in: {elsewhere})"))
 }
 
 /// Whether a name is a crate's, or of the code alone. Such a name may stand
@@ -86,31 +102,32 @@ fn is_beside(places: &BTreeSet<String>) -> bool {
 }
 
 fn is_known(code: &Code, name: &str) -> bool {
+    if let Some(end) = name.strip_prefix('…') {
+        return code.has_one_ending_in(end);
+    }
     let other = OTHER_WORDS.iter().any(|(_, words)| words.contains(&name));
     let command = name.split(' ').next().unwrap_or_default();
-    let is_command = command == "rt" || name.contains('/') && root(command).exists();
+    let is_command = COMMANDS.contains(&command) || root(command).exists();
     let built = name.starts_with("target/");
-    let ending = name
-        .strip_prefix('…')
-        .is_some_and(|end| code.has_one_ending_in(end));
-    code.has(name) || other || is_command || built || ending || is_folder_of_crates(name)
-}
-
-/// `specs/` and the others that each crate may have.
-fn is_folder_of_crates(name: &str) -> bool {
-    ["specs/", "proofs/", "must-fail/", "src/"].contains(&name)
+    other || is_command || built || name.split("::").all(|part| code.has(part))
 }
 
 /// `NAME(PARAMETER, ..) -> ANSWER`, in the section of a crate. The parameters may
-/// be left out as `…`.
-fn fault_of_signature(crate_name: &str, function: &str, rest: &str) -> Option<String> {
-    let (parameters, answer) = rest.split_once(") -> ")?;
+/// be left out as `…`. Elsewhere the name alone must be there.
+fn fault_of_signature(code: &Code, crate_name: &str, function: &str, rest: &str) -> Option<String> {
+    let (Some((parameters, answer)), false) = (rest.split_once(") -> "), crate_name.is_empty())
+    else {
+        return (!code.has(function)).then(|| format!("nothing is called {function}"));
+    };
     let Some(real) = signature(crate_name, function) else {
-        return Some(format!("{crate_name} has no function {function}"));
+        return Some(format!("{crate_name} has no public function {function}"));
     };
     let parameters: Vec<&str> = parameters.split(", ").collect();
     let alike = parameters == ["…"] || parameters == real.parameters;
-    (!alike || answer != real.answer).then(|| format!("{function} of {crate_name} is {real:?}"))
+    (!alike || answer != real.answer).then(|| {
+        let parameters = real.parameters.join(", ");
+        format!("it is {function}({parameters}) -> {}", real.answer)
+    })
 }
 
 // ---- The exports.
@@ -119,13 +136,22 @@ fn fault_of_signature(crate_name: &str, function: &str, rest: &str) -> Option<St
 fn every_export_is_in_the_header_and_in_the_documents() {
     let exports = exports();
     assert!(!exports.is_empty());
-    assert_eq!(calls_of_header(), exports, "include/ohakelm.h");
+    let mut faults = differences(&exports, &calls_of_header(), "include/ohakelm.h");
     for document in ["docs/PROMISES.md", "docs/TRACE.md"] {
         let blocks = blocks(&text(document));
         let names = blocks.iter().flat_map(Block::named).map(|named| named.name);
-        let named: BTreeSet<String> = names.filter(|name| name.starts_with("ohakelm_")).collect();
-        assert_eq!(named, exports, "{document}");
+        let named = names.filter(|name| name.starts_with("ohakelm_")).collect();
+        faults.extend(differences(&exports, &named, document));
     }
+    assert_none(faults);
+}
+
+fn differences(exports: &BTreeSet<String>, named: &BTreeSet<String>, file: &str) -> Vec<String> {
+    let missing = exports.difference(named);
+    let missing = missing.map(|name| format!("{file} does not name the export {name}"));
+    let other = named.difference(exports);
+    let other = other.map(|name| format!("{file} names {name}, which is no export"));
+    missing.chain(other).collect()
 }
 
 // ---- The definitions that must be believed.
@@ -202,6 +228,7 @@ fn the_table_has_what_the_promises_stand_on() {
         .difference(&counted)
         .map(|file| format!("{file} is cited by a promise"));
     let idle = counted.difference(&cited).filter(|file| !beside(file));
+    let idle = idle.filter(|file| file.contains("/specs/"));
     let idle = idle.map(|file| format!("{file} is cited by no promise"));
     assert_none(left_out.chain(idle).collect());
 }
@@ -262,35 +289,44 @@ fn used_as(text: &str, name: &str) -> Option<(String, String)> {
 fn every_row_of_the_trace_says_where_things_stand() {
     let (code, mut faults) = (Code::new(), Vec::new());
     let blocks = blocks(&text("docs/TRACE.md"));
-    let cells = blocks.iter().filter(|cell| !cell.column.is_empty());
-    let cells: Vec<&Block> = cells.filter(|cell| cell.position > 0).collect();
-    assert!(!cells.is_empty());
-    for cell in cells.into_iter().filter(|cell| cell.text != "–") {
-        for item in cell.text.split("; ") {
-            let fault = fault_of_item(&code, item);
-            faults.extend(fault.map(|it| format!("docs/TRACE.md:{}: {it}", cell.line)));
+    let rows: Vec<&[Block]> = blocks.chunk_by(|a, b| a.line == b.line).collect();
+    let rows = rows.into_iter().filter(|cells| !cells[0].column.is_empty());
+    let mut seen = 0;
+    for cells in rows {
+        let line = cells[0].line;
+        if cells.len() != 4 {
+            faults.push(format!(
+                "docs/TRACE.md:{line}: {} cells, not 4",
+                cells.len()
+            ));
         }
+        let items = cells[1..].iter().flat_map(|cell| cell.text.split("; "));
+        for item in items.filter(|item| *item != "–") {
+            let fault = fault_of_item(&code, item);
+            faults.extend(fault.map(|it| format!("docs/TRACE.md:{line}: {it}")));
+        }
+        seen += 1;
     }
+    assert!(seen > 0);
     assert_none(faults);
 }
 
-/// `NAME`, `NAME` (PATH)
+/// `NAME`, `NAME` (PATH), or a file or a folder alone in backticks.
 fn fault_of_item(code: &Code, item: &str) -> Option<String> {
     let block = Block {
         text: item.to_string(),
         ..Block::default()
     };
     let (named, paths) = (block.named(), block.paths());
+    if let ([file], []) = (&named[..], &paths[..]) {
+        if file.name.contains('/') && resolved(&file.name, "").is_some() {
+            return None;
+        }
+    }
     if named.is_empty() || paths.len() != 1 || !item.ends_with(&format!(" ({})", paths[0])) {
         return Some(format!("no names with their place: {item}"));
     }
     let place = resolved(&paths[0], "")?;
-    let mut elsewhere = named
-        .iter()
-        .filter(|it| !code.places(&it.name).contains(&place));
-    let name = &elsewhere.next()?.name;
-    Some(format!(
-        "{name} is not in {place}, but in {:?}",
-        code.places(name)
-    ))
+    let mut names = named.iter().map(|it| it.name.split(" : ").next());
+    names.find_map(|name| fault_of_place(code, name.unwrap_or_default(), &place))
 }
