@@ -14,13 +14,15 @@ use ohakelm_answers::{Bitmap, Edited, Entry, Label, Listed, Logo, Tone, Written}
 use support::codecs::{Codec, Edit, LogoParts, Obvious, Spot, ALL};
 use support::compare::Comparison;
 use support::rng::{cases_set, seed_from_clock, seed_set};
+use support::tones::LARGEST_TONE;
 
 /// So many that a rule which is wrong only at a bound comes up too. It takes some
 /// fifteen seconds.
 const GATE_RUN: usize = 1_200_000;
 const LONGER_RUN: usize = 12_000_000;
 
-/// From this many cases on each refusal has surely come up.
+/// From this many cases on each refusal and each of the faults below has surely
+/// come up.
 const ENOUGH_FOR_ALL: usize = 100_000;
 
 #[test]
@@ -87,6 +89,7 @@ enum Fault {
     MarksOneEntryLate,
     PlacesRestAtId,
     LeavesOldOctets,
+    RefusesLengthAheadOfFullPart,
     NamesSongOnRefusal,
     WritesOneOctetMore,
     MissesOnePixel,
@@ -101,13 +104,14 @@ enum Fault {
     TouchesLogoOnRefusal,
 }
 
-const FAULTS: [Fault; 18] = [
+const FAULTS: [Fault; 19] = [
     Fault::TouchesCellOnRefusal,
     Fault::ClearsOddLastCell,
     Fault::CountsOneEntryMore,
     Fault::MarksOneEntryLate,
     Fault::PlacesRestAtId,
     Fault::LeavesOldOctets,
+    Fault::RefusesLengthAheadOfFullPart,
     Fault::NamesSongOnRefusal,
     Fault::WritesOneOctetMore,
     Fault::MissesOnePixel,
@@ -128,7 +132,7 @@ fn wrong_codecs_are_found() {
     for fault in FAULTS {
         let wrong: &'static dyn Codec = Box::leak(Box::new(Wrong(fault)));
         let found = catch_unwind(AssertUnwindSafe(|| {
-            Comparison::new(&[&Obvious, wrong], 1).run(20_000);
+            Comparison::new(&[&Obvious, wrong], 1).run(ENOUGH_FOR_ALL);
         }));
         assert!(found.is_err(), "nobody noticed {fault:?}");
     }
@@ -204,10 +208,16 @@ impl Codec for Wrong {
 
     fn edit(&self, buffer: &mut [u8], spot: Spot, edit: Edit, list: &mut [u32]) -> Edited {
         let old = buffer.to_vec();
-        let answer = Obvious.edit(buffer, spot, edit, list);
-        if matches!(self.0, Fault::LeavesOldOctets) && answer.change < 0 {
-            let left = answer.length..spot.used;
-            buffer[left.clone()].copy_from_slice(&old[left]);
+        let mut answer = Obvious.edit(buffer, spot, edit, list);
+        match (self.0, answer.refusal) {
+            (Fault::LeavesOldOctets, 0) if answer.change < 0 => {
+                let left = answer.length..spot.used;
+                buffer[left.clone()].copy_from_slice(&old[left]);
+            }
+            (Fault::RefusesLengthAheadOfFullPart, 14) if spot.used == LARGEST_TONE => {
+                answer.refusal = 1;
+            }
+            _ => {}
         }
         answer
     }
