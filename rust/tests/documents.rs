@@ -1,10 +1,16 @@
 //! The documents and the code say the same. Every name, path and count in
 //! docs/PROMISES.md, docs/TRUST.md and docs/TRACE.md is as they say.
 //!
-//! How a document is to be written so that this can be seen: a name is in
-//! backticks. Where its file is given, that stands in brackets behind it (and
-//! behind its neighbours), or ahead of it in the same item. A file's path is
-//! from the root or from crates/.
+//! How a document is to be written so that this can be seen:
+//! - A name is in backticks.
+//! - Its file, or the must-fail folder of its crate, stands in brackets behind it
+//!   and its neighbours: `a`, `b` (tone/proofs/Exact.antt). Or it stands ahead of
+//!   them, for all that follows in the same paragraph, item or cell: in
+//!   tone/must-fail, `c`; and in the heading of a column, for the whole column.
+//! - A path is from the root or from crates/, in a crate's section also from the
+//!   crate. The next file in the same folder may do without the folder.
+//! - In a row of the trace each name has its place in brackets behind it, and
+//!   what has no names is `–`.
 
 mod support;
 
@@ -220,8 +226,8 @@ const READ_BESIDE: [(&str, &str); 3] = [
 #[test]
 fn the_table_has_what_the_promises_stand_on() {
     let counted: BTreeSet<String> = counted_files().into_iter().flat_map(|row| row.1).collect();
-    let promises = counted.iter().filter(|file| file.contains("/Promise"));
-    let cited = files_cited(promises.cloned().collect());
+    let promises = specs().into_iter().filter(|file| file.contains("/Promise"));
+    let cited = files_cited(promises.collect());
     assert!(cited.len() > 9, "{cited:?}");
     let beside = |file: &str| READ_BESIDE.iter().any(|(end, _)| file.ends_with(end));
     let left_out = cited

@@ -1,6 +1,6 @@
 //! How much stack each call takes, by running it: on its largest input, on a
-//! small one and on random ones. It must be no more than `link/stack` adds up,
-//! and that no more than the header says.
+//! small one and on random ones. It must be no more than docs/TRUST.md says and
+//! than `link/stack` adds up, and that no more than the header says.
 //!
 //! `cargo test --release --test stack -- --nocapture` prints the table.
 
@@ -15,6 +15,7 @@ use ohakelm::{entry, Entry, LARGEST_LIST, LARGEST_LOGO, LARGEST_ROWS, LARGEST_TA
 use support::c::{own_archive, printed};
 use support::codecs::{Codec, Edit, LogoParts, Obvious, Spot};
 use support::compare::Comparison;
+use support::document::blocks;
 use support::largest::{behind, fullest, longest, parts, temporary, IMAGE, NOTE_C};
 use support::measured::Measured;
 use support::tones::written;
@@ -34,20 +35,20 @@ fn no_call_takes_more_stack_than_is_said() {
         put_all(measured);
     }
     Comparison::new(&[&Obvious, measured], 1).run(RANDOM_CASES);
-    let (added, mut seen) = (added_up(), 0);
+    let (added, most) = (added_up(), measured.most());
+    assert_eq!(most.len(), 15);
     println!("| call | measured | added up | the header says |\n|---|--:|--:|--:|");
-    for (call, measured) in measured.most() {
+    for (call, measured) in most {
         let said = said_by_header(call);
-        let added = added.get(call).copied();
-        println!(
-            "| `ohakelm_{call}` | {measured} | {} | {said} |",
-            added.unwrap_or(0)
-        );
-        let added = added.unwrap_or(said);
+        let added = added.get(call).copied().unwrap_or(said);
+        println!("| `ohakelm_{call}` | {measured} | {added} | {said} |");
         assert!(measured <= added && added <= said, "{call}");
-        seen += 1;
+        let written = said_by_document(call).unwrap_or(said);
+        assert!(
+            measured <= written,
+            "docs/TRUST.md says {written} of {call}"
+        );
     }
-    assert_eq!(seen, 15);
 }
 
 // ---- The inputs.
@@ -156,6 +157,20 @@ fn said_by_header(call: &str) -> usize {
         Some(Ok(octets)) => octets,
         _ => panic!("the header says nothing of {group}"),
     }
+}
+
+/// What docs/TRUST.md says of a call on this processor, where it gives a number.
+fn said_by_document(call: &str) -> Option<usize> {
+    let processor = match cfg!(target_arch = "x86_64") {
+        true => "x86-64",
+        false => "Arm",
+    };
+    let blocks = blocks(&text("docs/TRUST.md"));
+    let named = format!("`ohakelm_{call}`");
+    let row = blocks.iter().find(|cell| cell.text == named)?.line;
+    let mut cells = blocks.iter().filter(|cell| cell.line == row);
+    let cell = cells.find(|cell| cell.column == processor)?;
+    cell.text.replace(',', "").parse().ok()
 }
 
 /// What `link/stack` adds up for each call of the archive, where the files for it
