@@ -1,8 +1,9 @@
 //! The proved library, the obvious implementation and the optimised one, put
 //! to the same inputs. Answers, places and every lent cell are compared.
 //!
-//! `OHAKELM_SEED` sets the seed and `OHAKELM_CASES` the number of cases. The
-//! long run is `cargo test --release --test compare -- --ignored --nocapture`.
+//! The gate's run has a fixed seed. A longer one, with a seed of its own that it
+//! prints, is `cargo test --release --test compare -- --ignored --nocapture`.
+//! For both `OHAKELM_SEED` sets the seed and `OHAKELM_CASES` the number of cases.
 
 mod support;
 
@@ -13,23 +14,27 @@ use ohakelm_answers::{Bitmap, Edited, Entry, Label, Listed, Logo, Tone, Written}
 use support::codecs::{Codec, Edit, LogoParts, Obvious, Spot, ALL};
 use support::compare::Comparison;
 use support::rng::{cases_set, seed_from_clock, seed_set};
+use support::tones::LARGEST_TONE;
 
-const SHORT_RUN: usize = 100_000;
-const LONG_RUN: usize = 1_200_000;
+/// So many that a rule which is wrong only at a bound comes up too. It takes some
+/// fifteen seconds.
+const GATE_RUN: usize = 1_200_000;
+const LONGER_RUN: usize = 12_000_000;
 
-/// From this many cases on each refusal has surely come up.
+/// From this many cases on each refusal and each of the faults below has surely
+/// come up.
 const ENOUGH_FOR_ALL: usize = 100_000;
 
 #[test]
 fn random_cases_agree() {
-    let cases = cases_set().unwrap_or(SHORT_RUN);
+    let cases = cases_set().unwrap_or(GATE_RUN);
     compare(cases, seed_set().unwrap_or(20_001_231));
 }
 
 #[test]
-#[ignore = "the long run, to be asked for"]
-fn a_million_random_cases_agree() {
-    let cases = cases_set().unwrap_or(LONG_RUN);
+#[ignore = "the longer run, to be asked for"]
+fn more_random_cases_agree() {
+    let cases = cases_set().unwrap_or(LONGER_RUN);
     compare(cases, seed_set().unwrap_or_else(seed_from_clock));
 }
 
@@ -84,6 +89,7 @@ enum Fault {
     MarksOneEntryLate,
     PlacesRestAtId,
     LeavesOldOctets,
+    RefusesLengthAheadOfFullPart,
     NamesSongOnRefusal,
     WritesOneOctetMore,
     MissesOnePixel,
@@ -98,13 +104,14 @@ enum Fault {
     TouchesLogoOnRefusal,
 }
 
-const FAULTS: [Fault; 18] = [
+const FAULTS: [Fault; 19] = [
     Fault::TouchesCellOnRefusal,
     Fault::ClearsOddLastCell,
     Fault::CountsOneEntryMore,
     Fault::MarksOneEntryLate,
     Fault::PlacesRestAtId,
     Fault::LeavesOldOctets,
+    Fault::RefusesLengthAheadOfFullPart,
     Fault::NamesSongOnRefusal,
     Fault::WritesOneOctetMore,
     Fault::MissesOnePixel,
@@ -125,7 +132,7 @@ fn wrong_codecs_are_found() {
     for fault in FAULTS {
         let wrong: &'static dyn Codec = Box::leak(Box::new(Wrong(fault)));
         let found = catch_unwind(AssertUnwindSafe(|| {
-            Comparison::new(&[&Obvious, wrong], 1).run(20_000);
+            Comparison::new(&[&Obvious, wrong], 1).run(ENOUGH_FOR_ALL);
         }));
         assert!(found.is_err(), "nobody noticed {fault:?}");
     }
@@ -201,10 +208,16 @@ impl Codec for Wrong {
 
     fn edit(&self, buffer: &mut [u8], spot: Spot, edit: Edit, list: &mut [u32]) -> Edited {
         let old = buffer.to_vec();
-        let answer = Obvious.edit(buffer, spot, edit, list);
-        if matches!(self.0, Fault::LeavesOldOctets) && answer.change < 0 {
-            let left = answer.length..spot.used;
-            buffer[left.clone()].copy_from_slice(&old[left]);
+        let mut answer = Obvious.edit(buffer, spot, edit, list);
+        match (self.0, answer.refusal) {
+            (Fault::LeavesOldOctets, 0) if answer.change < 0 => {
+                let left = answer.length..spot.used;
+                buffer[left.clone()].copy_from_slice(&old[left]);
+            }
+            (Fault::RefusesLengthAheadOfFullPart, 14) if spot.used == LARGEST_TONE => {
+                answer.refusal = 1;
+            }
+            _ => {}
         }
         answer
     }

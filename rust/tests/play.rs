@@ -29,23 +29,26 @@ fn program() -> PathBuf {
     }
 }
 
-/// Starts the program. A program that is not there is a failure.
-fn start(input: Stdio) -> Child {
-    let program = program();
-    let started = Command::new(&program)
+/// Starts a command. A program that is not there is a failure.
+fn start(command: &mut Command, input: Stdio) -> Child {
+    let started = command
         .stdin(input)
         .stdout(Stdio::piped())
         .stderr(Stdio::piped())
         .spawn();
     match started {
         Ok(child) => child,
-        Err(error) => panic!("{} does not start: {error}", program.display()),
+        Err(error) => panic!("{command:?} does not start: {error}"),
     }
 }
 
 /// Runs the program on a message that arrives in pieces of a certain size.
 fn play(message: &[u8], piece: usize, pause: Duration) -> Output {
-    let mut child = start(Stdio::piped());
+    given(&mut Command::new(program()), message, piece, pause)
+}
+
+fn given(command: &mut Command, message: &[u8], piece: usize, pause: Duration) -> Output {
+    let mut child = start(command, Stdio::piped());
     if let Some(mut input) = child.stdin.take() {
         for part in message.chunks(piece.max(1)) {
             // A program that has read enough may close its end.
@@ -185,7 +188,7 @@ fn endless_input_is_refused() {
     let Ok(zeros) = File::open("/dev/zero") else {
         panic!("there is no /dev/zero");
     };
-    let mut child = start(Stdio::from(zeros));
+    let mut child = start(&mut Command::new(program()), Stdio::from(zeros));
     let until = Instant::now() + Duration::from_secs(20);
     while matches!(child.try_wait(), Ok(None)) {
         if Instant::now() > until {
@@ -200,13 +203,40 @@ fn endless_input_is_refused() {
     assert_eq!(String::from_utf8_lossy(&output.stdout), "refused 1 at 0\n");
 }
 
+/// The stack that the program is said to run with, in KiB. Its arrays take 260.1
+/// and a row that it writes by takes 4. The system puts the program's words and
+/// up to 8 KiB of nothing ahead of it.
+const STACK: usize = 288;
+
+/// The emulator has a stack of its own, so this is for x86-64 alone.
+#[test]
+fn it_runs_with_288_kib_of_stack() {
+    if cfg!(target_arch = "x86_64") {
+        let longest = tone_of_entries(ROOM);
+        for message in [&longest[..], &longest[1..], &[2; LARGEST_TONE + 1]] {
+            let printed = printed_within(STACK, message);
+            assert_eq!(printed, expected(message));
+        }
+    }
+}
+
+/// What the program prints where its stack is limited.
+fn printed_within(kibibytes: usize, message: &[u8]) -> String {
+    let limited = format!("ulimit -s {kibibytes} && exec \"$0\"");
+    let mut command = Command::new("sh");
+    command.args(["-c", &limited]).arg(program()).env_clear();
+    let output = given(&mut command, message, usize::MAX, Duration::ZERO);
+    String::from_utf8_lossy(&output.stdout).into_owned()
+}
+
 /// A folder can be opened but not read.
 #[test]
 fn input_that_cannot_be_read_is_said_on_standard_error() {
     let Ok(folder) = File::open(".") else {
         panic!("the folder does not open");
     };
-    let Ok(output) = start(Stdio::from(folder)).wait_with_output() else {
+    let Ok(output) = start(&mut Command::new(program()), Stdio::from(folder)).wait_with_output()
+    else {
         panic!("no output");
     };
     assert!(output.stdout.is_empty());

@@ -10,41 +10,14 @@ use ohakelm::{
 };
 use ohakelm_answers::{Edited, Listed, Tone, Written, NO_MARK};
 use support::codecs::{each, Edit, LogoParts, Spot};
+use support::largest::{behind, fullest, longest, parts, temporary, IMAGE, NOTE_C};
 use support::tones::written;
-
-const NOTE_C: u32 = entry::note(1, 2, 0);
 
 /// What lies in a lent cell before a call, and in a lent octet.
 const OLD: u32 = 7;
 const OLD_OCTET: u8 = 7;
 
 // ---- A table and a tone.
-
-/// A part of so many scales and styles, in turn.
-fn part(position: u32, instructions: u32) -> Vec<u32> {
-    let mut part = vec![entry::header(position % 4, 0, instructions)];
-    let both = [entry::scale(3), entry::style(2)];
-    part.extend(both.iter().cycle().take(instructions as usize));
-    part
-}
-
-/// 26 parts of a temporary song with so many instructions in the last one. The
-/// others are full. Ahead of the patterns are 34 bits, a header has 17, a scale
-/// or a style has 5.
-fn parts(last: u32) -> Vec<u32> {
-    let full = (0..25).flat_map(|position| part(position, 255));
-    full.chain(part(25, last)).collect()
-}
-
-/// 34 + 26 * 17 + 6,456 * 5 = 32,756 bits. Four of filler make 4,095 octets,
-/// and the end octet is the last one.
-fn fullest() -> Vec<u32> {
-    parts(81)
-}
-
-fn temporary(table: &[u32]) -> Vec<u8> {
-    written(2, false, &[], table)
-}
 
 #[test]
 fn the_largest_table_is_read() {
@@ -128,15 +101,6 @@ fn the_largest_title_is_read() {
 }
 
 // ---- Lists.
-
-/// A part of 255 notes and 254 recalls of it, each sounding 15 times: 255 * 255
-/// * 15 entries.
-fn longest() -> Vec<u8> {
-    let mut table = vec![entry::header(0, 14, 255)];
-    table.extend([NOTE_C; 255]);
-    table.extend([entry::header(0, 14, 0); 254]);
-    temporary(&table)
-}
 
 const LISTED: Listed = Listed {
     refusal: 0,
@@ -247,14 +211,6 @@ fn assert_written(room: usize, expected: &[u8], write: impl Fn(&mut [u8]) -> Wri
     let answer = write(&mut out);
     assert_eq!((answer.refusal, answer.octets), (0, room));
     assert_eq!(out, expected);
-}
-
-/// 255 rows of 31 octets.
-const IMAGE: [u8; 31 * 255] = [0x81; 31 * 255];
-
-/// What is ahead of a bitmap, and the largest one.
-fn behind(ahead: &[u8]) -> Vec<u8> {
-    [ahead, &[0, 248, 255, 1], &IMAGE].concat()
 }
 
 #[test]

@@ -1,11 +1,12 @@
 //! The C side: the two compilers, and a folder for what they make.
 
+use std::collections::BTreeSet;
 use std::env;
 use std::fs;
 use std::path::{Path, PathBuf};
 use std::process::{self, Command, Output};
 
-use super::root;
+use super::{root, text};
 
 /// A folder of its own, which goes with its owner.
 pub struct Folder(PathBuf);
@@ -159,4 +160,29 @@ pub fn printed(command: &mut Command) -> String {
 pub fn said(output: &Output) -> String {
     let (out, err) = (&output.stdout, &output.stderr);
     String::from_utf8_lossy(out).into_owned() + &String::from_utf8_lossy(err)
+}
+
+/// The names of the calls that the header declares. What is static is none.
+pub fn calls_of_header() -> BTreeSet<String> {
+    // A macro of several lines becomes one.
+    let header = text("include/ohakelm.h").replace("\\\n", "");
+    let code = without_comments(&header);
+    let plain: Vec<&str> = code.lines().filter(|line| !line.starts_with('#')).collect();
+    let plain = plain.join(" ");
+    let declared = plain.split(';').filter(|part| !part.contains("static "));
+    declared.filter_map(call_of).collect()
+}
+
+/// The name ahead of the first bracket, if it is one of the library's.
+fn call_of(declaration: &str) -> Option<String> {
+    let (ahead, _) = declaration.split_once('(')?;
+    let name = ahead.split_whitespace().last()?;
+    name.starts_with("ohakelm_").then(|| name.to_string())
+}
+
+fn without_comments(text: &str) -> String {
+    let mut pieces = text.split("/*");
+    let first = pieces.next().unwrap_or_default().to_string();
+    let behind = pieces.filter_map(|piece| piece.split_once("*/"));
+    behind.fold(first, |code, (_, rest)| code + rest)
 }

@@ -9,6 +9,7 @@ use ohakelm_answers::{Bitmap, Edited, Entry, Label, Listed, Tone, Written};
 use super::codecs::{Codec, Edit, Spot};
 use super::hex;
 use super::inputs;
+use super::largest;
 use super::lent::{lent_message, lent_octets, lent_rows, lent_words, Lent};
 use super::rng::Rng;
 use super::tones::{self, Bounds, Made};
@@ -450,6 +451,12 @@ impl Comparison {
             let mut table = vec![255];
             table.extend((0..255).map(|_| tones::instruction(&mut self.rng)));
             made.message = tones::written(made.song, made.unicode, &made.title, &table);
+        }
+        if bounds.octets == tones::LARGEST_TONE && self.rng.one_in(2) {
+            // Such bodies in a message that can grow by one octet or by none, so
+            // that an insertion has two grounds against it.
+            let last = self.rng.pick(&[80, 81]);
+            made.message = largest::temporary(&largest::parts(last));
         }
         made
     }

@@ -7,12 +7,16 @@
 pub mod c;
 pub mod calls;
 pub mod cases;
+pub mod code;
 pub mod codecs;
 pub mod compare;
+pub mod document;
 pub mod inputs;
 pub mod kinds;
+pub mod largest;
 pub mod lent;
 pub mod logos;
+pub mod measured;
 pub mod rng;
 pub mod tones;
 
