@@ -1,3 +1,4 @@
+pub mod ByHand
 pub mod Overs
 pub mod Cuts
 pub mod Wishing
