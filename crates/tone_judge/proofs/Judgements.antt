@@ -1,5 +1,5 @@
 -- What each return of `judge_at`, `judge_for` and `judge` shows.
-use Prim.Native.Nat.{ℕ, _+_, _-_, _≤_, _<_}
+use Prim.Native.Nat.{ℕ, _+_, _≤_, _<_}
 use native.Mathlib.Omega.{arith}
 use native.Mathlib.Nat.{zero-add}
 use mathlib.Core.Path.{_≡_, refl, sym, ap, ap₂, _∙_}
@@ -21,16 +21,13 @@ use Rattle.tone.proofs.Fronts.{front-exact}
 use Rattle.tone.proofs.Rows.{patterns-exact}
 use Rattle.tone.proofs.Demand2.{read-formed}
 use Rattle.edit_change.specs.Change.{withBody, patternAt}
-use Rattle.tone_elements.specs.declared.Step.{Step}
 use Rattle.tone_elements.specs.declared.Step.the-variants.{Good, Bad}
-use Rattle.tone_elements.specs.declared.Opening.{Opening}
 use Rattle.tone_elements.specs.declared.Opening.the-variants.{Opened, Closed}
 use Rattle.tone_judge.specs.declared.Whole.{Whole}
 use Rattle.tone_judge.specs.declared.Whole.the-variants.{Ended, Broken}
 use Rattle.tone_judge.specs.declared.Judged.{Judged}
 use Rattle.tone_judge.specs.declared.Judged.the-variants.{Sound, Faulty}
 use Rattle.tone_elements.specs.Answers.{Within, place, stepOf, openingOf, octetCount}
-use Rattle.tone_judge.specs.declared.Tally.{Tally}
 use Rattle.tone_judge.specs.declared.Tally.the-variants.{Counted, Stopped}
 use Rattle.tone_judge.specs.declared.Wish.{Wish}
 use Rattle.tone_judge.specs.declared.Total.{Total}
