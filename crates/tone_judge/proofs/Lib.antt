@@ -1,3 +1,5 @@
+pub mod ByHand
+pub mod Thin
 pub mod Overs
 pub mod Cuts
 pub mod Wishing

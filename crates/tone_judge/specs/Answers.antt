@@ -15,6 +15,8 @@ use Rattle.tone_judge.specs.declared.Single.{Single}
 use Rattle.tone_judge.specs.declared.Single.the-variants.{Fine, Fault}
 use Rattle.tone_judge.specs.declared.Tally.{Tally}
 use Rattle.tone_judge.specs.declared.Tally.the-variants.{Counted, Stopped}
+use Rattle.tone_judge.specs.declared.Whole.{Whole}
+use Rattle.tone_judge.specs.declared.Whole.the-variants.{Ended, Broken}
 use Rattle.tone_judge.specs.declared.Judged.{Judged}
 use Rattle.tone_judge.specs.declared.Judged.the-variants.{Sound, Faulty}
 use Rattle.list_count.specs.Bodies.{noBodies}
@@ -44,6 +46,13 @@ totalOf w at ps = totalAs at ps (wished w ps) (cutIn w at ps)
 abbrev pub tallyAs : (List Pattern → Total) → Got (List Pattern) → Tally
 tallyAs f (got ps p) = Counted (place p) (f ps)
 tallyAs f (bad n p e) = Stopped (place p) n
+
+-- a tone that was judged at a place, with an edit in mind: the place behind it, song type, the place of the first pattern, the title's octets, the patterns, what they come to, UNICODE or not; or the refusal
+abbrev pub wholeOf : Wish → ℕ → Got Tone → Whole
+wholeOf w at (got t p) =
+    let q = at + length (frontBits (frontOf t)) in
+    Ended (place p) (t .song) (place q) (octetCount (length (t .title))) (length (t .patterns)) (totalOf w q (t .patterns)) (t .unicode)
+wholeOf w at (bad n p e) = Broken (place p) n
 
 -- a tone that was judged, its patterns counted by f from the place of the first: song type, that place, the title's octets, the patterns, what they come to, UNICODE or not; or the refusal
 abbrev pub judgedAs : (ℕ → List Pattern → Total) → Outcome Tone → Judged

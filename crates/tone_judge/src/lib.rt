@@ -2,11 +2,11 @@ ghost use mathlib.Core.Path.{_≡_};
 ghost use Prim.Native.Nat.{_+_, _%_, _≤_};
 ghost use Rattle.bits.specs.Bits.{bitsOf};
 ghost use Rattle.tone.specs.Tone.{noneKnown};
-ghost use Rattle.tone.specs.Reading.{readTone, front as frontDue, patternsDue, rest as restDue};
-ghost use Rattle.tone_elements.specs.Answers.{Within, openingOf, notes as notesOf};
+ghost use Rattle.tone.specs.Reading.{readTone, front as frontDue, patternsDue, ending as endingDue, wholeTone};
+ghost use Rattle.tone_elements.specs.Answers.{Within, stepOf, openingOf, notes as notesOf};
 ghost use Rattle.tone_elements.specs.Standing.{bodyIn, behindIn, BodyAt, PartAt};
 ghost use Rattle.tone_judge.specs.Wishes.{noCut, leftAt, OwnOf, Owned};
-ghost use Rattle.tone_judge.specs.Answers.{singleOf, totalOf, tallyAs, judgedFor, judgedOf};
+ghost use Rattle.tone_judge.specs.Answers.{singleOf, totalOf, tallyAs, wholeOf, judgedFor, judgedOf};
 use bits::BitPlace;
 use bits::OctetCount;
 use edit_change::Edit;
@@ -77,32 +77,22 @@ pub enum Judged {
     },
 }
 
-// ---- the front
-
-// A reader at the start of a message.
-pub fn start<'a>(msg: &'a [u8]) -> Reader<'a>
-    ensures { λ r. ⌜ (r .msg ≡ msg .entry) × (r .at .0 ≡ 0) ⌝ }
-{
-    Reader {
-        msg,
-        at: BitPlace(0),
-    }
-}
-
-// The front that stands at a reader's place.
-pub fn front<'a>(r: Reader<'a>) -> Opening
-    requires { ⌜ Within (now (r .msg)) (r .at .0) ⌝ }
-    ensures { λ o. ⌜ o ≡ openingOf (frontDue (bitsOf (now (r .entry .msg))) (r .entry .at .0)) ⌝ }
-{
-    tone_elements::open(r.msg, r.at)
-}
-
-// The front of a message.
-pub fn front_of(msg: &[u8]) -> Opening
-    requires { ⌜ Within (now msg) 0 ⌝ }
-    ensures { λ o. ⌜ o ≡ openingOf (frontDue (bitsOf (now (msg .entry))) 0) ⌝ }
-{
-    front(start(msg))
+// A tone that was judged where it stands, through its own end octet: the place behind it, and what a message that was judged
+// has; or the refusal.
+pub enum Whole {
+    Ended {
+        next: BitPlace,
+        song: u32,
+        at: BitPlace,
+        octets: OctetCount,
+        patterns: u32,
+        total: Total,
+        unicode: bool,
+    },
+    Broken {
+        at: BitPlace,
+        number: u32,
+    },
 }
 
 // ---- an edit in mind
@@ -275,23 +265,90 @@ fn patterns(msg: &[u8], at: BitPlace, n: u32, wish: Wish) -> Tally
     Tally::Counted { next: place, total }
 }
 
-// Judges patterns, filler and the end octet.
-fn rest(msg: &[u8], at: BitPlace, n: u32, wish: Wish) -> Tally
-    requires { ⌜ Within (now msg) (at .0) ⌝ }
-    requires { ⌜ n ≤ 255 ⌝ }
-    ensures { λ r. ⌜ r ≡ tallyAs (totalOf wish (at .0)) (restDue n (bitsOf (now (msg .entry))) (at .0)) ⌝ }
+// ---- a reader on its way
+
+// A reader at the start of a message.
+pub fn start<'a>(msg: &'a [u8]) -> Reader<'a>
+    ensures { λ r. ⌜ (r .msg ≡ msg .entry) × (r .at .0 ≡ 0) ⌝ }
 {
-    match patterns(msg, at, n, wish) {
-        Tally::Stopped { at: fault, number } => Tally::Stopped { at: fault, number },
-        Tally::Counted {
-            next: behind,
-            total,
-        } => match tone_elements::ending(msg, behind) {
-            Step::Bad { number, at: fault } => Tally::Stopped { at: fault, number },
-            Step::Good { value: _, next } => Tally::Counted { next, total },
+    Reader {
+        msg,
+        at: BitPlace(0),
+    }
+}
+
+// The reader of the same message behind what was judged, at the place reached.
+pub fn behind<'a>(r: Reader<'a>, at: BitPlace) -> Reader<'a>
+    ensures { λ s. ⌜ (s .msg ≡ r .entry .msg) × (s .at ≡ at) ⌝ }
+{
+    Reader { msg: r.msg, at }
+}
+
+// The front that stands at a reader's place.
+pub fn front<'a>(r: Reader<'a>) -> Opening
+    requires { ⌜ Within (now (r .msg)) (r .at .0) ⌝ }
+    ensures { λ o. ⌜ o ≡ openingOf (frontDue (bitsOf (now (r .entry .msg))) (r .entry .at .0)) ⌝ }
+{
+    tone_elements::open(r.msg, r.at)
+}
+
+// The `n` patterns that stand there, and what they come to.
+pub fn patterns_at<'a>(r: Reader<'a>, n: u32, wish: Wish) -> Tally
+    requires { ⌜ Within (now (r .msg)) (r .at .0) × (n ≤ 255) ⌝ }
+    ensures { λ t. ⌜ t ≡ tallyAs (totalOf wish (r .entry .at .0)) (patternsDue n noneKnown (bitsOf (now (r .entry .msg))) (r .entry .at .0)) ⌝ }
+{
+    patterns(r.msg, r.at, n, wish)
+}
+
+// The filler and the end octet that stand there.
+pub fn ending<'a>(r: Reader<'a>) -> Step
+    requires { ⌜ Within (now (r .msg)) (r .at .0) ⌝ }
+    ensures { λ s. ⌜ s ≡ stepOf (endingDue (bitsOf (now (r .entry .msg))) (r .entry .at .0)) ⌝ }
+{
+    tone_elements::ending(r.msg, r.at)
+}
+
+// Judges the tone that stands at a reader's place, with an edit in mind: its front, its patterns and its end, the reader
+// behind each in turn. What follows is not looked at.
+pub fn judge_at<'a>(r: Reader<'a>, wish: Wish) -> Whole
+    requires { ⌜ Within (now (r .msg)) (r .at .0) ⌝ }
+    ensures { λ j. ⌜ j ≡ wholeOf wish (r .entry .at .0) (wholeTone (bitsOf (now (r .entry .msg))) (r .entry .at .0)) ⌝ }
+{
+    match front(r) {
+        Opening::Closed { number, at: fault } => Whole::Broken { at: fault, number },
+        Opening::Opened {
+            song,
+            next: first,
+            octets,
+            count,
+            unicode,
+        } => match patterns_at(behind(r, first), count, wish) {
+            Tally::Stopped { at: fault, number } => Whole::Broken { at: fault, number },
+            Tally::Counted { next: last, total } => match ending(behind(r, last)) {
+                Step::Bad { number, at: fault } => Whole::Broken { at: fault, number },
+                Step::Good { value: _, next } => Whole::Ended {
+                    next,
+                    song,
+                    at: first,
+                    octets,
+                    patterns: count,
+                    total,
+                    unicode,
+                },
+            },
         },
     }
 }
+
+// Judges the tone at the start of a message.
+pub fn judge_start(msg: &[u8], wish: Wish) -> Whole
+    requires { ⌜ Within (now msg) 0 ⌝ }
+    ensures { λ j. ⌜ j ≡ wholeOf wish 0 (wholeTone (bitsOf (now (msg .entry))) 0) ⌝ }
+{
+    judge_at(start(msg), wish)
+}
+
+// ---- a message
 
 // Judges a whole message with an edit in mind, and changes nothing.
 pub fn judge_for(msg: &[u8], wish: Wish) -> Judged
@@ -303,36 +360,32 @@ pub fn judge_for(msg: &[u8], wish: Wish) -> Judged
             at: BitPlace(0),
         };
     }
-    match front_of(msg) {
-        Opening::Closed { number, at: fault } => Judged::Faulty { number, at: fault },
-        Opening::Opened {
+    match judge_start(msg, wish) {
+        Whole::Broken { at: fault, number } => Judged::Faulty { number, at: fault },
+        Whole::Ended {
+            next,
             song,
-            next: at,
+            at,
             octets,
-            count,
+            patterns,
+            total,
             unicode,
-        } => match rest(msg, at, count, wish) {
-            Tally::Stopped { at: fault, number } => Judged::Faulty { number, at: fault },
-            Tally::Counted {
-                next: behind,
-                total,
-            } => {
-                if behind.0 != bits::place_after(OctetCount(msg.len())).0 {
-                    return Judged::Faulty {
-                        number: 10,
-                        at: behind,
-                    };
-                }
-                Judged::Sound {
-                    song,
-                    at,
-                    octets,
-                    patterns: count,
-                    total,
-                    unicode,
-                }
+        } => {
+            if next.0 != bits::place_after(OctetCount(msg.len())).0 {
+                return Judged::Faulty {
+                    number: 10,
+                    at: next,
+                };
             }
-        },
+            Judged::Sound {
+                song,
+                at,
+                octets,
+                patterns,
+                total,
+                unicode,
+            }
+        }
     }
 }
 

@@ -7,23 +7,14 @@ use Rattle.tone_judge.proofs.Judgements.{judgements}
 returns : tie.Need-returns
 returns c = search (judgements, needs)
 
-front-of-requires : tie.Need-front-of-requires
-front-of-requires c κs = search (judgements, needs)
-
-enum-known-number : tie.Need-enum-known-number
-enum-known-number c = search (judgements, needs)
-
-enum-known-song : tie.Need-enum-known-song
-enum-known-song c = search (judgements, needs)
-
-rest-requires : tie.Need-rest-requires
-rest-requires c κs = search (judgements, needs)
+judge-start-requires : tie.Need-judge-start-requires
+judge-start-requires c κs = search (judgements, needs)
 
 enum-known-fault : tie.Need-enum-known-fault
 enum-known-fault c = search (judgements, needs)
 
-enum-known-behind : tie.Need-enum-known-behind
-enum-known-behind c = search (judgements, needs)
+enum-known-next : tie.Need-enum-known-next
+enum-known-next c = search (judgements, needs)
 
 place-after-requires : tie.Need-place-after-requires
 place-after-requires c κs = search (judgements, needs)
@@ -37,22 +28,15 @@ returns-3 c = search (judgements, needs)
 returns-4 : tie.Need-returns-4
 returns-4 c = search (judgements, needs)
 
-returns-5 : tie.Need-returns-5
-returns-5 c = search (judgements, needs)
-
 pub judge-for-spec : {M : Type 1} → statement M
 judge-for-spec =
     tie.close
     (tie.spec
     returns
-    front-of-requires
-    enum-known-number
-    enum-known-song
-    rest-requires
+    judge-start-requires
     enum-known-fault
-    enum-known-behind
+    enum-known-next
     place-after-requires
     returns-2
     returns-3
-    returns-4
-    returns-5)
+    returns-4)
