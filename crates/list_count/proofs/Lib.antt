@@ -1,2 +1,3 @@
 pub mod Bodies
 pub mod Counts
+pub mod Parts

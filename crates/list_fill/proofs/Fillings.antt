@@ -1,12 +1,12 @@
 -- The list of patterns is filled, one pattern a turn.
-use Prim.Native.Nat.{ℕ, zero, suc, _+_, _-_, _*_, _≤_, _<_}
+use Prim.Native.Nat.{ℕ, suc, _+_, _-_, _*_, _≤_, _<_}
 use native.Mathlib.Omega.{arith}
 use native.Mathlib.Nat.{zero-add}
 use mathlib.Core.Path.{_≡_, refl, sym, ap, ap₂, subst, _∙_}
 use mathlib.Core.Bool.{Bool, true, false}
 use mathlib.Core.List.{List, [], _∷_, _++_, append-assoc, append-nil}
-use lib.ListN.{length, getD, set, drop, replicate, length-append, List·getD-map}
-use lib.Seq.{sets, sets-eq, getD-set-same, set-getD}
+use lib.ListN.{length, getD, set, drop, replicate, length-append}
+use lib.Seq.{sets, sets-eq}
 use lib.Dec.{eqb}
 use borrow.Author.Tests.{eqb-true}
 use Rattle.bits.specs.Choice.{pick}
@@ -15,12 +15,13 @@ use Rattle.bits.specs.Lent.{over}
 use Rattle.bits.specs.declared.BitPlace.{BitPlace}
 use Rattle.bits.proofs.Octets.{length-bitsOf}
 use Rattle.tone.specs.Table.{kind, width, allowed, InTable}
-use Rattle.tone.specs.Tone.{Pattern, specifier, loopOf, partOf, pattern, recallable, learn}
+use Rattle.tone.specs.Tone.{Pattern, specifier, loopOf, partOf, pattern, learn}
 use Rattle.tone.specs.Writing.{entryBits, tableBits}
-use Rattle.tone.specs.Reading.{Got, got, bad, onward, headerDue, bodyDue, patternsDue}
+use Rattle.tone.specs.Reading.{got, bad, onward, headerDue, bodyDue, patternsDue}
 use Rattle.tone.proofs.Exact.{Accepted}
 use Rattle.tone.proofs.Rows.{Header, Body, header-exact, body-exact}
 use Rattle.tone_elements.specs.Answers.{Within, place, notes, EntryAt, SomeEntry, Passed}
+use Rattle.tone_elements.proofs.Steps.{onward-got, onward-made}
 use Rattle.list_rules.specs.declared.Settings.{Settings}
 use Rattle.list_rules.specs.declared.Entry.{Entry}
 use Rattle.list_fill.specs.declared.Part.{Part}
@@ -34,6 +35,7 @@ use Rattle.list_fill.specs.Filling.{PatternsAt, partAfter, behindPattern
 use Rattle.tone_elements.specs.Standing.{BodyAt, behindOr, bodyIn, behindIn}
 use Rattle.list_rules.proofs.Counts.{list-count}
 use Rattle.list_count.proofs.Bodies.{isKnown, knownOf, remember-length, body-sounding, learn-read}
+use Rattle.list_count.proofs.Parts.{AllFor, parts-kept, part-sounds, known-sounding}
 use Rattle.list_rules.proofs.Joining.{play-one, play-last}
 use Rattle.list_rules.proofs.Packing.{length-numbers}
 use Rattle.list_fill.proofs.Stepping.{ready-four}
@@ -46,42 +48,6 @@ PartAt m Unknown unknown = Unit {0}
 PartAt m Unknown (known b) = ⊥
 PartAt m (Known at n) unknown = ⊥
 PartAt m (Known at n) (known b) = (q : ℕ) × BodyAt m (at .0) n b q
-
-abbrev PartsAt : List ℕ → List Part → List Remembered → Type 0
-PartsAt m [] [] = Unit {0}
-PartsAt m [] (r ∷ rs) = ⊥
-PartsAt m (p ∷ ps) [] = ⊥
-PartsAt m (p ∷ ps) (r ∷ rs) = PartAt m p r × PartsAt m ps rs
-
-part-at : (m : List ℕ) (ps : List Part) (rs : List Remembered) → PartsAt m ps rs → (i : ℕ) → PartAt m (getD ps i Unknown) (getD rs i unknown)
-part-at m [] [] h i = tt
-part-at m [] (r ∷ rs) h i = absurd h
-part-at m (p ∷ ps) [] h i = absurd h
-part-at m (p ∷ ps) (r ∷ rs) h zero = h .0
-part-at m (p ∷ ps) (r ∷ rs) h (suc i) = part-at m ps rs (h .1) i
-
-part-set : (m : List ℕ) (ps : List Part) (rs : List Remembered) → PartsAt m ps rs → (i : ℕ) (p : Part) (r : Remembered) → PartAt m p r → PartsAt m (set ps i p) (set rs i r)
-part-set m [] [] h i p r k = tt
-part-set m [] (y ∷ rs) h i p r k = absurd h
-part-set m (x ∷ ps) [] h i p r k = absurd h
-part-set m (x ∷ ps) (y ∷ rs) h zero p r k = (k, h .1)
-part-set m (x ∷ ps) (y ∷ rs) h (suc i) p r k = (h .0, part-set m ps rs (h .1) i p r k)
-
-parts-length : (m : List ℕ) (ps : List Part) (rs : List Remembered) → PartsAt m ps rs → length ps ≡ length rs
-parts-length m [] [] h = refl
-parts-length m [] (r ∷ rs) h = absurd h
-parts-length m (p ∷ ps) [] h = absurd h
-parts-length m (p ∷ ps) (r ∷ rs) h = ap suc (parts-length m ps rs (h .1))
-
--- a header and its instructions change both alike
-parts-kept : (m : List ℕ) (ps : List Part) (rs : List Remembered) (h : ℕ) (next : BitPlace) (b : List ℕ) (q : ℕ) → PartsAt m ps rs → length b ≡ specifier h → BodyAt m (next .0) (specifier h) b q
-    → PartsAt m (set ps (partOf h) (partAfter (getD ps (partOf h) Unknown) h next)) (remember rs (pattern h b))
-unfolding remember
-parts-kept m ps rs h next b q k size stands = rw (← size) (go (eqb (length b) 0))
-  where
-    go : (t : Bool) → PartsAt m (set ps (partOf h) (pick t (getD ps (partOf h) Unknown) (Known next (length b)))) (pick t rs (set rs (partOf h) (known b)))
-    go true = subst (λ (l : List Part). PartsAt m l rs) (sym (set-getD ps (partOf h) Unknown)) k
-    go false = part-set m ps rs k (partOf h) (Known next (length b)) (known b) (q, rw size stands)
 
 -- ---- the first of some patterns that stand at a place
 
@@ -100,24 +66,12 @@ head-of : (m : List ℕ) (seen : List Bool) (p left : ℕ) {ps : List Pattern} {
 unfolding patternsDue
 head-of m seen p left {ps} {q} h e =
     let one-less : left ≡ suc (left - 1) = omega arith in
-    first (headerDue seen (bitsOf m) p) refl (subst (λ (x : ℕ). patternsDue x seen (bitsOf m) p ≡ got ps q) one-less e)
-  where
-    third : (c n : ℕ) (b : List ℕ) (r : ℕ) → headerDue seen (bitsOf m) p ≡ got c n → bodyDue (specifier c) (bitsOf m) n ≡ got b r
-        → (y : Got (List Pattern)) → patternsDue (left - 1) (learn seen c) (bitsOf m) r ≡ y → onward y (λ t s. got (pattern c b ∷ t) s) bad ≡ got ps q → Head m seen p left ps q
-    third c n b r i j (got t s) k z =
-        let f : s ≡ q = cc in
-        record { header = c; next = n; body = b; behind = r; others = t; patterns = cc; first = i; second = j; more = k ∙ ap (λ (x : ℕ). got t x) f }
-    third c n b r i j (bad x s u) k z = let y : _≡_ {A = ℕ} 0 1 = cc in absurd (omega arith)
-
-    second : (c n : ℕ) → headerDue seen (bitsOf m) p ≡ got c n → (y : Got (List ℕ)) → bodyDue (specifier c) (bitsOf m) n ≡ y
-        → onward y (λ b r. onward (patternsDue (left - 1) (learn seen c) (bitsOf m) r) (λ t s. got (pattern c b ∷ t) s) bad) bad ≡ got ps q → Head m seen p left ps q
-    second c n i (got b r) j z = third c n b r i j (patternsDue (left - 1) (learn seen c) (bitsOf m) r) refl z
-    second c n i (bad x s u) j z = let y : _≡_ {A = ℕ} 0 1 = cc in absurd (omega arith)
-
-    first : (x : Got ℕ) → headerDue seen (bitsOf m) p ≡ x
-        → onward x (λ c n. onward (bodyDue (specifier c) (bitsOf m) n) (λ b r. onward (patternsDue (left - 1) (learn seen c) (bitsOf m) r) (λ t s. got (pattern c b ∷ t) s) bad) bad) bad ≡ got ps q → Head m seen p left ps q
-    first (got c n) i z = second c n i (bodyDue (specifier c) (bitsOf m) n) refl z
-    first (bad x s u) i z = let y : _≡_ {A = ℕ} 0 1 = cc in absurd (omega arith)
+    let l = bitsOf m in
+    let k = left - 1 in
+    let i = onward-got (headerDue seen l p) (λ c n. onward (bodyDue (specifier c) l n) (λ b r. onward (patternsDue k (learn seen c) l r) (λ t s. got (pattern c b ∷ t) s) bad) bad) (subst (λ (x : ℕ). patternsDue x seen l p ≡ got ps q) one-less e) in
+    let j = onward-got (bodyDue (specifier (i .0)) l (i .1)) (λ b r. onward (patternsDue k (learn seen (i .0)) l r) (λ t s. got (pattern (i .0) b ∷ t) s) bad) (i .3) in
+    let o = onward-made (patternsDue k (learn seen (i .0)) l (j .1)) (λ t. pattern (i .0) (j .0) ∷ t) (j .3) in
+    record { header = i .0; next = i .1; body = j .0; behind = j .1; others = o .0; patterns = o .2; first = i .2; second = j .2; more = o .1 }
 
 -- a header that was read is an entry of the table
 header-entry : (h : ℕ) → h < 16384 → InTable h
@@ -139,16 +93,6 @@ unknown-there m Unknown unknown h e k = let y : _≡_ {A = ℕ} 0 1 = cc in omeg
 unknown-there m Unknown (known b) h e k = h
 unknown-there m (Known at n) r h e k = let y : _≡_ {A = ℕ} 0 1 = cc in omega arith
 
--- what a header may sound is known
-known-sounding : (bodies : List Remembered) (h : ℕ) (b : List ℕ) → length bodies ≡ 4 → length b ≡ specifier h → recallable (knownOf bodies) h ≡ true
-    → isKnown (getD (remember bodies (pattern h b)) (partOf h) unknown) ≡ true
-unfolding remember
-known-sounding bodies h b four size = rw (← size) (go (eqb (length b) 0))
-  where
-    go : (t : Bool) → pick t (getD (knownOf bodies) (partOf h) false) true ≡ true → isKnown (getD (pick t bodies (set bodies (partOf h) (known b))) (partOf h) unknown) ≡ true
-    go true k = sym (List·getD-map isKnown bodies (partOf h) unknown) ∙ k
-    go false k = ap isKnown (getD-set-same bodies (partOf h) (known b) unknown (omega arith))
-
 -- ---- the loop
 
 -- with `left` patterns to come at p, from the bodies that are remembered and the settings of the walk
@@ -156,7 +100,7 @@ pub record ListWalk (m : List ℕ) (ps : List Pattern) (old new lasts : List ℕ
   pub within : Within m p
   pub bodies : List Remembered
   pub four : length bodies ≡ 4
-  pub places : PartsAt m parts bodies
+  pub places : AllFor (PartAt m) parts bodies
   pub others : List Pattern
   pub end : ℕ
   pub reads : patternsDue left (knownOf bodies) (bitsOf m) p ≡ got others end
@@ -252,21 +196,19 @@ module _ {m : List ℕ} {ps : List Pattern} {old new lasts : List ℕ} {parts : 
       size = read .good .size
 
       module _ {part : Part} (e : part ≡ partAfter (getD parts (partOf cell) Unknown) cell next) where
-        places : PartsAt m (set parts (partOf cell) part) (remember (v .bodies) one)
+        places : AllFor (PartAt m) (set parts (partOf cell) part) (remember (v .bodies) one)
         unfolding one
-        places = rw e (parts-kept m parts (v .bodies) cell next (head .body) (head .behind) (v .places) size stands)
+        places = rw e (parts-kept (PartAt m) Unknown parts (v .bodies) cell (head .body) (Known next (specifier cell)) (v .places) (ap (λ (x : ℕ). eqb x 0) size) (head .behind, stands))
 
         sounding : PartAt m part (getD (remember (v .bodies) one) (partOf cell) unknown)
-        sounding =
-            let four : length parts ≡ 4 = parts-length m parts (v .bodies) (v .places) ∙ v .four in
-            subst (λ (p : Part). PartAt m p (getD (remember (v .bodies) one) (partOf cell) unknown)) (getD-set-same parts (partOf cell) part Unknown (omega arith))
-            (part-at m (set parts (partOf cell) part) (remember (v .bodies) one) places (partOf cell))
+        unfolding one
+        sounding = rw e (part-sounds (PartAt m) Unknown parts (v .bodies) cell (head .body) (Known next (specifier cell)) (v .places) (ap (λ (x : ℕ). eqb x 0) size) (head .behind, stands) (v .four))
 
         pub list-unknown : part ≡ Unknown → ⊥
         unfolding one
         list-unknown z =
             unknown-there m part (getD (remember (v .bodies) one) (partOf cell) unknown) sounding z
-            (known-sounding (v .bodies) cell (head .body) (v .four) size (rw (← same) (taken .good .recall)))
+            (known-sounding (v .bodies) cell (head .body) (v .four) (ap (λ (x : ℕ). eqb x 0) size) ∙ (rw (← same) (taken .good .recall)))
 
         module _ {from : BitPlace} {n : ℕ} (g : part ≡ Known from n) where
           body : (q : ℕ) × BodyAt m (from .0) n (recalled (getD (remember (v .bodies) one) (partOf cell) unknown)) q

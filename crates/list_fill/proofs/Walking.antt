@@ -1,21 +1,20 @@
 -- The list is filled, one pass at a time.
-use Prim.Native.Nat.{ℕ, zero, suc, _+_, _-_, _*_, _%_, _^_, _≤_, _<_}
+use Prim.Native.Nat.{ℕ, suc, _+_, _-_, _*_, _%_, _^_, _≤_, _<_}
 use native.Mathlib.Omega.{arith}
 use native.Mathlib.Nat.{add-zero, mul-suc}
 use mathlib.Core.Path.{_≡_, refl, sym, ap, ap₂, subst, _∙_}
 use mathlib.Core.List.{List, [], _∷_, _++_, append-assoc, append-nil}
 use lib.ListN.{length, set, drop, length-append}
-use lib.Seq.{sets, length-sets, drop-drop}
+use lib.Seq.{sets, length-sets}
 use Rattle.bits.specs.Bits.{bitsOf}
 use Rattle.bits.specs.Window.{Sight}
 use Rattle.bits.specs.declared.BitPlace.{BitPlace}
 use Rattle.bits.proofs.Octets.{length-bitsOf}
-use Rattle.bits.proofs.Looking.{length-left, sight-on}
 use Rattle.tone.specs.Table.{kind, width, Instruction}
-use Rattle.tone.specs.Reading.{Got, got, bad, onward, instructionDue, bodyDue}
+use Rattle.tone.specs.Reading.{got, bad, onward, instructionDue, bodyDue}
 use Rattle.tone.specs.Writing.{entryBits}
 use Rattle.tone.proofs.Exact.{Accepted}
-use Rattle.tone.proofs.Rows.{length-entryBits, instruction-exact, body-exact}
+use Rattle.tone.proofs.Rows.{instruction-exact, body-exact}
 use Rattle.tone_elements.specs.Answers.{noteIn, notes}
 use Rattle.list_rules.specs.declared.Settings.{Settings}
 use Rattle.list_rules.specs.declared.Entry.{Entry}
@@ -28,7 +27,8 @@ use Rattle.list_rules.proofs.Packing.{length-numbers, numbers-append}
 use Rattle.list_rules.proofs.Counts.{pass-count, passes-count}
 use Rattle.list_fill.proofs.Stepping.{ready-same}
 use Rattle.tone_elements.proofs.Seeing.{instruction-width}
-use Rattle.tone_elements.proofs.Walks.{notes-more}
+use Rattle.tone_elements.proofs.Steps.{onward-got, onward-made}
+use Rattle.tone_elements.proofs.Walks.{InSight, sight-begins, sight-near, sight-here, sight-next, body-more, notes-more}
 use Rattle.list_fill.proofs.Seeing.{seen-is}
 
 -- ---- one thing after another
@@ -93,15 +93,10 @@ head-of : (m : List ℕ) (p left : ℕ) {b : List ℕ} {q : ℕ} → 0 < left �
 unfolding bodyDue
 head-of m p left {b} {q} h e =
     let one-less : left ≡ suc (left - 1) = omega arith in
-    first (instructionDue (bitsOf m) p) refl (subst (λ (x : ℕ). bodyDue x (bitsOf m) p ≡ got b q) one-less e)
-  where
-    then : (c p′ : ℕ) → instructionDue (bitsOf m) p ≡ got c p′ → (y : Got (List ℕ)) → bodyDue (left - 1) (bitsOf m) p′ ≡ y → onward y (λ t r. got (c ∷ t) r) bad ≡ got b q → Head m p left b q
-    then c p′ i (got t r) j z = let e : r ≡ q = cc in record { entry = c; others = t; behind = p′; body = cc; first = i; more = j ∙ ap (λ (x : ℕ). got t x) e }
-    then c p′ i (bad n r s) j z = let y : _≡_ {A = ℕ} 0 1 = cc in absurd (omega arith)
-
-    first : (x : Got ℕ) → instructionDue (bitsOf m) p ≡ x → onward x (λ c p′. onward (bodyDue (left - 1) (bitsOf m) p′) (λ t r. got (c ∷ t) r) bad) bad ≡ got b q → Head m p left b q
-    first (got c p′) i z = then c p′ i (bodyDue (left - 1) (bitsOf m) p′) refl z
-    first (bad n r s) i z = let y : _≡_ {A = ℕ} 0 1 = cc in absurd (omega arith)
+    let l = bitsOf m in
+    let i = onward-got (instructionDue l p) (λ c p′. onward (bodyDue (left - 1) l p′) (λ t r. got (c ∷ t) r) bad) (subst (λ (x : ℕ). bodyDue x l p ≡ got b q) one-less e) in
+    let j = onward-made (bodyDue (left - 1) l (i .1)) (λ t. i .0 ∷ t) (i .3) in
+    record { entry = i .0; others = j .0; behind = i .1; body = j .2; first = i .2; more = j .1 }
 
 -- the first k of some instructions that stand at a place
 record Split (m : List ℕ) (p k left : ℕ) (b : List ℕ) (q : ℕ) : Type 0 where
@@ -112,26 +107,13 @@ record Split (m : List ℕ) (p k left : ℕ) (b : List ℕ) (q : ℕ) : Type 0 w
   first : bodyDue k (bitsOf m) p ≡ got front behind
   more : bodyDue (left - k) (bitsOf m) behind ≡ got others q
 
--- one instruction more
-split-more : {m : List ℕ} {k p left : ℕ} {b : List ℕ} {q : ℕ} (f : Head m p left b q) → Split m (f .behind) k (left - 1) (f .others) q → Split m p (suc k) left b q
-unfolding bodyDue
-split-more {m} {k} {left = left} {q = q} f t =
-    let n : left - 1 - k ≡ left - suc k = omega arith in
-    record {
-      front = f .entry ∷ t .front;
-      others = t .others;
-      behind = t .behind;
-      body = f .body ∙ ap (λ (l : List ℕ). f .entry ∷ l) (t .body);
-      first = rw (f .first, t .first) refl;
-      more = subst (λ (x : ℕ). bodyDue x (bitsOf m) (t .behind) ≡ got (t .others) q) n (t .more);
-    }
-
 split-of : (m : List ℕ) (k p left : ℕ) {b : List ℕ} {q : ℕ} → k ≤ left → bodyDue left (bitsOf m) p ≡ got b q → Split m p k left b q
-unfolding bodyDue
-split-of m zero p left {b} {q} h e =
-    let n : left ≡ left - 0 = omega arith in
-    record { front = []; others = b; behind = p; body = refl; first = refl; more = subst (λ (x : ℕ). bodyDue x (bitsOf m) p ≡ got b q) n e }
-split-of m (suc k) p left h e = let f = head-of m p left (omega arith) e in split-more f (split-of m k (f .behind) (left - 1) (omega arith) (f .more))
+split-of m k p left {b} {q} h e =
+    let both : left ≡ k + (left - k) = omega arith in
+    let l = bitsOf m in
+    let i = onward-got (bodyDue k l p) (λ a r. onward (bodyDue (left - k) l r) (λ t s. got (a ++ t) s) bad) (sym (ap (λ (x : ℕ). bodyDue x l p) both ∙ body-more k (left - k) l p) ∙ e) in
+    let j = onward-made (bodyDue (left - k) l (i .1)) (λ t. i .0 ++ t) (i .3) in
+    record { front = i .0; others = j .0; behind = i .1; body = j .2; first = i .2; more = j .1 }
 
 -- two bodies on end are played on end
 pass-append : (s : Settings) (a b : List ℕ) → pass s (a ++ b) ≡ ahead (pass s a .entries) (pass (pass s a .after) b)
@@ -225,15 +207,14 @@ pub ruleset passings = (ready-same, pass-begins, pass-long, pass-few, pass-fits,
 
 -- ---- some instructions in one sight
 
--- the same within one sight, that was taken at a place: an instruction has at most 12 bits, and four have 48 of its 57
+-- the same within one sight, that was taken at a place
 pub record FewWalk (m : List ℕ) (s : Settings) (b : List ℕ) (at i q : ℕ) (old new lasts : List ℕ) (w : Walk) (left : ℕ) : Type 0 where
   pub walked : PassWalk m s b i q old new lasts w left
-  pub behind : at ≤ w .at .0
-  pub near : w .at .0 + 12 * left ≤ at + 48
+  pub seen : InSight at (w .at .0) left
 
 pub few-begins : {m : List ℕ} {b : List ℕ} {q n : ℕ} {old lasts : List ℕ} (w : Walk) → Ready w lasts × (n ≤ 4) → BodyAt m (w .at .0) n b q → w .cells + 2 * notes b ≤ length old
     → FewWalk m (w .settings) b (w .at .0) (w .cells) q old old lasts w n
-few-begins w r h k = record { walked = begins w (r .0) h k; behind = omega arith; near = omega (arith, r .1) }
+few-begins {n = n} w r h k = record { walked = begins w (r .0) h k; seen = sight-begins (w .at .0) n (r .1) }
 
 module _ {m : List ℕ} {s : Settings} {b : List ℕ} {at i q : ℕ} {old new lasts : List ℕ} {w : Walk} {left : ℕ} (f : FewWalk m s b at i q old new lasts w left) where
   pub few-ready : Ready w lasts
@@ -244,10 +225,10 @@ module _ {m : List ℕ} {s : Settings} {b : List ℕ} {at i q : ℕ} {old new la
 
   module _ (h : 0 < left) where
     pub few-back : at ≤ w .at .0
-    few-back = f .behind
+    few-back = f .seen .behind
 
     pub few-near : w .at .0 - at ≤ 36
-    few-near = omega (arith, f .behind, f .near)
+    few-near = sight-near (f .seen) h
 
     -- the place can be counted
     pub few-place : w .at .0 < 2 ^ 63
@@ -268,12 +249,7 @@ module _ {m : List ℕ} {s : Settings} {b : List ℕ} {at i q : ℕ} {old new la
       y = x * 2 ^ (w .at .0 - at) % 2 ^ 64
 
       same : entrySeen y ≡ head .entry
-      same =
-          let k = w .at .0 - at in
-          let n : at + k ≡ w .at .0 = omega (arith, f .behind) in
-          let l : k ≤ length (drop at (bitsOf m)) = rw (length-left m at) (omega (arith, f .walked .stands .within .inside)) in
-          let o = sight-on sight (omega arith) (omega (arith, f .near)) l in
-          seen-is (drop (head .behind) (bitsOf m)) (head .entry) (taken .good .inTable) (drop-drop k at (bitsOf m) ∙ ap (λ (z : ℕ). drop z (bitsOf m)) n ∙ taken .here) (omega (arith, short, f .near)) o
+      same = seen-is (drop (head .behind) (bitsOf m)) (head .entry) (taken .good .inTable) (taken .here) (omega (arith, short, few-near)) (sight-here (f .seen) h m (f .walked .stands .within .inside) sight)
 
       pub few-instruction : Instruction (entrySeen y)
       few-instruction = rw same (taken .good)
@@ -286,13 +262,11 @@ module _ {m : List ℕ} {s : Settings} {b : List ℕ} {at i q : ℕ} {old new la
       unfolding step
       few-on {new′} {lasts′} {w′} a =
           let z : w .at .0 + length (entryBits (entrySeen y)) ≡ head .behind = ap (λ (c : ℕ). w .at .0 + length (entryBits c)) same ∙ sym (taken .end) in
-          let l = length-entryBits (head .entry) in
           let d : Advanced (w .cells) (step (w .settings) (head .entry)) (head .behind) new new′ lasts′ w′ =
           subst (λ (c : ℕ). Advanced (w .cells) (step (w .settings) c) (head .behind) new new′ lasts′ w′) same (subst (λ (p : ℕ). Advanced (w .cells) (step (w .settings) (entrySeen y)) p new new′ lasts′ w′) z a) in
           record {
             walked = go-on (f .walked) d (ap (pass (w .settings)) (head .body)) (head .more) (taken .inside) (omega (arith, f .walked .stands .short));
-            behind = omega (arith, f .behind, d .place, taken .end);
-            near = omega (arith, f .near, d .place, taken .end, l, short);
+            seen = rw (d .place) (sight-next (f .seen) h m (f .walked .stands .within .inside) (head .first));
           }
 
   pub few-done : left ≤ 0 → Advanced i (pass s b) q old new lasts w

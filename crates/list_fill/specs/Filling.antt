@@ -16,6 +16,7 @@ use Rattle.tone_elements.specs.Standing.{valueOr, behindOr}
 use Rattle.list_fill.specs.declared.Part.{Part}
 use Rattle.list_fill.specs.declared.Part.the-variants.{Known}
 use Rattle.list_fill.specs.declared.Walk.{Walk}
+use Rattle.list_count.specs.Parts.{soundingPart}
 use Rattle.list_rules.specs.Duration.{beats}
 use Rattle.list_rules.specs.Tempo.{lastsOf, baseOf}
 use Rattle.list_rules.specs.Sounding.{numbers}
@@ -39,7 +40,7 @@ pub record PatternsAt (m : List ℕ) (at n : ℕ) (ps : List Pattern) (q : ℕ) 
 
 -- the part that a header sounds, whose own instructions stand at next: a definition replaces the part of its id
 abbrev pub partAfter : Part → ℕ → BitPlace → Part
-partAfter part h next = pick (eqb (specifier h) 0) part (Known next (specifier h))
+partAfter part h next = soundingPart part h (Known next (specifier h))
 
 -- where the next header stands: a recall has no instructions of its own
 abbrev pub behindPattern : ℕ → BitPlace → BitPlace → BitPlace

@@ -5,7 +5,7 @@ use native.Mathlib.Nat.{add-zero, lt-of-lt-of-le}
 use mathlib.Core.Path.{_≡_, refl, sym, ap, _∙_}
 use mathlib.Core.Bool.{Bool, true, false}
 use mathlib.Core.List.{List}
-use lib.ListN.{length, getD, drop}
+use lib.ListN.{length, drop}
 use lib.Dec.{eqb, lit≤}
 use lib.Pow.{pow-mono}
 use borrow.Author.Tests.{eq-eqb, ne-eqb, le-leb, lt-leb}
@@ -17,10 +17,11 @@ use Rattle.bits.proofs.Octets.{length-bitsOf}
 use Rattle.bits.proofs.Looking.{seen}
 use Rattle.tone_elements.specs.declared.Step.the-variants.{Good, Bad}
 use Rattle.tone.specs.Table.{width, allowed, isInstruction}
-use Rattle.tone.specs.Tone.{specifier, partOf, recallable}
+use Rattle.tone.specs.Tone.{recallable}
 use Rattle.tone.specs.Reading.{got, element, headerDue, instructionDue}
-use Rattle.tone_elements.specs.Answers.{place, stepOf}
+use Rattle.tone_elements.specs.Answers.{place, allKnown, stepOf}
 use Rattle.tone.proofs.Exact.{element-good, element-bad, element-cut}
+use Rattle.tone_elements.proofs.Headers.{any-recalled}
 
 -- r bits are left at a place
 module _ (m : List ℕ) (at : ℕ) {r : ℕ} (hr : r + at ≡ 8 * length m) where
@@ -92,45 +93,28 @@ module _ (m : List ℕ) (at : ℕ) {r : ℕ} (hr : r + at ≡ 8 * length m) wher
       pub instruction-above : 5 < x / 2097152 → Bad 6 (place at) ≡ stepOf (instructionDue (bitsOf m) at)
       instruction-above h = wrong-id (above-instruction (x / 2097152) h)
 
-      -- ---- a header
+      -- ---- a header, where all parts are known
 
-      pub header-id : (known : List Bool) → (x / 2097152 ≡ 0 → ⊥) → Bad 6 (place at) ≡ stepOf (headerDue known (bitsOf m) at)
+      pub header-id : (x / 2097152 ≡ 0 → ⊥) → Bad 6 (place at) ≡ stepOf (headerDue allKnown (bitsOf m) at)
       unfolding headerDue
-      header-id known h =
+      header-id h =
           rw (element-bad 3 (eqb 0) 6 (bitsOf m) at (enough h₃) (rw id-is (ne-eqb 0 (x / 2097152) (λ e. h (sym e)))))
 
-      module _ (known : List Bool) (zero-id : x / 2097152 ≡ 0) where
+      module _ (zero-id : x / 2097152 ≡ 0) where
         head-good : element 3 (eqb 0) 6 (bitsOf m) at ≡ got 0 (at + 3)
         head-good = rw (element-good 3 (eqb 0) 6 (bitsOf m) at (enough h₃) (rw (id-is, zero-id) refl), id-is, zero-id)
 
-        pub header-cut : r < 17 → Bad 2 (place (at + 3)) ≡ stepOf (headerDue known (bitsOf m) at)
+        pub header-cut : r < 17 → Bad 2 (place (at + 3)) ≡ stepOf (headerDue allKnown (bitsOf m) at)
         unfolding headerDue
-        header-cut h = rw (head-good, element-cut 14 (recallable known) 7 (bitsOf m) (at + 3) (short-rest 14 (omega arith)))
+        header-cut h = rw (head-good, element-cut 14 (recallable allKnown) 7 (bitsOf m) (at + 3) (short-rest 14 (omega arith)))
 
-        module _ (c : 17 ≤ r) where
-          payload-is : field (bitsOf m) (at + 3) 14 ≡ x / 128
-          payload-is = let s = lk .small in seen m at 3 14 lk (omega arith) (omega arith) ∙ omega arith
-
-          header-bad : recallable known (x / 128) ≡ false → Bad 7 (place (at + 3)) ≡ stepOf (headerDue known (bitsOf m) at)
-          unfolding headerDue
-          header-bad f = rw (head-good, element-bad 14 (recallable known) 7 (bitsOf m) (at + 3) (enough-rest 14 (omega arith)) (rw payload-is f))
-
-          header-good : recallable known (x / 128) ≡ true → Good (x / 128) (place (at + 17)) ≡ stepOf (headerDue known (bitsOf m) at)
-          unfolding headerDue
-          header-good f =
-              let e : at + 3 + 14 ≡ at + 17 = omega arith in
-              rw (head-good, element-good 14 (recallable known) 7 (bitsOf m) (at + 3) (enough-rest 14 (omega arith)) (rw payload-is f), payload-is, e)
-
-          -- in the code's terms: a definition, a recall of what is known, and one of what is not
-          pub header-defines : (specifier (x / 128) ≡ 0 → ⊥) → Good (x / 128) (place (at + 17)) ≡ stepOf (headerDue known (bitsOf m) at)
-          header-defines h = header-good (rw (ne-eqb (specifier (x / 128)) 0 h))
-
-          module _ (recall : specifier (x / 128) ≡ 0) where
-            pub header-recalls : getD known (partOf (x / 128)) false ≡ true → Good (x / 128) (place (at + 17)) ≡ stepOf (headerDue known (bitsOf m) at)
-            header-recalls k = header-good (rw (eq-eqb (specifier (x / 128)) 0 recall, k))
-
-            pub header-unknown : getD known (partOf (x / 128)) false ≡ false → Bad 7 (place (at + 3)) ≡ stepOf (headerDue known (bitsOf m) at)
-            header-unknown k = header-bad (rw (eq-eqb (specifier (x / 128)) 0 recall, k))
+        pub header-good : 17 ≤ r → Good (x / 128) (place (at + 17)) ≡ stepOf (headerDue allKnown (bitsOf m) at)
+        unfolding headerDue
+        header-good c =
+            let s = lk .small in
+            let f : field (bitsOf m) (at + 3) 14 ≡ x / 128 = seen m at 3 14 lk (omega arith) (omega arith) ∙ omega arith in
+            let e : at + 3 + 14 ≡ at + 17 = omega arith in
+            rw (head-good, element-good 14 (recallable allKnown) 7 (bitsOf m) (at + 3) (enough-rest 14 (omega arith)) (any-recalled (field (bitsOf m) (at + 3) 14)), f, e)
 
     -- an instruction of kind k, w payload bits wide, whose id is there
     module _ {k w : ℕ} (there : at + 3 ≤ 8 * length m) (ek : k ≡ x / 2097152) (some : 1 ≤ k) (most : k ≤ 5) (hw : (w ≡ width k) × (w ≤ 14)) where
@@ -163,9 +147,9 @@ module _ (m : List ℕ) (at : ℕ) {r : ℕ} (hr : r + at ≡ 8 * length m) wher
   unfolding instructionDue
   instruction-short h = rw (element-cut 3 isInstruction 6 (bitsOf m) at (short h))
 
-  pub header-short : (known : List Bool) → r < 3 → Bad 2 (place at) ≡ stepOf (headerDue known (bitsOf m) at)
+  pub header-short : r < 3 → Bad 2 (place at) ≡ stepOf (headerDue allKnown (bitsOf m) at)
   unfolding headerDue
-  header-short known h = rw (element-cut 3 (eqb 0) 6 (bitsOf m) at (short h))
+  header-short h = rw (element-cut 3 (eqb 0) 6 (bitsOf m) at (short h))
 
 -- the widths as four bits of one number for each
 pub width-packed : (k : ℕ) → k ≤ 5 → (4530846 / 2 ^ (4 * k) % 16 ≡ width k) × (4530846 / 2 ^ (4 * k) % 16 ≤ 14)
@@ -195,4 +179,4 @@ pub ruleset instructions = (instruction-short, instruction-zero, instruction-abo
 
 pub ruleset payloads = (instruction-cut, instruction-good, instruction-code, entry-fits)
 
-pub ruleset headers = (header-short, header-id, header-cut, header-defines, header-recalls, header-unknown)
+pub ruleset headers = (header-short, header-id, header-cut, header-good)

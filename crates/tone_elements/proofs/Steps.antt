@@ -1,5 +1,5 @@
 -- What an answer of the code says of the reading behind it.
-use Prim.Native.Nat.{ℕ, _-_}
+use Prim.Native.Nat.{ℕ}
 use native.Mathlib.Omega.{arith}
 use mathlib.Core.Path.{_≡_, refl, sym, ap, _∙_}
 use Rattle.bits.specs.declared.BitPlace.{BitPlace}
@@ -36,3 +36,16 @@ step-cong (bad n p e) h = refl
 pub step-map : {A B : Type 0} (f : B → ℕ) (h : A → B) (x : Got A) → stepAs f (onward x (λ a p. got (h a) p) bad) ≡ stepAs (λ a. f (h a)) x
 step-map f h (got a p) = refl
 step-map f h (bad n p e) = refl
+
+-- one reading after another gave a value: what the first gave, and where
+pub onward-got : {A B : Type 0} (x : Got A) (f : A → ℕ → Got B) {c : B} {q : ℕ} → onward x f bad ≡ got c q → (a : A) × (p : ℕ) × (x ≡ got a p) × (f a p ≡ got c q)
+onward-got (got a p) f e = (a, p, refl, e)
+onward-got (bad n p e′) f e = let z : _≡_ {A = ℕ} 0 1 = cc in absurd (omega arith)
+
+-- where the second reads nothing and makes a value of the first's
+pub onward-made : {A B : Type 0} (x : Got A) (f : A → B) {c : B} {q : ℕ} → onward x (λ a p. got (f a) p) bad ≡ got c q → (a : A) × (x ≡ got a q) × (c ≡ f a)
+onward-made (got a p) f {c} {q} e =
+    let e₁ : p ≡ q = cc in
+    let e₂ : c ≡ f a = cc in
+    (a, ap (λ (y : ℕ). got a y) e₁, e₂)
+onward-made (bad n p e′) f e = let z : _≡_ {A = ℕ} 0 1 = cc in absurd (omega arith)

@@ -98,7 +98,7 @@ module _ {m : List ℕ} {due : Step} {p left c : ℕ} (w : BodyWalk m due p left
 
 pub ruleset bodies = (body-resumes, body-done, body-bad, body-on)
 
--- ---- up to four instructions from one sight
+-- ---- a place in a sight
 
 -- none is wider than 12 bits
 instruction-most : (l : List Bool) (p : ℕ) {e q : ℕ} → p ≤ length l → instructionDue l p ≡ got e q → (p ≤ q) × (q ≤ p + 12)
@@ -108,39 +108,62 @@ instruction-most l p {e} h g =
     let k = instruction-width (kind e) (a .good .some) in
     (omega (arith, n), omega (arith, n, k))
 
+-- with `left` instructions to come at p, behind the place of a sight: four have at most 48 of its 57 bits
+pub record InSight (at p left : ℕ) : Type 0 where
+  pub behind : at ≤ p
+  pub near : p + 12 * left ≤ at + 48
+
+pub sight-begins : (at n : ℕ) → n ≤ 4 → InSight at at n
+sight-begins at n h = record { behind = omega arith; near = omega arith }
+
+module _ {at p left : ℕ} (s : InSight at p left) (h : 0 < left) where
+  -- what is left of the sight takes one more
+  pub sight-near : p - at ≤ 36
+  sight-near = omega (arith, s .near)
+
+  module _ (m : List ℕ) (inside : p ≤ 8 * length m) where
+    -- the sight at the place that was reached
+    pub sight-here : {x : ℕ} → Sight 57 (drop at (bitsOf m)) x → Sight (57 - (p - at)) (drop p (bitsOf m)) (x * 2 ^ (p - at) % 2 ^ 64)
+    sight-here sees =
+        let e : at + (p - at) ≡ p = omega (arith, s .behind) in
+        let d : drop (p - at) (drop at (bitsOf m)) ≡ drop p (bitsOf m) = drop-drop (p - at) at (bitsOf m) ∙ ap (λ (y : ℕ). drop y (bitsOf m)) e in
+        let n = sight-near in
+        rw (← d) (sight-on {k = p - at} sees (omega arith) (omega arith) (rw (length-left m at) (omega arith)))
+
+    -- one instruction more
+    pub sight-next : {e q : ℕ} → instructionDue (bitsOf m) p ≡ got e q → InSight at q (left - 1)
+    sight-next g =
+        let most = instruction-most (bitsOf m) p (rw (length-bitsOf m) inside) g in
+        record { behind = omega (arith, s .behind, most .0); near = omega (arith, s .near, most .1) }
+
+-- ---- up to four instructions from one sight
+
 -- an instruction counts for one note at most
 note-one : (e : ℕ) → noteIn e ≤ 1
 note-one e = pick-elim (λ (x : ℕ). x ≤ 1) (eqb (kind e) 1) (λ _. omega arith) (λ _. omega arith)
 
--- the walk from a place `at` on, where there was a sight of n instructions
-pub record FewWalk (m : List ℕ) (due : Step) (n at p left c : ℕ) : Type 0 where
+-- the walk within a sight that was taken at a place
+pub record FewWalk (m : List ℕ) (due : Step) (at p left c : ℕ) : Type 0 where
   pub walk : BodyWalk m due p left c
-  pub ahead : at ≤ p
-  pub near : p + 12 * left ≤ at + 12 * n
+  pub seen : InSight at p left
 
-pub few-begins : (m : List ℕ) (n at : ℕ) → at ≤ 8 * length m → n ≤ 4 → FewWalk m (counted m n at) n at at n 0
-few-begins m n at h l = record { walk = body-begins m n at h (omega arith); ahead = omega arith; near = omega arith }
+pub few-begins : (m : List ℕ) (n at : ℕ) → at ≤ 8 * length m → n ≤ 4 → FewWalk m (counted m n at) at at n 0
+few-begins m n at h l = record { walk = body-begins m n at h (omega arith); seen = sight-begins at n l }
 
-pub few-done : {m : List ℕ} {due : Step} {n at left c : ℕ} {q : BitPlace} → FewWalk m due n at (q .0) left c → left ≤ 0 → Good c q ≡ due
+pub few-done : {m : List ℕ} {due : Step} {at left c : ℕ} {q : BitPlace} → FewWalk m due at (q .0) left c → left ≤ 0 → Good c q ≡ due
 few-done w h = body-done (w .walk) h
 
-module _ {m : List ℕ} {due : Step} {n at p left c : ℕ} (w : FewWalk m due n at p left c) (l : n ≤ 4) (h : 0 < left) where
-  -- what is left of the sight takes one more
+module _ {m : List ℕ} {due : Step} {at p left c : ℕ} (w : FewWalk m due at p left c) (h : 0 < left) where
   pub few-near : p - at ≤ 36
-  few-near = omega (arith, w .near)
+  few-near = sight-near (w .seen) h
+
+  pub few-back : at ≤ p
+  few-back = w .seen .behind
 
   module _ {x : ℕ} {s : Step} (room : at + 48 ≤ 8 * length m) (sees : Sight 57 (drop at (bitsOf m)) x) (q : Seen p (x * 2 ^ (p - at) % 2 ^ 64) s) where
-    -- the sight at the place that was reached
-    sees-on : Sight (57 - (p - at)) (drop p (bitsOf m)) (x * 2 ^ (p - at) % 2 ^ 64)
-    sees-on =
-        let e : at + (p - at) ≡ p = omega (arith, w .ahead) in
-        let d : drop (p - at) (drop at (bitsOf m)) ≡ drop p (bitsOf m) = drop-drop (p - at) at (bitsOf m) ∙ ap (λ (y : ℕ). drop y (bitsOf m)) e in
-        let n = few-near in
-        rw (← d) (sight-on {k = p - at} sees (omega arith) (omega arith) (rw (length-left m at) (omega arith)))
-
     -- what was answered of it is what is due
     judged : s ≡ stepAs noteIn (instructionDue (bitsOf m) p)
-    judged = q .due m (57 - (p - at)) (omega (arith, few-near)) sees-on (omega (arith, w .near))
+    judged = q .due m (57 - (p - at)) (omega (arith, few-near)) (sight-here (w .seen) h m (w .walk .inside) sees) (omega (arith, w .seen .near))
 
     pub few-bad : {k : ℕ} {f : BitPlace} → s ≡ Bad k f → Bad k f ≡ due
     few-bad g = refuses (w .walk) h (step-bad noteIn (instructionDue (bitsOf m) p) (sym g ∙ judged) .1)
@@ -155,21 +178,15 @@ module _ {m : List ℕ} {due : Step} {n at p left c : ℕ} (w : FewWalk m due n 
       pub few-fits : Fits w32 (c + v)
       few-fits = record { fits = omega (arith, small, w .walk .fewer) }
 
-      pub few-on : FewWalk m due n at (f .0) (left - 1) (c + v)
-      few-on =
-          let most = instruction-most (bitsOf m) p (rw (length-bitsOf m) (w .walk .inside)) (read .1) in
-          record {
-            walk = goes-on (w .walk) h (read .1) (read .2) small;
-            ahead = omega (arith, w .ahead, most .0);
-            near = omega (arith, w .near, most .1);
-          }
+      pub few-on : FewWalk m due at (f .0) (left - 1) (c + v)
+      few-on = record { walk = goes-on (w .walk) h (read .1) (read .2) small; seen = sight-next (w .seen) h m (w .walk .inside) (read .1) }
 
-pub ruleset sights = (few-begins, few-done, few-near, few-bad, few-fits, few-on)
+pub ruleset sights = (few-begins, few-done, few-near, few-back, few-bad, few-fits, few-on)
 
 -- ---- a body, up to four instructions at a turn
 
--- a number of instructions, and then a number more
-body-more : (j k : ℕ) (l : List Bool) (p : ℕ) → bodyDue (j + k) l p ≡ onward (bodyDue j l p) (λ b q. onward (bodyDue k l q) (λ r t. got (b ++ r) t) bad) bad
+-- a body of j + k instructions is one of j and one of k
+pub body-more : (j k : ℕ) (l : List Bool) (p : ℕ) → bodyDue (j + k) l p ≡ onward (bodyDue j l p) (λ b q. onward (bodyDue k l q) (λ r t. got (b ++ r) t) bad) bad
 unfolding bodyDue
 body-more zero k l p = rw (zero-add k) (same (bodyDue k l p))
   where

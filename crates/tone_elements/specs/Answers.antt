@@ -1,6 +1,6 @@
 -- What the code answers of an element that was due.
 use Prim.Native.Nat.{ℕ, _+_, _^_, _≤_, _<_}
-use mathlib.Core.Bool.{Bool}
+use mathlib.Core.Bool.{Bool, true}
 use mathlib.Core.Path.{_≡_}
 use mathlib.Core.List.{List, [], _∷_, _++_}
 use lib.ListN.{length, drop}
@@ -34,6 +34,10 @@ place p = record { 0 = p }
 -- a number as an octet count
 abbrev pub octetCount : ℕ → OctetCount
 octetCount n = record { 0 = n }
+
+-- all four parts are known: then a header may recall any
+abbrev pub allKnown : List Bool
+allKnown = true ∷ true ∷ true ∷ true ∷ []
 
 -- what was read, as the number that f makes of it, or the refusal
 abbrev pub stepAs : {A : Type 0} → (A → ℕ) → Got A → Step

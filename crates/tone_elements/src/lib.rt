@@ -9,7 +9,7 @@ ghost use Rattle.tone.specs.Table.{width as widthOf, allowed as allowedOf};
 ghost use Rattle.tone.specs.Tone.{perCharacter};
 ghost use Rattle.tone.specs.Reading.{element, anyOf, filled, soundPart, parts as partsDue, command, text as textDue, title as titleDue, titled as titledDue, front};
 ghost use Rattle.tone.specs.Reading.{headerDue, instructionDue, bodyDue, ending as endingDue};
-ghost use Rattle.tone_elements.specs.Answers.{Within, stepAs, stepOf, commandOf, noteIn, notes as notesOf, openingOf, Seen, SomeEntry, EntryAt, Passed};
+ghost use Rattle.tone_elements.specs.Answers.{Within, allKnown, stepAs, stepOf, commandOf, noteIn, notes as notesOf, openingOf, Seen, SomeEntry, EntryAt, Passed};
 ghost use mathlib.Core.Bool.{Bool};
 ghost use mathlib.Core.List.{List};
 use bits::BitPlace;
@@ -168,10 +168,10 @@ pub fn instruction(msg: &[u8], at: BitPlace) -> Step
     payload(msg, at, x, kind, width(kind))
 }
 
-// A header: its id, and then the rest of it. `known` says which of A to D are defined.
-pub fn header(msg: &[u8], at: BitPlace, known: [bool; 4]) -> Step
+// A header: its id, and then the rest of it. Whether it may recall what it recalls is not told here.
+pub fn header(msg: &[u8], at: BitPlace) -> Step
     requires { ⌜ Within (now msg) (at .0) ⌝ }
-    ensures { λ r. ⌜ r ≡ stepOf (headerDue known (bitsOf (now (msg .entry))) (at .0)) ⌝ }
+    ensures { λ r. ⌜ r ≡ stepOf (headerDue allKnown (bitsOf (now (msg .entry))) (at .0)) ⌝ }
 {
     let rest = left(msg, at);
     if rest < 3 {
@@ -187,24 +187,9 @@ pub fn header(msg: &[u8], at: BitPlace, known: [bool; 4]) -> Step
             at: BitPlace(at.0 + 3),
         };
     }
-    let payload = x / 128;
-    let next = BitPlace(at.0 + 17);
-    if payload % 256 != 0 {
-        return Step::Good {
-            value: payload,
-            next,
-        };
-    }
-    let id = (payload / 4096 % 4) as usize;
-    if known[id] {
-        return Step::Good {
-            value: payload,
-            next,
-        };
-    }
-    Step::Bad {
-        number: 7,
-        at: BitPlace(at.0 + 3),
+    Step::Good {
+        value: x / 128,
+        next: BitPlace(at.0 + 17),
     }
 }
 

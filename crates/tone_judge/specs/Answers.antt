@@ -4,10 +4,11 @@ use mathlib.Core.Bool.{Bool}
 use mathlib.Core.List.{List}
 use lib.ListN.{length}
 use Rattle.bits.specs.Outcome.{Outcome, accepted, refused}
+use Rattle.bits.specs.declared.BitPlace.{BitPlace}
 use Rattle.tone.specs.Tone.{Pattern, Tone, frontOf, cells, specifier}
 use Rattle.tone.specs.Writing.{frontBits, tableBits}
 use Rattle.tone.specs.Reading.{Got, got, bad, onward, headerDue, bodyDue}
-use Rattle.tone_elements.specs.Answers.{place, octetCount, notes, entries}
+use Rattle.tone_elements.specs.Answers.{place, octetCount, allKnown, notes, entries}
 use Rattle.tone_judge.specs.declared.Wish.{Wish}
 use Rattle.tone_judge.specs.declared.Cut.{Cut}
 use Rattle.tone_judge.specs.declared.Total.{Total}
@@ -19,16 +20,21 @@ use Rattle.tone_judge.specs.declared.Whole.{Whole}
 use Rattle.tone_judge.specs.declared.Whole.the-variants.{Ended, Broken}
 use Rattle.tone_judge.specs.declared.Judged.{Judged}
 use Rattle.tone_judge.specs.declared.Judged.the-variants.{Sound, Faulty}
+use Rattle.list_count.specs.declared.Count.{Count}
 use Rattle.list_count.specs.Bodies.{noBodies}
 use Rattle.list_count.specs.Counting.{entryCount, markFrom}
 use Rattle.tone_judge.specs.Wishes.{wished, noCut, cutIn}
 
--- the pattern at a place: its header, the place behind it, and the notes of its own instructions; or the refusal
-abbrev pub singleOf : List Bool → List Bool → ℕ → Single
-singleOf known l p =
-    onward (headerDue known l p)
+-- the pattern at a place, whatever part it recalls: its header, the place behind it, and the notes of its own instructions; or the refusal
+abbrev pub singleOf : List Bool → ℕ → Single
+singleOf l p =
+    onward (headerDue allKnown l p)
     (λ h q. onward (bodyDue (specifier h) l q) (λ b r. Fine h (place r) (notes b)) (λ n f e. Fault n (place f)))
     (λ n f e. Fault n (place f))
+
+-- patterns that were counted: t entries in the table, and what the list comes to
+abbrev pub totalTo : BitPlace → ℕ → Count → Cut → Total
+totalTo end t c cut = record { table = t; list = c .entries; mark = c .mark; end = end; cut = cut }
 
 -- what the patterns ps at a place come to, with the list that qs have
 abbrev pub totalAs : ℕ → List Pattern → List Pattern → Cut → Total

@@ -6,11 +6,12 @@ ghost use Rattle.tone.specs.Reading.{readTone, front as frontDue, patternsDue, 
 ghost use Rattle.tone_elements.specs.Answers.{Within, stepOf, openingOf, notes as notesOf};
 ghost use Rattle.tone_elements.specs.Standing.{bodyIn, behindIn, BodyAt, PartAt};
 ghost use Rattle.tone_judge.specs.Wishes.{noCut, leftAt, OwnOf, Owned};
-ghost use Rattle.tone_judge.specs.Answers.{singleOf, totalOf, tallyAs, wholeOf, judgedFor, judgedOf};
+ghost use Rattle.tone_judge.specs.Answers.{singleOf, totalTo, totalOf, tallyAs, wholeOf, judgedFor, judgedOf};
 use bits::BitPlace;
 use bits::OctetCount;
 use edit_change::Edit;
 use list_count::Count;
+use list_count::Part;
 use tone_elements::Opening;
 use tone_elements::Step;
 
@@ -201,12 +202,12 @@ fn left_at(n: u32, k: usize) -> u32
 
 // ---- judging
 
-// Judges the pattern at a place: its header, and its instructions. `known` says which of A to D are defined.
-fn pattern(msg: &[u8], at: BitPlace, known: [bool; 4]) -> Single
+// Judges the pattern at a place: its header, whatever part that recalls, and its instructions.
+fn pattern(msg: &[u8], at: BitPlace) -> Single
     requires { ⌜ Within (now msg) (at .0) ⌝ }
-    ensures { λ r. ⌜ r ≡ singleOf known (bitsOf (now (msg .entry))) (at .0) ⌝ }
+    ensures { λ r. ⌜ r ≡ singleOf (bitsOf (now (msg .entry))) (at .0) ⌝ }
 {
-    match tone_elements::header(msg, at, known) {
+    match tone_elements::header(msg, at) {
         Step::Bad { number, at: fault } => Single::Fault { number, at: fault },
         Step::Good { value, next } => match tone_elements::body(msg, next, value % 256) {
             Step::Bad { number, at: fault } => Single::Fault { number, at: fault },
@@ -222,46 +223,64 @@ fn pattern(msg: &[u8], at: BitPlace, known: [bool; 4]) -> Single
     }
 }
 
-// Judges `n` patterns and counts what they come to.
+impl Total {
+    // What patterns come to that were counted up to a place.
+    fn up_to(end: BitPlace, table: u32, count: Count, cut: Cut) -> Total
+        ensures { λ r. ⌜ r ≡ totalTo end table count cut ⌝ }
+    {
+        Total {
+            table,
+            list: count.entries,
+            mark: count.mark,
+            end,
+            cut,
+        }
+    }
+}
+
+// Judges `n` patterns and counts what they come to. The four parts, A to D, are kept as they are counted: a recall of one that
+// is not yet defined is refused at its payload, behind the three bits of its id.
 fn patterns(msg: &[u8], at: BitPlace, n: u32, wish: Wish) -> Tally
     requires { ⌜ Within (now msg) (at .0) ⌝ }
     requires { ⌜ n ≤ 255 ⌝ }
     ensures { λ r. ⌜ r ≡ tallyAs (totalOf wish (at .0)) (patternsDue n noneKnown (bitsOf (now (msg .entry))) (at .0)) ⌝ }
 {
     let named = left_at(n, wish.pattern);
-    let mut known = [false; 4];
-    let mut notes = [0u32; 4];
+    let mut parts = [Part::Unknown; 4];
     let mut place = at;
     let mut left = n;
     let mut table: u32 = 0;
     let mut count = Count::none();
     let mut cut = Cut::none();
     while 0 < left {
-        match pattern(msg, place, known) {
+        match pattern(msg, place) {
             Single::Fault { number, at: fault } => {
                 return Tally::Stopped { at: fault, number };
             }
             Single::Fine { cell, next, own } => {
-                let part = own_part(msg, left == named, place, cell, own, wish, cut);
+                let wished = own_part(msg, left == named, place, cell, own, wish, cut);
                 let id = (cell / 4096 % 4) as usize;
-                known[id] = true;
-                let heard = list_count::sounding(notes[id], cell, part.notes);
-                notes[id] = heard;
+                let part = list_count::part_after(parts[id], cell, wished.notes);
+                parts[id] = part;
+                match part {
+                    Part::Unknown => {
+                        return Tally::Stopped {
+                            at: BitPlace(place.0 + 3),
+                            number: 7,
+                        };
+                    }
+                    Part::Known { notes } => {
+                        count = count.with(notes, cell / 256 % 16);
+                    }
+                }
                 table += 1 + cell % 256;
-                count = count.with(heard, cell / 256 % 16);
-                cut = part.cut;
+                cut = wished.cut;
                 place = next;
                 left -= 1;
             }
         }
     }
-    let total = Total {
-        table,
-        list: count.entries,
-        mark: count.mark,
-        end: place,
-        cut,
-    };
+    let total = Total::up_to(place, table, count, cut);
     Tally::Counted { next: place, total }
 }
 

@@ -5,7 +5,7 @@ use Rattle.tone_elements.proofs.Walks.{FewWalk, counted, sights}
 use borrow.Author.Needs.{needs}
 
 abbrev Inv-loop : tie.InvT-loop
-Inv-loop msg at n s place₀ left₀ notes₀ place left notes = FewWalk msg (counted msg n (at .0)) n (at .0) (place .0) left notes
+Inv-loop msg at n s place₀ left₀ notes₀ place left notes = FewWalk msg (counted msg n (at .0)) (at .0) (place .0) left notes
 
 abbrev μ-loop : tie.MeasureT-loop
 μ-loop msg at n s place₀ left₀ notes₀ place left notes = left

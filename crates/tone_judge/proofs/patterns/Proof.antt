@@ -1,15 +1,14 @@
--- `tone_judge::patterns` meets its contract.
+-- `tone_judge::patterns` meets its contract. Each turn judges one pattern.
 use Rattle.tone_judge.proofs.patterns.Statement.{statement}
 use Rattle.tone_judge.proofs.patterns.Tie as tie
-use native.Mathlib.Omega.{arith}
-use Rattle.tone_judge.proofs.Tallies.{TallyWalk, tally-notes, tallies}
+use Rattle.tone_judge.proofs.Tallies.{TallyWalk, tally-counts, tally-fits, tally-notes, tallies}
 use borrow.Author.Needs.{needs}
 
 abbrev Inv-loop : tie.InvT-loop
-Inv-loop msg n wish named known₀ notes₀ place₀ left₀ table₀ count₀ cut₀ known notes place left table count cut = TallyWalk wish named msg n (place₀ .0) known notes (place .0) left table count cut
+Inv-loop msg n wish named parts₀ place₀ left₀ table₀ count₀ cut₀ parts place left table count cut = TallyWalk wish named msg n (place₀ .0) parts (place .0) left table count cut
 
 abbrev μ-loop : tie.MeasureT-loop
-μ-loop msg n wish named known₀ notes₀ place₀ left₀ table₀ count₀ cut₀ known notes place left table count cut = left
+μ-loop msg n wish named parts₀ place₀ left₀ table₀ count₀ cut₀ parts place left table count cut = left
 
 left-at-requires : tie.Need-left-at-requires Inv-loop μ-loop
 left-at-requires c κs = search (tallies, needs)
@@ -41,37 +40,41 @@ own-part-requires c κs = search (tallies, needs)
 cast-id : tie.Need-cast-id Inv-loop μ-loop
 cast-id c = search (tallies, needs)
 
-array-write-known : tie.Need-array-write-known Inv-loop μ-loop
-array-write-known c = search (tallies, needs)
+mul-part-after : tie.Need-mul-part-after Inv-loop μ-loop
+mul-part-after c = search (tallies, needs)
 
-mul-sounding : tie.Need-mul-sounding Inv-loop μ-loop
-mul-sounding c = search (tallies, needs)
+array-copy-out-part-after : tie.Need-array-copy-out-part-after Inv-loop μ-loop
+array-copy-out-part-after c = search (tallies, needs)
 
-array-read-sounding : tie.Need-array-read-sounding Inv-loop μ-loop
-array-read-sounding c = search (tallies, needs)
+part-after-requires : tie.Need-part-after-requires Inv-loop μ-loop
+part-after-requires c κs = search (tallies, needs)
 
-sounding-requires : tie.Need-sounding-requires Inv-loop μ-loop
-sounding-requires c κs = search (tallies, needs)
+mul-parts : tie.Need-mul-parts Inv-loop μ-loop
+mul-parts c = search (tallies, needs)
 
-mul-notes : tie.Need-mul-notes Inv-loop μ-loop
-mul-notes c = search (tallies, needs)
+array-set-from-parts : tie.Need-array-set-from-parts Inv-loop μ-loop
+array-set-from-parts c = search (tallies, needs)
 
-array-write-notes : tie.Need-array-write-notes Inv-loop μ-loop
-array-write-notes c = search (tallies, needs)
+enum-told : tie.Need-enum-told Inv-loop μ-loop
+enum-told c = search (tallies, needs)
+
+add-t34 : tie.Need-add-t34 Inv-loop μ-loop
+add-t34 c = search (tallies, needs)
+
+returns-2 : tie.Need-returns-2 Inv-loop μ-loop
+returns-2 c = search (tallies, needs)
+
+enum-known-part : tie.Need-enum-known-part Inv-loop μ-loop
+enum-known-part c = search (tallies, needs)
+
+with-requires : tie.Need-with-requires Inv-loop μ-loop
+with-requires c κs = (search (tally-counts, needs), search (tally-notes, needs), search needs)
 
 add-table : tie.Need-add-table Inv-loop μ-loop
 add-table c = search (tallies, needs)
 
 add-table-2 : tie.Need-add-table-2 Inv-loop μ-loop
-add-table-2 c =
-    let l = c .before .before .before .before .before .before .before in
-    record { fits = omega (arith, l .loop .inv .small, l .before .before .before .before .before .pre .1, c .before .before .before .before .before .before .loop-test .taken) }
-
-with-requires : tie.Need-with-requires Inv-loop μ-loop
-with-requires c κs =
-    let l = c .before .before .before .before .before .before .before in
-    let n = tally-notes (l .loop .inv) (c .before .before .before .before .before .before .loop-test .taken) (c .before .before .before .before .before .pattern .ensures) (c .before .before .before .cell .given .1) (c .before .own-part .ensures) (c .sounding .ensures) in
-    (omega (arith, l .loop .inv .fewer, l .before .before .before .before .before .pre .1, c .before .before .before .before .before .before .loop-test .taken), n, omega arith)
+add-table-2 c = search (tally-fits, needs)
 
 sub-left : tie.Need-sub-left Inv-loop μ-loop
 sub-left c = search (tallies, needs)
@@ -82,8 +85,11 @@ loop-less c = search (tallies, needs)
 loop-again : tie.Need-loop-again Inv-loop μ-loop
 loop-again c = search (tallies, needs)
 
-returns-2 : tie.Need-returns-2 Inv-loop μ-loop
-returns-2 c = search (tallies, needs)
+up-to-requires : tie.Need-up-to-requires Inv-loop μ-loop
+up-to-requires c κs = search (tallies, needs)
+
+returns-3 : tie.Need-returns-3 Inv-loop μ-loop
+returns-3 c = search (tallies, needs)
 
 pub patterns-spec : {M : Type 1} → statement M
 patterns-spec =
@@ -101,16 +107,20 @@ patterns-spec =
     enum-known-cell
     own-part-requires
     cast-id
-    array-write-known
-    mul-sounding
-    array-read-sounding
-    sounding-requires
-    mul-notes
-    array-write-notes
+    mul-part-after
+    array-copy-out-part-after
+    part-after-requires
+    mul-parts
+    array-set-from-parts
+    enum-told
+    add-t34
+    returns-2
+    enum-known-part
+    with-requires
     add-table
     add-table-2
-    with-requires
     sub-left
     loop-less
     loop-again
-    returns-2)
+    up-to-requires
+    returns-3)
