@@ -272,6 +272,7 @@ row-reads (c ∷ cs) buf used t h q =
     row-reads cs (c .buffer) (newLength (c .answer)) (changed (c .edit) (c .pattern) (c .instruction) t) (h .2)
     (edit-result-reads buf used (c .edit) (c .pattern) (c .instruction) (c .lent) (c .buffer) (c .list) (c .answer) (h .0) (h .1) t q)
 
+-- where the bytes are a tone's to begin with, they are a tone's after each
 row-bytes-from : (cs : List Call) (buf : List ℕ) (used : ℕ) (t : Tone) → InARow buf used cs → readTone (take used buf) ≡ accepted t → take used buf ≡ toneOctets t
     → take (lengthLeft used cs) (bufferLeft buf cs) ≡ toneOctets (changedBy cs t)
 row-bytes-from [] buf used t h q e = e
