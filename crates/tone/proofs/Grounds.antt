@@ -19,10 +19,12 @@ use Rattle.tone.specs.Reading.{Got, got, bad, Reader, onward, _>>=_, ret
 
 -- ---- the elements of a message
 
--- each element that document 01 names; a command part by its code, a header by the ids that are known, an instruction's rest by its kind
+-- each element that document 01 names; the rest of a header by the ids that are known, the rest of an instruction by its kind
 pub data Element : Type 0 where
   lengthOctet : Element
-  commandPart : ℕ → Element
+  programmingDue : Element
+  unicodeDue : Element
+  soundDue : Element
   fillerBit : Element
   songType : Element
   titleLength : Element
@@ -38,7 +40,9 @@ pub data Element : Type 0 where
 -- how many bits it has where it begins at p
 abbrev pub widthOf : Element → ℕ → ℕ
 widthOf lengthOctet p = 8
-widthOf (commandPart code) p = 7
+widthOf programmingDue p = 7
+widthOf unicodeDue p = 7
+widthOf soundDue p = 7
 widthOf fillerBit p = 1
 widthOf songType p = 3
 widthOf titleLength p = 4
@@ -54,7 +58,9 @@ widthOf endOctet p = 8
 -- which codes are allowed in it
 abbrev pub fineIn : Element → ℕ → Bool
 fineIn lengthOctet n = eqb n 2 || eqb n 3
-fineIn (commandPart code) n = eqb code n
+fineIn programmingDue n = eqb programming n
+fineIn unicodeDue n = eqb unicodePart n
+fineIn soundDue n = eqb sound n
 fineIn fillerBit n = eqb 0 n
 fineIn songType n = eqb n 1 || eqb n 2
 fineIn titleLength n = true
@@ -70,7 +76,9 @@ fineIn endOctet n = eqb 0 n
 -- the number that another code is refused with; 0 where every code is allowed
 abbrev pub numberOf : Element → ℕ
 numberOf lengthOctet = 3
-numberOf (commandPart code) = 3
+numberOf programmingDue = 3
+numberOf unicodeDue = 3
+numberOf soundDue = 3
 numberOf fillerBit = 8
 numberOf songType = 4
 numberOf titleLength = 0
@@ -141,17 +149,13 @@ patterns-blame (suc n) known =
     then-blames (body-blames (specifier h)) (λ b.
     then-blames (patterns-blame n (learn known h)) (λ ps. return-blames _)))
 
-filled-blames : (code : ℕ) → Blames (filled code)
-unfolding filled
-filled-blames code = then-blames (element-blames (commandPart code)) (λ _. element-blames fillerBit)
-
 command-blames : Blames command
-unfolding command parts whetherUnicode soundPart
+unfolding command parts filled whetherUnicode soundPart
 command-blames =
     then-blames (element-blames lengthOctet) (λ n.
-    then-blames (filled-blames programming) (λ _.
-    then-blames (pick-elim Blames (eqb n 3) (λ _. then-blames (filled-blames unicodePart) (λ _. return-blames true)) (λ _. return-blames false)) (λ u.
-    then-blames (element-blames (commandPart sound)) (λ _. return-blames u))))
+    then-blames (then-blames (element-blames programmingDue) (λ _. element-blames fillerBit)) (λ _.
+    then-blames (pick-elim Blames (eqb n 3) (λ _. then-blames (then-blames (element-blames unicodeDue) (λ _. element-blames fillerBit)) (λ _. return-blames true)) (λ _. return-blames false)) (λ u.
+    then-blames (element-blames soundDue) (λ _. return-blames u))))
 
 front-blames : Blames front
 unfolding front typed titled title counted
@@ -176,7 +180,9 @@ at-fault l q = subst (Blamed l) q (whole-blames .one l 0)
 
 number-most : (x : Element) → numberOf x ≤ 9
 number-most lengthOctet = omega arith
-number-most (commandPart code) = omega arith
+number-most programmingDue = omega arith
+number-most unicodeDue = omega arith
+number-most soundDue = omega arith
 number-most fillerBit = omega arith
 number-most songType = omega arith
 number-most titleLength = omega arith
