@@ -4,9 +4,10 @@ use native.Mathlib.Omega.{arith}
 use mathlib.Core.Path.{_≡_, refl}
 use mathlib.Core.List.{List}
 use lib.ListN.{length, getD, drop}
+use borrow.Author.Tests.{lt-leb}
 use Rattle.bits.specs.Outcome.{Outcome, accepted, refused}
 use Rattle.bitmap.specs.Image.{Sizes, imageOctets}
-use Rattle.bitmap.specs.Bitmap.{Bitmap, judged, reading}
+use Rattle.bitmap.specs.Bitmap.{Bitmap, writing, judged, reading, writingInto}
 use Rattle.bitmap.proofs.Rules.{bitmap, Header, JudgedCase, ReadingCase, judged-is, reading-is}
 
 -- ---- reading: 2, 15, 16
@@ -41,7 +42,7 @@ image-third m l x y = go (reading-is m)
     go (ReadingCase.other-length h k n) = refl
     go (ReadingCase.right h k e) = absurd (y e)
 
--- ---- what is to be written: 15, 16, and then 11 for the room
+-- ---- what is to be written: 15, 16
 
 -- 15, however long the image is
 pub sizes-first : (width height : ℕ) (image : List ℕ) → (Sizes width height → ⊥) → judged width height image ≡ refused 15 0
@@ -69,3 +70,22 @@ judged-last width height image x y = go (judged-is width height image)
     go (JudgedCase.outside n) = absurd (n x)
     go (JudgedCase.other-length s n) = absurd (n y)
     go (JudgedCase.right s e) = refl
+
+-- ---- writing: 15, 16, 11
+
+module _ (room width height : ℕ) (image : List ℕ) where
+  -- 15, whatever image and room are
+  pub write-sizes-first : (Sizes width height → ⊥) → writingInto room width height image ≡ refused 15 0
+  unfolding writingInto
+  write-sizes-first n = rw (sizes-first width height image n) refl
+
+  module _ (s : Sizes width height) where
+    -- 16, whatever the room is
+    pub write-image-second : (length image ≡ imageOctets width height → ⊥) → writingInto room width height image ≡ refused 16 0
+    unfolding writingInto
+    write-image-second n = rw (octets-second width height image s n) refl
+
+    -- 11
+    pub write-room-last : length image ≡ imageOctets width height → room < length (writing (bitmap width height image)) → writingInto room width height image ≡ refused 11 0
+    unfolding writingInto
+    write-room-last x l = rw (judged-last width height image s x, lt-leb (length (writing (bitmap width height image))) room l) refl

@@ -8,23 +8,26 @@ use mathlib.Core.List.{List, [], _∷_, _++_, append-assoc}
 use lib.ListN.{length, getD, take, drop, replicate, length-append, length-replicate, length-drop}
 use lib.Seq.{take-at, drop-at, drop-drop}
 use lib.IntN.{pos, _-ℤ_}
-use Rattle.bits.specs.Bits.{bitsOf}
+use Rattle.bits.specs.Bits.{bitsOf, Octets}
 use Rattle.bits.specs.Lent.{over}
 use Rattle.bits.specs.Outcome.{Outcome, accepted, refused}
 use Rattle.bits.specs.declared.BitPlace.{BitPlace}
+use Rattle.bits.proofs.Octets.{octets-take}
 use Rattle.tone.specs.Tone.{Tone, Formed}
 use Rattle.tone.specs.Writing.{entryBits, tableBits, toneBits, toneLength, toneOctets}
 use Rattle.tone.specs.Reading.{readTone}
-use Rattle.tone.proofs.Demand2.{read-formed, bits-toneOctets, length-toneOctets}
+use Rattle.tone.proofs.Demand2.{read-formed, accepted-is-written, bits-toneOctets, length-toneOctets}
 use Rattle.list.specs.declared.Listed.{Listed}
 use Rattle.list.specs.declared.Listed.the-variants.{Made as ListMade}
 use Rattle.list_rules.specs.Sounding.{numbers}
 use Rattle.list_rules.specs.Playing.{Listing, playingList}
 use Rattle.list_rules.specs.Listing.{fitsNumbers, listTone}
 use Rattle.list.specs.Promise.{listAnswer, cellsAfter, ListPromise}
-use Rattle.list_rules.proofs.Bounds.{none-too-long}
+use Rattle.list_rules.specs.declared.Entry.{Entry}
+use Rattle.list_rules.proofs.Bounds.{list-bounded}
+use Rattle.list_rules.proofs.Order.{cells-enough}
 use Rattle.list_rules.proofs.Packing.{length-numbers}
-use borrow.Author.Tests.{le-leb}
+use Rattle.list.proofs.Agreeing.{Agree, agree-at}
 use Rattle.edit_change.specs.declared.Edit.{Edit}
 use Rattle.edit.specs.declared.Answer.{Answer}
 use Rattle.edit.specs.declared.Answer.the-variants.{Edited as Made, Refused}
@@ -78,6 +81,14 @@ pub record Ahead (k i : ℕ) (t : Tone) (old new : List Bool) : Type 0 where
   pub upToInstruction : length (tableBits (take i (patternAt (t .patterns) k .body))) + (headerPlace t k + 9 + 8) ≡ instructionPlace t k i
   -- and the old instruction stands there
   pub standsThere : i < bodyLength k t → (rest : List Bool) × (drop (instructionPlace t k i) old ≡ entryBits (getD (patternAt (t .patterns) k .body) i 0) ++ rest)
+
+-- an edit's list is that of t: as the message in the buffer is listed, as the answer counts it, and as the lent cells hold it, entry by entry, with what was lent behind it
+pub record ListIs (t : Tone) (message lent list : List ℕ) (r : Answer) : Type 0 where
+  pub listed : listTone message (fitsNumbers (length lent)) ≡ accepted (playingList t)
+  pub entries : numbersOf r .entries ≡ length (playingList t .entries)
+  pub mark : numbersOf r .mark ≡ playingList t .mark
+  pub whole : list ≡ numbers (playingList t .entries) ++ drop (2 * numbersOf r .entries) lent
+  pub each : (j : ℕ) (d : Entry) → j < numbersOf r .entries → Agree (getD (playingList t .entries) j d) list j
 
 module _ (buf : List ℕ) (used : ℕ) (ed : Edit) (k i : ℕ) (list buf′ list′ : List ℕ) (r : Answer) (p : EditPromise buf used ed k i list buf′ list′ r) where
   -- ---- acceptance
@@ -171,21 +182,26 @@ module _ (buf : List ℕ) (used : ℕ) (ed : Edit) (k i : ℕ) (list buf′ list
 
     -- listing the new bytes gives the changed tone's list
     pub edit-listing : listTone (take (newLength r) buf′) (fitsNumbers (length list)) ≡ accepted (playingList (changed ed k i t))
-    unfolding listTone
-    edit-listing =
-        let t′ = changed ed k i t in
-        rw (
-          edit-result-reads,
-          none-too-long t′ (edit-formed ed k i t formed (edit-conditions .grounds)),
-          le-leb (2 * length (playingList t′ .entries)) (length list) (edit-conditions .listRoom),
-        )
-        refl
+    edit-listing = cells-enough (take (newLength r) buf′) edit-result-reads (length list) (edit-conditions .listRoom)
 
     -- the lent list holds it, two numbers an entry, and beyond it what there was
     pub edit-list : list′ ≡ numbers (playingList (changed ed k i t) .entries) ++ drop (2 * numbersOf r .entries) list
     edit-list =
         let rs = playingList (changed ed k i t) .entries in
         p .listed ∙ ap (λ (x : Outcome Edited). listAfter x list) outcome ∙ ap (λ (x : ℕ). numbers rs ++ drop x list) (length-numbers rs ∙ ap (λ (x : ℕ). 2 * x) (sym (ap (λ (x : Numbers). x .entries) edit-numbers)))
+
+    -- all that is said of the list
+    pub edit-list-is : ListIs (changed ed k i t) (take (newLength r) buf′) list list′ r
+    edit-list-is =
+        let rs = playingList (changed ed k i t) .entries in
+        let n : numbersOf r .entries ≡ length rs = ap (λ (x : Numbers). x .entries) edit-numbers in
+        record {
+          listed = edit-listing;
+          entries = n;
+          mark = ap (λ (x : Numbers). x .mark) edit-numbers;
+          whole = edit-list;
+          each = λ j d h. rw edit-list (agree-at rs (drop (2 * numbersOf r .entries) list) (list-bounded (changed ed k i t) (edit-formed ed k i t formed (edit-conditions .grounds))) j d (rw (← n) h));
+        }
 
     -- a call of `list::list` on the new bytes, with the list as it was lent, answers and leaves the same
     pub edit-list-afresh : (list″ : List ℕ) (s : Listed) → ListPromise (take (newLength r) buf′) (fitsNumbers (length list)) list list″ s → (s ≡ ListMade (numbersOf r .entries) (numbersOf r .mark)) × (list″ ≡ list′)
@@ -256,20 +272,26 @@ row-reads (c ∷ cs) buf used t h q =
     row-reads cs (c .buffer) (newLength (c .answer)) (changed (c .edit) (c .pattern) (c .instruction) t) (h .2)
     (edit-result-reads buf used (c .edit) (c .pattern) (c .instruction) (c .lent) (c .buffer) (c .list) (c .answer) (h .0) (h .1) t q)
 
--- and its bytes are those that writing this tone afresh gives
-pub row-bytes : (cs : List Call) (buf : List ℕ) (used : ℕ) (t : Tone) → InARow buf used cs → readTone (take used buf) ≡ accepted t → take used buf ≡ toneOctets t
+-- where the bytes are a tone's to begin with, they are a tone's after each
+row-bytes-from : (cs : List Call) (buf : List ℕ) (used : ℕ) (t : Tone) → InARow buf used cs → readTone (take used buf) ≡ accepted t → take used buf ≡ toneOctets t
     → take (lengthLeft used cs) (bufferLeft buf cs) ≡ toneOctets (changedBy cs t)
-row-bytes [] buf used t h q e = e
-row-bytes (c ∷ cs) buf used t h q e =
+row-bytes-from [] buf used t h q e = e
+row-bytes-from (c ∷ cs) buf used t h q e =
     let ed = c .edit in
     let k = c .pattern in
     let i = c .instruction in
-    row-bytes cs (c .buffer) (newLength (c .answer)) (changed ed k i t) (h .2) (edit-result-reads buf used ed k i (c .lent) (c .buffer) (c .list) (c .answer) (h .0) (h .1) t q)
+    row-bytes-from cs (c .buffer) (newLength (c .answer)) (changed ed k i t) (h .2) (edit-result-reads buf used ed k i (c .lent) (c .buffer) (c .list) (c .answer) (h .0) (h .1) t q)
     (edit-bytes buf used ed k i (c .lent) (c .buffer) (c .list) (c .answer) (h .0) (h .1) t q)
 
--- so the list of a last edit is what listing the message in the buffer gives, however many went before it
-pub row-list : (cs : List Call) (buf : List ℕ) (used : ℕ) (t : Tone) → InARow buf used cs → readTone (take used buf) ≡ accepted t
-    → (c : Call) → EditPromise (bufferLeft buf cs) (lengthLeft used cs) (c .edit) (c .pattern) (c .instruction) (c .lent) (c .buffer) (c .list) (c .answer) → Accepting (c .answer)
-    → listTone (take (newLength (c .answer)) (c .buffer)) (fitsNumbers (length (c .lent))) ≡ accepted (playingList (changed (c .edit) (c .pattern) (c .instruction) (changedBy cs t)))
-row-list cs buf used t h q c p a =
-    edit-listing (bufferLeft buf cs) (lengthLeft used cs) (c .edit) (c .pattern) (c .instruction) (c .lent) (c .buffer) (c .list) (c .answer) p a (changedBy cs t) (row-reads cs buf used t h q)
+-- and its bytes are those that writing this tone afresh gives; the buffer holds octets, as every slice of them does
+pub row-bytes : (cs : List Call) (buf : List ℕ) (used : ℕ) (t : Tone) → InARow buf used cs → readTone (take used buf) ≡ accepted t → Octets buf
+    → take (lengthLeft used cs) (bufferLeft buf cs) ≡ toneOctets (changedBy cs t)
+row-bytes cs buf used t h q o = row-bytes-from cs buf used t h q (sym (accepted-is-written (take used buf) t (octets-take used buf o) q .1))
+
+-- the list that the last of them filled is that of the tone changed by each in turn, entry by entry, and it is what listing the message in the buffer gives
+pub row-list : (cs : List Call) (c : Call) (buf : List ℕ) (used : ℕ) (t : Tone) → InARow buf used (cs ++ (c ∷ [])) → readTone (take used buf) ≡ accepted t
+    → ListIs (changedBy (cs ++ (c ∷ [])) t) (take (newLength (c .answer)) (c .buffer)) (c .lent) (c .list) (c .answer)
+row-list [] c buf used t h q = edit-list-is buf used (c .edit) (c .pattern) (c .instruction) (c .lent) (c .buffer) (c .list) (c .answer) (h .0) (h .1) t q
+row-list (b ∷ cs) c buf used t h q =
+    row-list cs c (b .buffer) (newLength (b .answer)) (changed (b .edit) (b .pattern) (b .instruction) t) (h .2)
+    (edit-result-reads buf used (b .edit) (b .pattern) (b .instruction) (b .lent) (b .buffer) (b .list) (b .answer) (h .0) (h .1) t q)

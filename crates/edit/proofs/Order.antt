@@ -1,19 +1,21 @@
--- Where two grounds against an edit meet, which of them is given.
-use Prim.Native.Nat.{ℕ, _≤_, _<_}
-use mathlib.Core.Path.{_≡_, refl}
+-- Where two grounds against an edit meet, which of them is given: the used length, the message, 6, 12, 13, 14, 1, 11 for the buffer, 11 for the list.
+use Prim.Native.Nat.{ℕ, _*_, _≤_, _<_}
+use mathlib.Core.Path.{_≡_, refl, sym, subst}
 use mathlib.Core.Bool.{true, false}
 use mathlib.Core.List.{List}
 use lib.ListN.{length, take}
 use borrow.Author.Tests.{le-leb, lt-leb}
-use Rattle.bits.specs.Outcome.{refused}
-use Rattle.tone.specs.Tone.{Tone}
+use Rattle.bits.specs.Outcome.{accepted, refused}
+use Rattle.tone.specs.Tone.{Tone, Formed}
 use Rattle.tone.specs.Writing.{toneLength, mostOctets}
 use Rattle.tone.specs.Reading.{readTone}
+use Rattle.tone.proofs.Demand2.{read-formed}
+use Rattle.list_rules.specs.Playing.{playingList}
+use Rattle.list_rules.proofs.Bounds.{none-too-long}
 use Rattle.edit_change.specs.declared.Edit.{Edit}
 use Rattle.edit_change.specs.Change.{carriesNew, isThere, empties, overfills}
 use Rattle.edit.specs.Editing.{bodyLength, editTone, inBuffer, editMessage}
-
--- ---- the message
+use Rattle.edit.proofs.Demand3.{edit-grounds, edit-formed}
 
 module _ (buf : List ℕ) (used : ℕ) (ed : Edit) (k i cells : ℕ) where
   -- 1 at 0 for a used length beyond the buffer, whatever stands in it
@@ -21,37 +23,63 @@ module _ (buf : List ℕ) (used : ℕ) (ed : Edit) (k i cells : ℕ) where
   unfolding editMessage
   used-first h = rw (lt-leb used (length buf) h) refl
 
-  -- the message's own refusal with its place, whatever the edit is
-  pub message-second : {n p : ℕ} → used ≤ length buf → readTone (take used buf) ≡ refused n p → editMessage buf used ed k i cells ≡ refused n p
-  unfolding editMessage
-  message-second h q = rw (le-leb used (length buf) h, q) refl
+  module _ (h : used ≤ length buf) where
+    -- the message's own refusal with its place, whatever the edit is
+    pub message-second : {n p : ℕ} → readTone (take used buf) ≡ refused n p → editMessage buf used ed k i cells ≡ refused n p
+    unfolding editMessage
+    message-second q = rw (le-leb used (length buf) h, q) refl
 
--- ---- the edit
+    module _ {t : Tone} (q : readTone (take used buf) ≡ accepted t) where
+      -- the edit's own ground, whatever the grown message, the buffer and the list are
+      pub ground-third : {n p : ℕ} → editTone ed k i t ≡ refused n p → editMessage buf used ed k i cells ≡ refused n p
+      unfolding editMessage
+      ground-third g = rw (le-leb used (length buf) h, q, g) refl
 
-module _ (ed : Edit) (k i : ℕ) (t : Tone) where
-  -- 6 whatever position is named
-  pub new-first : carriesNew ed ≡ false → editTone ed k i t ≡ refused 6 0
-  new-first c = rw c refl
+      -- that is 6, whatever position is named
+      pub new-first : carriesNew ed ≡ false → editMessage buf used ed k i cells ≡ refused 6 0
+      new-first c = ground-third (rw c refl)
 
-  module _ (c : carriesNew ed ≡ true) where
-    -- 12 whatever the part's length is
-    pub place-second : isThere ed k i (t .patterns) ≡ false → editTone ed k i t ≡ refused 12 0
-    place-second h = rw (c, h) refl
+      module _ (c : carriesNew ed ≡ true) where
+        -- then 12, whatever the part's length is
+        pub place-second : isThere ed k i (t .patterns) ≡ false → editMessage buf used ed k i cells ≡ refused 12 0
+        place-second s = ground-third (rw (c, s) refl)
 
-    -- 13 and 14 for a position that is there
-    module _ (h : isThere ed k i (t .patterns) ≡ true) where
-      pub only-third : empties ed (bodyLength k t) ≡ true → editTone ed k i t ≡ refused 13 0
-      only-third e = rw (c, h, e) refl
+        -- then 13 and 14, for a position that is there
+        module _ (s : isThere ed k i (t .patterns) ≡ true) where
+          pub only-third : empties ed (bodyLength k t) ≡ true → editMessage buf used ed k i cells ≡ refused 13 0
+          only-third e = ground-third (rw (c, s, e) refl)
 
-      pub full-fourth : empties ed (bodyLength k t) ≡ false → overfills ed (bodyLength k t) ≡ true → editTone ed k i t ≡ refused 14 0
-      full-fourth e f = rw (c, h, e, f) refl
+          pub full-fourth : empties ed (bodyLength k t) ≡ false → overfills ed (bodyLength k t) ≡ true → editMessage buf used ed k i cells ≡ refused 14 0
+          full-fourth e f = ground-third (rw (c, s, e, f) refl)
 
--- ---- the room
+      module _ {t′ : Tone} (a : editTone ed k i t ≡ accepted t′) where
+        -- the ground for the grown message and the buffer, whatever the list is
+        pub list-last : {n p : ℕ} → inBuffer (length buf) t′ ≡ refused n p → editMessage buf used ed k i cells ≡ refused n p
+        unfolding editMessage
+        list-last g = rw (le-leb used (length buf) h, q, a, g) refl
 
--- 1 whatever the buffer's room is
-pub bound-fifth : (room : ℕ) (t : Tone) → mostOctets < toneLength t → inBuffer room t ≡ refused 1 0
-bound-fifth room t h = rw (lt-leb (toneLength t) mostOctets h) refl
+        -- that is 1, whatever the buffer's room is
+        pub bound-fifth : mostOctets < toneLength t′ → editMessage buf used ed k i cells ≡ refused 1 0
+        bound-fifth l = list-last (rw (lt-leb (toneLength t′) mostOctets l) refl)
 
--- 11 for the buffer
-pub room-sixth : (room : ℕ) (t : Tone) → toneLength t ≤ mostOctets → room < toneLength t → inBuffer room t ≡ refused 11 0
-room-sixth room t h k = rw (le-leb (toneLength t) mostOctets h, lt-leb (toneLength t) room k) refl
+        module _ (l : toneLength t′ ≤ mostOctets) where
+          -- then 11 for the buffer
+          pub room-sixth : length buf < toneLength t′ → editMessage buf used ed k i cells ≡ refused 11 0
+          room-sixth r = list-last (rw (le-leb (toneLength t′) mostOctets l, lt-leb (toneLength t′) (length buf) r) refl)
+
+          -- and 11 for the list, where nothing else is in the way
+          pub list-room : toneLength t′ ≤ length buf → cells < 2 * length (playingList t′ .entries) → editMessage buf used ed k i cells ≡ refused 11 0
+          unfolding editMessage
+          list-room r s =
+              let g = edit-grounds ed k i t t′ a in
+              let f : Formed t′ = subst Formed (sym (g .1)) (edit-formed ed k i t (read-formed (take used buf) t q .0) (g .0)) in
+              rw (
+                le-leb used (length buf) h,
+                q,
+                a,
+                le-leb (toneLength t′) mostOctets l,
+                le-leb (toneLength t′) (length buf) r,
+                none-too-long t′ f,
+                lt-leb (2 * length (playingList t′ .entries)) cells s,
+              )
+              refl

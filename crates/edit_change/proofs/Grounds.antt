@@ -9,7 +9,7 @@ use lib.Dec.{leb, ltb}
 use borrow.Author.Tests.{lt-leb, le-leb, leb-true, eq-eqb, ne-eqb}
 use Rattle.bits.specs.Choice.{pick}
 use Rattle.tone.specs.Tone.{Pattern}
-use Rattle.tone.proofs.Rows.{and-true}
+use Rattle.tone.proofs.Rows.{and-true, and-false}
 use Rattle.edit_change.specs.declared.Edit.{Edit}
 use Rattle.edit_change.specs.declared.Edit.the-variants.{Replace, Insert, Delete}
 use Rattle.edit_change.specs.Change.{patternAt, inBody, isThere, empties, overfills}
@@ -74,8 +74,4 @@ no-ground ed i n h e =
 
 -- a recall has no instruction of its own: no position is there, not even 0 for an insert
 pub recall-has-none : (ed : Edit) (k i : ℕ) (ps : List Pattern) → patternAt ps k .body ≡ [] → isThere ed k i ps ≡ false
-recall-has-none ed k i ps e = rw e (go (ltb k (length ps)))
-  where
-    go : (b : Bool) → (b && false) ≡ false
-    go true = refl
-    go false = refl
+recall-has-none ed k i ps e = rw (e, and-false (ltb k (length ps))) refl

@@ -101,7 +101,8 @@ pub record Agree (r : Entry) (l : List ℕ) (i : ℕ) : Type 0 where
   pub second : r .microseconds ≡ getD l (2 * i + 1) 0
   pub bounded : Bounded r
 
-agree-at : (es : List Entry) (rest : List ℕ) → AllBounded es → (i : ℕ) (d : Entry) → i < length es → Agree (getD es i d) (numbers es ++ rest) i
+-- each entry of a list agrees with its two numbers, whatever follows them
+pub agree-at : (es : List Entry) (rest : List ℕ) → AllBounded es → (i : ℕ) (d : Entry) → i < length es → Agree (getD es i d) (numbers es ++ rest) i
 agree-at [] rest b i d h = let z : ⊥ = omega arith in absurd z
 agree-at (r ∷ es) rest b zero d h = record { first = refl; second = refl; bounded = b .0 }
 agree-at (r ∷ es) rest b (suc i) d h =

@@ -7,5 +7,6 @@ pub mod Counts
 pub mod Marks
 pub mod Bounds
 pub mod Grounds
+pub mod Order
 pub mod Packing
 pub mod Settling

@@ -1,5 +1,5 @@
 -- Demand 2 of the rules: a message is accepted exactly if it is the writing of a well-formed tone.
-use Prim.Native.Nat.{ℕ, _+_, _-_, _*_, _≤_, _<_}
+use Prim.Native.Nat.{ℕ, _+_, _*_, _≤_, _<_}
 use native.Mathlib.Omega.{arith}
 use native.Mathlib.Nat.{zero-add}
 use mathlib.Core.Path.{_≡_, refl, sym, ap, subst, _∙_}
@@ -124,13 +124,16 @@ read-well-formed m t q =
 pub accepted-is-written : (m : List ℕ) (t : Tone) → Octets m → readTone m ≡ accepted t → WellFormed t × (toneOctets t ≡ m)
 accepted-is-written m t o q = (read-well-formed m t q, octets-are m t o (read-formed m t q .1))
 
+-- a message whose bits are those of a tone is accepted as that tone
+pub bits-accepted : (m : List ℕ) (t : Tone) → Formed t → length m ≤ mostOctets → bitsOf m ≡ toneBits t → readTone m ≡ accepted t
+unfolding readTone
+bits-accepted m t f h e =
+    let n : 8 * toneLength t ≡ 8 * length m = sym (sym (length-bitsOf m) ∙ ap length e ∙ length-toneBits t) in
+    rw (le-ltb mostOctets (length m) h, core-alone m t [] f (e ∙ sym (append-nil (toneBits t))), eq-eqb (8 * toneLength t) (8 * length m) n)
+
 -- the writing of a well-formed tone is accepted, as that tone
 pub written-is-accepted : (t : Tone) → WellFormed t → readTone (toneOctets t) ≡ accepted t
-unfolding readTone
-written-is-accepted t w =
-    let n = length-toneOctets t in
-    let c : wholeTone (bitsOf (toneOctets t)) 0 ≡ got t (8 * toneLength t) = core-alone (toneOctets t) t [] (w .formed) (bits-toneOctets t ∙ sym (append-nil (toneBits t))) in
-    rw (n, le-ltb mostOctets (toneLength t) (w .size), c, eq-eqb (8 * toneLength t) (8 * toneLength t) refl)
+written-is-accepted t w = bits-accepted (toneOctets t) t (w .formed) (rw (length-toneOctets t) (w .size)) (bits-toneOctets t)
 
 -- a message is accepted as t exactly if t is well formed and the message is its writing
 pub accepted-exactly : (m : List ℕ) (t : Tone) → Octets m → (readTone m ≡ accepted t) ↔ (WellFormed t × (toneOctets t ≡ m))

@@ -1,9 +1,9 @@
 pub mod Exact
 pub mod Fronts
 pub mod Rows
+pub mod Grounds
 pub mod Demand2
 pub mod Refusals
-pub mod Grounds
 pub mod Tables
 pub mod Instructions
 pub mod Recalls

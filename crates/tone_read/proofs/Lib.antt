@@ -1,3 +1,4 @@
 pub mod Filling
 pub mod Told
 pub mod Unique
+pub mod Order

@@ -10,59 +10,67 @@ use Rattle.tone.specs.Table.{kind}
 use Rattle.tone.specs.Tone.{recallable}
 use Rattle.tone_table.specs.Weighing.{andThen, Stage, start, entryFine, entryJudged, entriesJudged, endJudged, judgeTable}
 
--- ---- an entry
-
-module _ (s : Stage) (e : ℕ) where
-  -- 6 whatever is due
-  pub code-first : entryFine e ≡ false → entryJudged s e ≡ refused 6 0
-  unfolding entryJudged
-  code-first f = rw f refl
-
-  -- 18 for an instruction where a header is due, whatever it would recall as a header
-  pub header-due : entryFine e ≡ true → s .due ≡ 0 → (kind e ≡ 0 → ⊥) → entryJudged s e ≡ refused 18 0
-  unfolding entryJudged
-  header-due f d k = rw (f, d, ne-eqb (kind e) 0 k) refl
-
-  -- 18 for a header where an instruction is due, a recall of nothing too
-  pub instruction-due : entryFine e ≡ true → (s .due ≡ 0 → ⊥) → kind e ≡ 0 → entryJudged s e ≡ refused 18 0
-  unfolding entryJudged
-  instruction-due f d k = rw (f, ne-eqb (s .due) 0 d, k) refl
-
-  -- 7 last
-  pub recall-last : entryFine e ≡ true → s .due ≡ 0 → kind e ≡ 0 → recallable (s .known) e ≡ false → entryJudged s e ≡ refused 7 0
-  unfolding entryJudged
-  recall-last f d k r = rw (f, d, k, r) refl
-
--- ---- the table
+-- what follows is judged from where the entries ahead of it led
+in-turn : (s : Stage) (t more : List ℕ) → entriesJudged s (t ++ more) ≡ andThen (entriesJudged s t) (λ s′. entriesJudged s′ more)
+unfolding entriesJudged
+in-turn s [] more = refl
+in-turn s (x ∷ t) more = go (entryJudged s x) (λ s′. in-turn s′ t more)
+  where
+    go : (o : Outcome Stage) → ((s′ : Stage) → entriesJudged s′ (t ++ more) ≡ andThen (entriesJudged s′ t) (λ s′. entriesJudged s′ more))
+        → andThen o (λ s′. entriesJudged s′ (t ++ more)) ≡ andThen (andThen o (λ s′. entriesJudged s′ t)) (λ s′. entriesJudged s′ more)
+    go (accepted s′) again = again s′
+    go (refused n p) again = refl
 
 -- the ground against an earlier entry, whatever follows
-pub earlier-first : (s : Stage) (t more : List ℕ) {n p : ℕ} → entriesJudged s t ≡ refused n p → entriesJudged s (t ++ more) ≡ refused n p
-unfolding entriesJudged
-earlier-first s [] more e = let z : _≡_ {A = ℕ} 0 1 = cc in absurd (omega arith)
-earlier-first s (x ∷ t) more {n} {p} e = go (entryJudged s x) e (λ s′. earlier-first s′ t more)
-  where
-    go : (o : Outcome Stage) → andThen o (λ s′. entriesJudged s′ t) ≡ refused n p → ((s′ : Stage) → entriesJudged s′ t ≡ refused n p → entriesJudged s′ (t ++ more) ≡ refused n p)
-        → andThen o (λ s′. entriesJudged s′ (t ++ more)) ≡ refused n p
-    go (accepted s′) q again = again s′ q
-    go (refused k l) q again = q
-
--- the ground against an entry, whatever is wrong behind the last: a cut body too
-pub entries-first : (t : List ℕ) {n p : ℕ} → entriesJudged start t ≡ refused n p → judgeTable t ≡ refused n p
+pub earlier-first : (t more : List ℕ) {n p : ℕ} → entriesJudged start t ≡ refused n p → judgeTable (t ++ more) ≡ refused n p
 unfolding judgeTable
-entries-first t e = rw e refl
+earlier-first t more e = rw (in-turn start t more, e) refl
 
-module _ (s : Stage) where
+-- behind entries that led to s
+module _ (t : List ℕ) {s : Stage} (a : entriesJudged start t ≡ accepted s) where
+  -- ---- one more entry, and what follows it
+
+  module _ (e : ℕ) (more : List ℕ) where
+    -- the ground against it, whatever follows
+    pub entry-first : {n p : ℕ} → entryJudged s e ≡ refused n p → judgeTable (t ++ (e ∷ more)) ≡ refused n p
+    unfolding judgeTable entriesJudged
+    entry-first j = rw (in-turn start t (e ∷ more), a, j) refl
+
+    -- that is 6, whatever is due
+    pub code-first : entryFine e ≡ false → judgeTable (t ++ (e ∷ more)) ≡ refused 6 0
+    unfolding entryJudged
+    code-first f = entry-first (rw f refl)
+
+    module _ (f : entryFine e ≡ true) where
+      -- then 18 for an instruction where a header is due, whatever it would recall as a header
+      pub header-due : s .due ≡ 0 → (kind e ≡ 0 → ⊥) → judgeTable (t ++ (e ∷ more)) ≡ refused 18 0
+      unfolding entryJudged
+      header-due d k = entry-first (rw (f, d, ne-eqb (kind e) 0 k) refl)
+
+      -- and 18 for a header where an instruction is due, a recall of nothing too
+      pub instruction-due : (s .due ≡ 0 → ⊥) → kind e ≡ 0 → judgeTable (t ++ (e ∷ more)) ≡ refused 18 0
+      unfolding entryJudged
+      instruction-due d k = entry-first (rw (f, ne-eqb (s .due) 0 d, k) refl)
+
+      -- 7 last
+      pub recall-last : s .due ≡ 0 → kind e ≡ 0 → recallable (s .known) e ≡ false → judgeTable (t ++ (e ∷ more)) ≡ refused 7 0
+      unfolding entryJudged
+      recall-last d k r = entry-first (rw (f, d, k, r) refl)
+
+  -- ---- no more
+
   -- a cut body, however many patterns were begun
-  pub cut-first : (s .due ≡ 0 → ⊥) → endJudged s ≡ refused 18 0
-  unfolding endJudged
-  cut-first d = rw (ne-eqb (s .due) 0 d) refl
+  pub cut-first : (s .due ≡ 0 → ⊥) → judgeTable t ≡ refused 18 0
+  unfolding judgeTable endJudged
+  cut-first d = rw (a, ne-eqb (s .due) 0 d) refl
 
-  -- then no pattern
-  pub none-second : s .due ≡ 0 → s .begun ≡ 0 → endJudged s ≡ refused 5 0
-  unfolding endJudged
-  none-second d b = rw (d, b) refl
+  module _ (d : s .due ≡ 0) where
+    -- then no pattern
+    pub none-second : s .begun ≡ 0 → judgeTable t ≡ refused 5 0
+    unfolding judgeTable endJudged
+    none-second b = rw (a, d, b) refl
 
-  -- then too many
-  pub many-third : s .due ≡ 0 → 255 < s .begun → endJudged s ≡ refused 18 0
-  unfolding endJudged
-  many-third d b = rw (d, le-leb 1 (s .begun) (omega arith), lt-leb (s .begun) 255 b) refl
+    -- then too many
+    pub many-third : 255 < s .begun → judgeTable t ≡ refused 18 0
+    unfolding judgeTable endJudged
+    many-third b = rw (a, d, le-leb 1 (s .begun) (omega arith), lt-leb (s .begun) 255 b) refl

@@ -8,7 +8,7 @@ use mathlib.Core.List.{List}
 use lib.ListN.{length, take, drop}
 use lib.Seq.{take-at}
 use lib.Dec.{leb}
-use borrow.Author.Tests.{le-leb, leb-true}
+use borrow.Author.Tests.{leb-true}
 use Rattle.bits.specs.Choice.{pick}
 use Rattle.bits.specs.Bits.{Octets}
 use Rattle.bits.specs.Lent.{over}
@@ -24,6 +24,7 @@ use Rattle.tone_elements.specs.Answers.{octetCount, entries}
 use Rattle.tone_read.specs.declared.Reading.{Reading}
 use Rattle.tone_read.specs.declared.Reading.the-variants.{Read}
 use Rattle.tone_read.specs.Promise.{roomed, readInto, readAnswer, ReadPromise}
+use Rattle.tone_read.proofs.Order.{room-enough}
 use Rattle.tone_table.proofs.Walks.{not-refused}
 use Rattle.tone_write.specs.declared.Writing.{Writing}
 use Rattle.tone_write.specs.declared.Writing.the-variants.{Written}
@@ -48,9 +49,7 @@ pub record ReadAs (t : Tone) (table title table′ title′ : List ℕ) (r : Rea
 
 module _ (m table title : List ℕ) where
   readable-accepted : (t : Tone) → Readable m table title t → readInto m (length title) (length table) ≡ accepted t
-  readable-accepted t h =
-      let e : readTone m ≡ accepted t = rw (← h .writing) (written-is-accepted t (h .wellFormed)) in
-      rw (e, le-leb (length (t .title)) (length title) (h .titleRoom), le-leb (entries (t .patterns)) (length table) (h .tableRoom))
+  readable-accepted t h = room-enough m (length title) (length table) (rw (← h .writing) (written-is-accepted t (h .wellFormed))) (h .titleRoom) (h .tableRoom)
 
   accepted-readable : (t : Tone) → Octets m → readInto m (length title) (length table) ≡ accepted t → Readable m table title t
   accepted-readable t o q = go (readTone m) refl q

@@ -4,11 +4,10 @@ use mathlib.Core.Path.{_≡_, refl}
 use mathlib.Core.Bool.{Bool, true, false}
 use mathlib.Core.List.{List}
 use borrow.Author.Tests.{le-leb, lt-leb}
-use Rattle.bits.specs.Outcome.{refused}
-use Rattle.tone.specs.Tone.{Tone}
+use Rattle.bits.specs.Outcome.{accepted, refused}
 use Rattle.tone.specs.Writing.{toneLength, mostOctets}
 use Rattle.tone_table.specs.Weighing.{judgeTable}
-use Rattle.tone_write.specs.Judging.{songFine, titleFine, sized, writeTone}
+use Rattle.tone_write.specs.Judging.{songFine, titleFine, sized, toneOf, writeTone}
 
 module _ (song : ℕ) (unicode : Bool) (title table : List ℕ) (room : ℕ) where
   -- 4 whatever the title, the table and the room are
@@ -26,12 +25,13 @@ module _ (song : ℕ) (unicode : Bool) (title table : List ℕ) (room : ℕ) whe
   unfolding writeTone
   table-third s t j = rw (s, t, j) refl
 
--- 1 whatever the room is
-pub bound-first : (room : ℕ) (t : Tone) → mostOctets < toneLength t → sized room t ≡ refused 1 0
-unfolding sized
-bound-first room t h = rw (lt-leb (toneLength t) mostOctets h) refl
+  module _ {c : ℕ} (s : songFine song ≡ true) (t : titleFine song unicode title ≡ true) (j : judgeTable table ≡ accepted c) where
+    -- 1 whatever the room is
+    pub bound-fourth : mostOctets < toneLength (toneOf song unicode title table) → writeTone song unicode title table room ≡ refused 1 0
+    unfolding writeTone sized
+    bound-fourth h = rw (s, t, j, lt-leb (toneLength (toneOf song unicode title table)) mostOctets h) refl
 
--- 11 last
-pub room-last : (room : ℕ) (t : Tone) → toneLength t ≤ mostOctets → room < toneLength t → sized room t ≡ refused 11 0
-unfolding sized
-room-last room t h k = rw (le-leb (toneLength t) mostOctets h, lt-leb (toneLength t) room k) refl
+    -- 11 last
+    pub room-last : toneLength (toneOf song unicode title table) ≤ mostOctets → room < toneLength (toneOf song unicode title table) → writeTone song unicode title table room ≡ refused 11 0
+    unfolding writeTone sized
+    room-last h k = rw (s, t, j, le-leb (toneLength (toneOf song unicode title table)) mostOctets h, lt-leb (toneLength (toneOf song unicode title table)) room k) refl

@@ -16,7 +16,7 @@ use Rattle.bits.specs.declared.OctetCount.{OctetCount}
 use Rattle.bits.specs.Outcome.{Outcome, accepted, refused}
 use Rattle.tone.specs.Tone.{Tone, frontOf, cells, patternsOf, perCharacter, characters}
 use Rattle.tone.specs.Writing.{tableBits, frontBits, songBits, toneLength, toneOctets, mostOctets}
-use Rattle.tone.proofs.Rows.{and-true as conj}
+use Rattle.tone.proofs.Rows.{and-true as conj, and-false}
 use Rattle.tone.proofs.Fronts.{song-fine}
 use Rattle.tone_elements.specs.Answers.{place, octetCount}
 use Rattle.tone_table.specs.declared.Judged.{Judged}
@@ -34,10 +34,6 @@ use Rattle.tone_write.proofs.Pieces.{plus-ten}
 use Rattle.tone_write.proofs.Filling.{front-length}
 
 -- ---- the title
-
-and-false : (a : Bool) → (a && false) ≡ false
-and-false true = refl
-and-false false = refl
 
 and-true : (a : Bool) → (a && true) ≡ a
 and-true true = refl

@@ -1,0 +1,52 @@
+-- Where two grounds against a list meet, which of them is given: those of reading, then 11.
+use Prim.Native.Nat.{ℕ, _*_, _≤_, _<_}
+use mathlib.Core.Path.{_≡_, refl}
+use mathlib.Core.Bool.{Bool, true, false}
+use mathlib.Core.List.{List}
+use lib.ListN.{length}
+use lib.Dec.{leb}
+use borrow.Author.Tests.{le-leb, lt-leb}
+use Rattle.bits.specs.Outcome.{accepted, refused}
+use Rattle.tone.specs.Tone.{Tone}
+use Rattle.tone.specs.Reading.{readTone}
+use Rattle.tone.proofs.Rows.{and-false}
+use Rattle.tone.proofs.Demand2.{read-formed}
+use Rattle.list_rules.specs.Playing.{Listing, playingList}
+use Rattle.list_rules.specs.Listing.{fitsNumbers, fitsBoth, listTone}
+use Rattle.list_rules.proofs.Bounds.{none-too-long}
+
+module _ (m : List ℕ) where
+  -- the message's own refusal with its place, whatever is lent
+  pub message-first : (fits : Listing → Bool) {n p : ℕ} → readTone m ≡ refused n p → listTone m fits ≡ refused n p
+  unfolding listTone
+  message-first fits q = rw q refl
+
+  module _ {t : Tone} (q : readTone m ≡ accepted t) where
+    -- then 11 where the list does not fit
+    pub room-last : (fits : Listing → Bool) → fits (playingList t) ≡ false → listTone m fits ≡ refused 11 0
+    unfolding listTone
+    room-last fits h = rw (q, none-too-long t (read-formed m t q .0), h) refl
+
+    -- else it is made
+    pub list-made : (fits : Listing → Bool) → fits (playingList t) ≡ true → listTone m fits ≡ accepted (playingList t)
+    unfolding listTone
+    list-made fits h = rw (q, none-too-long t (read-formed m t q .0), h) refl
+
+    -- the list in two numbers an entry
+    module _ (cells : ℕ) where
+      pub cells-short : cells < 2 * length (playingList t .entries) → listTone m (fitsNumbers cells) ≡ refused 11 0
+      cells-short h = room-last (fitsNumbers cells) (lt-leb (2 * length (playingList t .entries)) cells h)
+
+      pub cells-enough : 2 * length (playingList t .entries) ≤ cells → listTone m (fitsNumbers cells) ≡ accepted (playingList t)
+      cells-enough h = list-made (fitsNumbers cells) (le-leb (2 * length (playingList t .entries)) cells h)
+
+    -- both forms: 11 where either is too small
+    module _ (cells rows : ℕ) where
+      pub first-short : cells < 2 * length (playingList t .entries) → listTone m (fitsBoth cells rows) ≡ refused 11 0
+      first-short h = room-last (fitsBoth cells rows) (rw (lt-leb (2 * length (playingList t .entries)) cells h) refl)
+
+      pub rows-short : rows < length (playingList t .entries) → listTone m (fitsBoth cells rows) ≡ refused 11 0
+      rows-short h = room-last (fitsBoth cells rows) (rw (lt-leb (length (playingList t .entries)) rows h) (and-false (leb (2 * length (playingList t .entries)) cells)))
+
+      pub both-enough : 2 * length (playingList t .entries) ≤ cells → length (playingList t .entries) ≤ rows → listTone m (fitsBoth cells rows) ≡ accepted (playingList t)
+      both-enough h g = list-made (fitsBoth cells rows) (rw (le-leb (2 * length (playingList t .entries)) cells h, le-leb (length (playingList t .entries)) rows g) refl)
