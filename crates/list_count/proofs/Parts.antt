@@ -9,14 +9,9 @@ use lib.Seq.{getD-set-same, set-getD}
 use lib.Dec.{eqb}
 use Rattle.bits.specs.Choice.{pick}
 use Rattle.tone.specs.Tone.{specifier, partOf, pattern, recallable}
-use Rattle.tone_elements.specs.Answers.{notes}
-use Rattle.list_count.specs.declared.Part.{Part}
-use Rattle.list_count.specs.declared.Part.the-variants.{Unknown, Known}
-use Rattle.list_count.specs.Bodies.{Remembered, unknown, known, recalled, remember}
+use Rattle.list_count.specs.Bodies.{Remembered, unknown, known, remember}
 use Rattle.list_count.specs.Parts.{soundingPart}
 use Rattle.list_count.proofs.Bodies.{isKnown, knownOf}
-
--- ---- parts of any form
 
 -- each part stands for the body of its place
 abbrev pub AllFor : {P : Type 0} → (P → Remembered → Type 0) → List P → List Remembered → Type 0
@@ -32,7 +27,7 @@ module _ {P : Type 0} (For : P → Remembered → Type 0) where
   parts-length (p ∷ ps) [] h = absurd h
   parts-length (p ∷ ps) (r ∷ rs) h = ap suc (parts-length ps rs (h .1))
 
-  part-at : (none : P) (ps : List P) (rs : List Remembered) → AllFor For ps rs → (i : ℕ) → i < length ps → For (getD ps i none) (getD rs i unknown)
+  pub part-at : (none : P) (ps : List P) (rs : List Remembered) → AllFor For ps rs → (i : ℕ) → i < length ps → For (getD ps i none) (getD rs i unknown)
   part-at none [] rs h i k = absurd (omega arith)
   part-at none (p ∷ ps) [] h i k = absurd h
   part-at none (p ∷ ps) (r ∷ rs) h zero k = h .0
@@ -74,22 +69,3 @@ known-sounding bodies h b four size = rw (← size) (go (eqb (length b) 0))
     go : (t : Bool) → isKnown (getD (pick t bodies (set bodies (partOf h) (known b))) (partOf h) unknown) ≡ pick t (getD (knownOf bodies) (partOf h) false) true
     go true = sym (List·getD-map isKnown bodies (partOf h) unknown)
     go false = ap isKnown (getD-set-same bodies (partOf h) (known b) unknown (omega arith))
-
--- ---- parts that are counted
-
--- a body, as it is counted
-abbrev pub notedPart : Remembered → Part
-notedPart unknown = Unknown
-notedPart (known b) = Known (notes b)
-
--- a part has the notes of its body
-abbrev pub Noted : Part → Remembered → Type 0
-Noted p r = p ≡ notedPart r
-
-pub noted-unknown : {p : Part} (r : Remembered) → Noted p r → p ≡ Unknown → isKnown r ≡ false
-noted-unknown unknown h e = refl
-noted-unknown (known b) h e = let z : _≡_ {A = ℕ} 0 1 = cc in absurd (omega arith)
-
-pub noted-known : {p : Part} {n : ℕ} (r : Remembered) → Noted p r → p ≡ Known n → (isKnown r ≡ true) × (n ≡ notes (recalled r))
-noted-known unknown h e = let z : _≡_ {A = ℕ} 0 1 = cc in absurd (omega arith)
-noted-known (known b) h e = (refl, cc)

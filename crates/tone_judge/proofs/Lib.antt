@@ -5,3 +5,4 @@ pub mod Cuts
 pub mod Wishing
 pub mod Tallies
 pub mod Judgements
+pub mod Parts

@@ -5,7 +5,7 @@ use native.Mathlib.Nat.{add-zero, zero-add, add-assoc, le-trans}
 use mathlib.Core.Path.{_≡_, refl, sym, ap, ap₂, subst, _∙_}
 use mathlib.Core.Bool.{Bool, true, false}
 use mathlib.Core.List.{List, [], _∷_}
-use lib.ListN.{length, getD, set, replicate, length-append}
+use lib.ListN.{length, getD, replicate, length-append}
 use lib.Dec.{eqb}
 use mir.Val.{Fits}
 use mir.Syntax.{w32}
@@ -28,24 +28,24 @@ use Rattle.tone_elements.proofs.Steps.{step-there, step-good, step-bad}
 use Rattle.tone_elements.proofs.Walks.{stays}
 use Rattle.edit_change.specs.Change.{withBody}
 use Rattle.list_count.specs.declared.Count.{Count}
-use Rattle.list_count.specs.declared.Part.{Part}
-use Rattle.list_count.specs.declared.Part.the-variants.{Unknown, Known}
 use Rattle.tone_judge.specs.declared.Wish.{Wish}
 use Rattle.tone_judge.specs.declared.Cut.{Cut}
 use Rattle.tone_judge.specs.declared.Own.{Own}
 use Rattle.tone_judge.specs.declared.Total.{Total}
+use Rattle.tone_judge.specs.declared.Part.{Part}
+use Rattle.tone_judge.specs.declared.Part.the-variants.{Unknown, Known}
 use Rattle.tone_judge.specs.declared.Single.{Single}
 use Rattle.tone_judge.specs.declared.Single.the-variants.{Fine, Fault}
 use Rattle.tone_judge.specs.declared.Tally.the-variants.{Counted, Stopped}
 use Rattle.list_count.specs.Bodies.{Remembered, unknown, recalled, noBodies, passesOf, bodyOf, remember}
 use Rattle.list_count.specs.Counting.{entryCount, markOf, markFrom, noCount, counted}
-use Rattle.list_count.specs.Parts.{soundingPart}
 use Rattle.tone_elements.specs.Standing.{bodyIn, PartAt}
 use Rattle.tone_judge.specs.Wishes.{wished, leftAt, noCut, cutOf, cutIn, Owned}
 use Rattle.tone_judge.specs.Answers.{singleOf, totalTo, totalOf, tallyAs}
 use Rattle.list_count.proofs.Bodies.{isKnown, knownOf, remember-length, body-sounding, learn-read, Each, each-start, each-sounds, each-kept, Brief, none-brief, notes-most}
 use Rattle.list_count.proofs.Counts.{counted-most, Unmarked, counted-unmarked}
-use Rattle.list_count.proofs.Parts.{AllFor, parts-kept, part-sounds, known-sounding, Noted, noted-unknown, noted-known}
+use Rattle.list_count.proofs.Parts.{AllFor, parts-length, part-at, parts-kept, known-sounding}
+use Rattle.tone_judge.proofs.Parts.{Noted, noted-unknown, noted-known, Replaced, replaced, replaced-is}
 use Rattle.tone_judge.proofs.Wishing.{granted-length, behindPart, part-bits, bodyWished, wishedFrom, cutPast, cutFrom, wished-is, cut-is}
 
 -- ---- what is counted, resumed
@@ -313,7 +313,7 @@ module _ {w : Wish} {named : ℕ} {m : List ℕ} {n at : ℕ} {parts : List Part
         noted = single .noted ∙ (rw reads refl);
       }
 
-      module _ {o : Own} (u : Owned (eqb left named) w p v (bodyIn m (p + 17) (specifier v)) k o) {part : Part} (e : part ≡ soundingPart (getD parts (partOf v) Unknown) v (Known (o .notes))) where
+      module _ {o : Own} (u : Owned (eqb left named) w p v (bodyIn m (p + 17) (specifier v)) k o) {now : List Part} (e : Replaced parts v (o .notes) now) where
         wish : List ℕ
         wish = bodyWished w named left b
 
@@ -335,26 +335,23 @@ module _ {w : Wish} {named : ℕ} {m : List ℕ} {n at : ℕ} {parts : List Part
         after : List Remembered
         after = remember (y .bodies) (pattern v wish)
 
-        part-is : part ≡ soundingPart (getD parts (partOf v) Unknown) v (Known (notes wish))
-        part-is = e ∙ ap (λ (x : ℕ). soundingPart (getD parts (partOf v) Unknown) v (Known x)) (own-is .0)
-
-        noted-after : AllFor Noted (set parts (partOf v) part) after
+        noted-after : AllFor Noted now after
         unfolding after
-        noted-after = subst (λ (x : Part). AllFor Noted (set parts (partOf v) x) after) (sym part-is) (parts-kept Noted Unknown parts (y .bodies) v wish (Known (notes wish)) (y .noted) (wish-length .0) refl)
+        noted-after = subst (λ (l : List Part). AllFor Noted l after) (sym (replaced-is parts v (o .notes) e ∙ ap (replaced parts v) (own-is .0))) (parts-kept Noted Unknown parts (y .bodies) v wish (Known (notes wish)) (y .noted) (wish-length .0) refl)
 
-        sounding : Noted part (getD after (partOf v) unknown)
+        sounding : Noted (getD now (partOf v) Unknown) (getD after (partOf v) unknown)
         unfolding after
-        sounding = part-is ∙ part-sounds Noted Unknown parts (y .bodies) v wish (Known (notes wish)) (y .noted) (wish-length .0) refl (y .four)
+        sounding = part-at Noted Unknown now after noted-after (partOf v) (omega (arith, parts-length Noted now after noted-after, remember-length (y .bodies) (pattern v wish), y .four))
 
         -- what sounds is known exactly where the header may recall it
         allowed : isKnown (getD after (partOf v) unknown) ≡ recallable (knownOf (y .bodies)) v
         unfolding after
         allowed = known-sounding (y .bodies) v wish (y .four) (wish-length .0)
 
-        pub tally-unknown : part ≡ Unknown → Stopped (place (p + 3)) 7 ≡ tallyAs (totalOf w at) (patternsDue n noneKnown (bitsOf m) at)
+        pub tally-unknown : getD now (partOf v) Unknown ≡ Unknown → Stopped (place (p + 3)) 7 ≡ tallyAs (totalOf w at) (patternsDue n noneKnown (bitsOf m) at)
         tally-unknown z = stopped (single-unknown (summed w named left p k t c (y .bodies)) (left - 1) (knownOf (y .bodies)) (bitsOf m) p (single .header) (sym allowed ∙ noted-unknown (getD after (partOf v) unknown) sounding z))
 
-        module _ {heard : ℕ} (i : part ≡ Known heard) where
+        module _ {heard : ℕ} (i : getD now (partOf v) Unknown ≡ Known heard) where
           known-part : (isKnown (getD after (partOf v) unknown) ≡ true) × (heard ≡ notes (recalled (getD after (partOf v) unknown)))
           known-part = noted-known (getD after (partOf v) unknown) sounding i
 
@@ -372,7 +369,7 @@ module _ {w : Wish} {named : ℕ} {m : List ℕ} {n at : ℕ} {parts : List Part
               omega (arith, ap (λ (x : ℕ). length (entryBits x)) z, header-is .end, body-is .end)
 
           pub tally-on : {c′ : Count} → c′ ≡ counted c heard (loopOf v)
-              → TallyWalk w named m n at (set parts (partOf v) part) (f′ .0) (left - 1) (t + (1 + specifier v)) c′ (o .cut)
+              → TallyWalk w named m n at now (f′ .0) (left - 1) (t + (1 + specifier v)) c′ (o .cut)
           unfolding after wish
           tally-on {c′} j =
               let l : learn (knownOf (y .bodies)) v ≡ knownOf after = learn-read (y .bodies) v wish (wish-length .0) in

@@ -2,6 +2,8 @@
 use Rattle.tone_judge.proofs.patterns.Statement.{statement}
 use Rattle.tone_judge.proofs.patterns.Tie as tie
 use Rattle.tone_judge.proofs.Tallies.{TallyWalk, tally-counts, tally-fits, tally-notes, tallies}
+use mathlib.Core.Logic.{inl, inr, ⊎-elim}
+use Rattle.tone_judge.proofs.Parts.{beside}
 use borrow.Author.Needs.{needs}
 
 abbrev Inv-loop : tie.InvT-loop
@@ -40,35 +42,32 @@ own-part-requires c κs = search (tallies, needs)
 cast-id : tie.Need-cast-id Inv-loop μ-loop
 cast-id c = search (tallies, needs)
 
-mul-part-after : tie.Need-mul-part-after Inv-loop μ-loop
-mul-part-after c = search (tallies, needs)
-
-array-copy-out-part-after : tie.Need-array-copy-out-part-after Inv-loop μ-loop
-array-copy-out-part-after c = search (tallies, needs)
-
-part-after-requires : tie.Need-part-after-requires Inv-loop μ-loop
-part-after-requires c κs = search (tallies, needs)
-
 mul-parts : tie.Need-mul-parts Inv-loop μ-loop
 mul-parts c = search (tallies, needs)
 
 array-set-from-parts : tie.Need-array-set-from-parts Inv-loop μ-loop
 array-set-from-parts c = search (tallies, needs)
 
+mul-part : tie.Need-mul-part Inv-loop μ-loop
+mul-part c = search (tallies, needs)
+
+array-copy-out-part : tie.Need-array-copy-out-part Inv-loop μ-loop
+array-copy-out-part c = search (tallies, needs)
+
 enum-told : tie.Need-enum-told Inv-loop μ-loop
 enum-told c = search (tallies, needs)
 
-add-t34 : tie.Need-add-t34 Inv-loop μ-loop
-add-t34 c = search (tallies, needs)
+add-t36 : tie.Need-add-t36 Inv-loop μ-loop
+add-t36 c = search (tallies, needs)
 
 returns-2 : tie.Need-returns-2 Inv-loop μ-loop
-returns-2 c = search (tallies, needs)
+returns-2 c = search (tallies, ⊎-elim (λ w. inl (beside (w .0 .taken) (w .1))) (λ w. inr (beside (w .0 .left) (w .1))) (c .before .before .before .before .if1 .came), needs)
 
 enum-known-part : tie.Need-enum-known-part Inv-loop μ-loop
 enum-known-part c = search (tallies, needs)
 
 with-requires : tie.Need-with-requires Inv-loop μ-loop
-with-requires c κs = (search (tally-counts, needs), search (tally-notes, needs), search needs)
+with-requires c κs = (search (tally-counts, needs), search (tally-notes, ⊎-elim (λ w. inl (beside (w .0 .taken) (w .1))) (λ w. inr (beside (w .0 .left) (w .1))) (c .before .before .before .before .if1 .came), needs), search needs)
 
 add-table : tie.Need-add-table Inv-loop μ-loop
 add-table c = search (tallies, needs)
@@ -83,7 +82,7 @@ loop-less : tie.Need-loop-less Inv-loop μ-loop
 loop-less c = search (tallies, needs)
 
 loop-again : tie.Need-loop-again Inv-loop μ-loop
-loop-again c = search (tallies, needs)
+loop-again c = search (tallies, ⊎-elim (λ w. inl (beside (w .0 .taken) (w .1))) (λ w. inr (beside (w .0 .left) (w .1))) (c .before .before .before .before .before .before .if1 .came), needs)
 
 up-to-requires : tie.Need-up-to-requires Inv-loop μ-loop
 up-to-requires c κs = search (tallies, needs)
@@ -107,13 +106,12 @@ patterns-spec =
     enum-known-cell
     own-part-requires
     cast-id
-    mul-part-after
-    array-copy-out-part-after
-    part-after-requires
     mul-parts
     array-set-from-parts
+    mul-part
+    array-copy-out-part
     enum-told
-    add-t34
+    add-t36
     returns-2
     enum-known-part
     with-requires
