@@ -130,8 +130,7 @@ fn count(s: &[u8]) -> u32
     requires { ⌜ length (now s) ≤ 65536 ⌝ }
     ensures { λ r. ⌜ r ≡ onesOf (now (s .entry)) ⌝ }
 {
-    let eights = s.len() - s.len() % 8;
-    count_eights(s) + count_from(s, OctetCount(eights))
+    count_eights(s) + count_from(s, OctetCount(s.len() - s.len() % 8))
 }
 
 // ---- A plain bitmap: four octets of header and the image.
