@@ -76,7 +76,7 @@ pub fn judge(kind: Kind, msg: &[u8]) -> u32
 
 // ---- Where the fields stand.
 
-// So many octets behind so many.
+// The stretch of so many octets behind so many.
 fn part(start: OctetCount, length: OctetCount) -> Stretch
     ensures { λ r. ⌜ r ≡ stretch (start .0) (length .0) ⌝ }
 {
