@@ -79,11 +79,12 @@ fn count_octet(x: u8) -> u32
     u8::count_ones(x)
 }
 
-// The ones of the eight octets at `i`, counted as one number. With the first octet lowest it is one load.
-fn count_eight(s: &[u8], i: usize) -> u32
-    requires { ⌜ i + 8 ≤ length (now s) ⌝ }
-    ensures { λ r. ⌜ (r ≡ onesOf (take 8 (drop i (now (s .entry))))) × (r ≤ 64) ⌝ }
+// The ones of the eight octets behind so many, counted as one number. With the first octet lowest it is one load.
+fn count_eight(s: &[u8], at: OctetCount) -> u32
+    requires { ⌜ at .0 + 8 ≤ length (now s) ⌝ }
+    ensures { λ r. ⌜ (r ≡ onesOf (take 8 (drop (at .0) (now (s .entry))))) × (r ≤ 64) ⌝ }
 {
+    let i = at.0;
     u64::count_ones(
         wide(s[i])
             + wide(s[i + 1]) * 256
@@ -104,19 +105,19 @@ fn count_eights(s: &[u8]) -> u32
     let mut n: u32 = 0;
     let mut i = 0;
     while 8 <= s.len() - i {
-        n += count_eight(s, i);
+        n += count_eight(s, OctetCount(i));
         i += 8;
     }
     n
 }
 
-// The ones of the octets from a place on, one octet a turn.
-fn count_from(s: &[u8], from: usize) -> u32
-    requires { ⌜ (from ≤ length (now s)) × (length (now s) ≤ 65536) ⌝ }
-    ensures { λ r. ⌜ (r ≡ onesOf (drop from (now (s .entry)))) × (r ≤ 524288) ⌝ }
+// The ones of the octets behind so many, one octet a turn.
+fn count_from(s: &[u8], from: OctetCount) -> u32
+    requires { ⌜ (from .0 ≤ length (now s)) × (length (now s) ≤ 65536) ⌝ }
+    ensures { λ r. ⌜ (r ≡ onesOf (drop (from .0) (now (s .entry)))) × (r ≤ 524288) ⌝ }
 {
     let mut n: u32 = 0;
-    let mut i = from;
+    let mut i = from.0;
     while i < s.len() {
         n += count_octet(s[i]);
         i += 1;
@@ -129,7 +130,7 @@ fn count(s: &[u8]) -> u32
     requires { ⌜ length (now s) ≤ 65536 ⌝ }
     ensures { λ r. ⌜ r ≡ onesOf (now (s .entry)) ⌝ }
 {
-    count_eights(s) + count_from(s, s.len() - s.len() % 8)
+    count_eights(s) + count_from(s, OctetCount(s.len() - s.len() % 8))
 }
 
 // ---- A plain bitmap: four octets of header and the image.

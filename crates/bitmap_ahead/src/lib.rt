@@ -99,10 +99,10 @@ fn silent(mcc: &[u8], mnc: &[u8], date: &[u8]) -> bool
 }
 
 // Whether octets are so many digits.
-fn digits_taken(n: usize, s: &[u8]) -> bool
-    ensures { λ r. ⌜ r ≡ digitsTaken n (now (s .entry)) ⌝ }
+fn digits_taken(n: OctetCount, s: &[u8]) -> bool
+    ensures { λ r. ⌜ r ≡ digitsTaken (n .0) (now (s .entry)) ⌝ }
 {
-    if s.len() != n {
+    if s.len() != n.0 {
         return false;
     }
     all_digits(s)
@@ -112,10 +112,10 @@ fn digits_taken(n: usize, s: &[u8]) -> bool
 fn logo_taken(mcc: &[u8], mnc: &[u8], date: &[u8]) -> bool
     ensures { λ r. ⌜ r ≡ takenOf Logo (said (now (mcc .entry)) (now (mnc .entry)) (now (date .entry))) ⌝ }
 {
-    if !digits_taken(3, mcc) {
+    if !digits_taken(OctetCount(3), mcc) {
         return false;
     }
-    if !digits_taken(2, mnc) {
+    if !digits_taken(OctetCount(2), mnc) {
         return false;
     }
     date_taken(date)
@@ -203,12 +203,13 @@ pub fn octets(kind: Kind, mcc: &[u8], mnc: &[u8], date: &[u8]) -> OctetCount
     }
 }
 
-// Copies octets to a place of a buffer.
-fn put_at(src: &[u8], out: &mut [u8], at: usize)
-    requires { ⌜ at + length (now src) ≤ length (now out) ⌝ }
-    ensures { λ _. ⌜ now (out .exit) ≡ take at (now (out .entry)) ++ now (src .entry) ++ drop (at + length (now (src .entry))) (now (out .entry)) ⌝ }
+// Copies octets into a buffer, behind so many.
+fn put_at(src: &[u8], out: &mut [u8], at: OctetCount)
+    requires { ⌜ at .0 + length (now src) ≤ length (now out) ⌝ }
+    ensures { λ _. ⌜ now (out .exit) ≡ take (at .0) (now (out .entry)) ++ now (src .entry) ++ drop (at .0 + length (now (src .entry))) (now (out .entry)) ⌝ }
 {
-    copy::copy(src, &mut out[at..]);
+    let i = at.0;
+    copy::copy(src, &mut out[i..]);
 }
 
 // Writes a logo's version and its two codes to the front of a buffer.
@@ -217,8 +218,8 @@ fn put_codes(mcc: &[u8], mnc: &[u8], out: &mut [u8])
     ensures { λ _. ⌜ now (out .exit) ≡ over (0x30 ∷ now (mcc .entry) ++ now (mnc .entry)) (now (out .entry)) ⌝ }
 {
     out[0] = b'0';
-    put_at(mcc, out, 1);
-    put_at(mnc, out, mcc.len() + 1);
+    put_at(mcc, out, OctetCount(1));
+    put_at(mnc, out, OctetCount(mcc.len() + 1));
 }
 
 // Writes what stands ahead of a logo's bitmap to the front of a buffer.
@@ -228,7 +229,7 @@ fn put_logo(mcc: &[u8], mnc: &[u8], date: &[u8], out: &mut [u8])
 {
     put_codes(mcc, mnc, out);
     let day = mcc.len() + mnc.len() + 1;
-    put_at(date, out, day);
+    put_at(date, out, OctetCount(day));
     let end = day + date.len();
     out[end] = b'\n';
 }

@@ -76,14 +76,11 @@ pub fn judge(kind: Kind, msg: &[u8]) -> u32
 
 // ---- Where the fields stand.
 
-// So many octets from a place on.
-fn part(start: usize, length: usize) -> Stretch
-    ensures { λ r. ⌜ r ≡ stretch start length ⌝ }
+// The stretch of so many octets behind so many.
+fn part(start: OctetCount, length: OctetCount) -> Stretch
+    ensures { λ r. ⌜ r ≡ stretch (start .0) (length .0) ⌝ }
 {
-    Stretch {
-        start: OctetCount(start),
-        length: OctetCount(length),
-    }
+    Stretch { start, length }
 }
 
 // The fields of a message that has an image alone.
@@ -91,9 +88,9 @@ fn image_alone(image: Stretch) -> Fields
     ensures { λ r. ⌜ r ≡ imageAlone image ⌝ }
 {
     Fields {
-        mcc: part(0, 0),
-        mnc: part(0, 0),
-        date: part(0, 0),
+        mcc: part(OctetCount(0), OctetCount(0)),
+        mnc: part(OctetCount(0), OctetCount(0)),
+        date: part(OctetCount(0), OctetCount(0)),
         image,
     }
 }
@@ -104,14 +101,14 @@ fn fields_at(kind: Kind, msg: &[u8], start: OctetCount) -> Fields
     ensures { λ r. ⌜ r ≡ fieldsAt kind (start .0) (length (now (msg .entry))) ⌝ }
 {
     let at = start.0 + 4;
-    let image = part(at, msg.len() - at);
+    let image = part(OctetCount(at), OctetCount(msg.len() - at));
     match kind {
         Kind::Plain => image_alone(image),
         Kind::Icon => image_alone(image),
         Kind::Logo => Fields {
-            mcc: part(1, 3),
-            mnc: part(4, 2),
-            date: part(6, start.0 - 7),
+            mcc: part(OctetCount(1), OctetCount(3)),
+            mnc: part(OctetCount(4), OctetCount(2)),
+            date: part(OctetCount(6), OctetCount(start.0 - 7)),
             image,
         },
     }

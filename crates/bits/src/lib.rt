@@ -42,10 +42,11 @@ fn wide(x: u8) -> u32
     x as u32
 }
 
-// The octet at `i`, 0 past the end.
-fn octet(s: &[u8], i: usize) -> u32
-    ensures { λ r. ⌜ (r ≡ getD (now (s .entry)) i 0) × (r < 256) ⌝ }
+// The octet behind so many, 0 past the end.
+fn octet(s: &[u8], at: OctetCount) -> u32
+    ensures { λ r. ⌜ (r ≡ getD (now (s .entry)) (at .0) 0) × (r < 256) ⌝ }
 {
+    let i = at.0;
     if i < s.len() { s[i] as u32 } else { 0 }
 }
 
@@ -56,36 +57,42 @@ fn word(a: u8, b: u8, c: u8, d: u8) -> u32
     wide(a) * 16777216 + wide(b) * 65536 + wide(c) * 256 + wide(d)
 }
 
-// The four octets at `i` as one number, 0 past the end.
-fn near_end(s: &[u8], i: usize) -> u32
-    requires { ⌜ i < 2 ^ 63 + 4 ⌝ }
-    ensures { λ r. ⌜ r ≡ num (bitsOf (four (now (s .entry)) i)) ⌝ }
+// The four octets behind so many as one number, 0 past the end.
+fn near_end(s: &[u8], at: OctetCount) -> u32
+    requires { ⌜ at .0 < 2 ^ 63 + 4 ⌝ }
+    ensures { λ r. ⌜ r ≡ num (bitsOf (four (now (s .entry)) (at .0))) ⌝ }
 {
-    octet(s, i) * 16777216 + octet(s, i + 1) * 65536 + octet(s, i + 2) * 256 + octet(s, i + 3)
+    let i = at.0;
+    octet(s, at) * 16777216
+        + octet(s, OctetCount(i + 1)) * 65536
+        + octet(s, OctetCount(i + 2)) * 256
+        + octet(s, OctetCount(i + 3))
 }
 
 // The same. Away from the end it is one load.
-fn window(s: &[u8], i: usize) -> u32
-    requires { ⌜ i ≤ length (now s) ⌝ }
-    ensures { λ r. ⌜ r ≡ num (bitsOf (four (now (s .entry)) i)) ⌝ }
+fn window(s: &[u8], at: OctetCount) -> u32
+    requires { ⌜ at .0 ≤ length (now s) ⌝ }
+    ensures { λ r. ⌜ r ≡ num (bitsOf (four (now (s .entry)) (at .0))) ⌝ }
 {
+    let i = at.0;
     if 4 <= s.len() - i {
         return word(s[i], s[i + 1], s[i + 2], s[i + 3]);
     }
-    near_end(s, i)
+    near_end(s, at)
 }
 
-// The eight octets at `i` as one number, 0 past the end. Away from the end it is one load.
-fn wide_window(s: &[u8], i: usize) -> u64
-    requires { ⌜ i ≤ length (now s) ⌝ }
-    ensures { λ r. ⌜ r ≡ num (bitsOf (eight (now (s .entry)) i)) ⌝ }
+// The eight octets behind so many as one number, 0 past the end. Away from the end it is one load.
+fn wide_window(s: &[u8], at: OctetCount) -> u64
+    requires { ⌜ at .0 ≤ length (now s) ⌝ }
+    ensures { λ r. ⌜ r ≡ num (bitsOf (eight (now (s .entry)) (at .0))) ⌝ }
 {
+    let i = at.0;
     if 8 <= s.len() - i {
         let high = word(s[i], s[i + 1], s[i + 2], s[i + 3]);
         let low = word(s[i + 4], s[i + 5], s[i + 6], s[i + 7]);
         return ((high as u64) << 32) + low as u64;
     }
-    ((near_end(s, i) as u64) << 32) + near_end(s, i + 4) as u64
+    ((near_end(s, at) as u64) << 32) + near_end(s, OctetCount(i + 4)) as u64
 }
 
 // The 24 bits at a place, whatever stands past the end.
@@ -93,8 +100,7 @@ pub fn look(s: &[u8], at: BitPlace) -> u32
     requires { ⌜ at .0 ≤ placeAfter (length (now s)) ⌝ }
     ensures { λ r. ⌜ Look (drop (at .0) (bitsOf (now (s .entry)))) r ⌝ }
 {
-    let i = octets_before(at).0;
-    (window(s, i) >> (8 - at.0 % 8)) % 16777216
+    (window(s, octets_before(at)) >> (8 - at.0 % 8)) % 16777216
 }
 
 // The 57 bits at a place, on top of a number, whatever stands past the end.
@@ -102,8 +108,7 @@ pub fn sight(s: &[u8], at: BitPlace) -> u64
     requires { ⌜ at .0 ≤ placeAfter (length (now s)) ⌝ }
     ensures { λ r. ⌜ Sight 57 (drop (at .0) (bitsOf (now (s .entry)))) r ⌝ }
 {
-    let i = octets_before(at).0;
-    wide_window(s, i) << (at.0 % 8)
+    wide_window(s, octets_before(at)) << (at.0 % 8)
 }
 
 // The octet at a place, out of two octets of which the second is there too.
@@ -142,15 +147,16 @@ pub struct Sink {
     pub acc: u64,
 }
 
-// Stores the four octets of a word. It is one store.
-fn store(buf: &mut [u8], at: usize, word: u32)
-    requires { ⌜ at + 4 ≤ length (now buf) ⌝ }
-    ensures { λ _. ⌜ Stored word (now (buf .entry)) (now (buf .exit)) at ⌝ }
+// Stores the four octets of a word behind so many. It is one store.
+fn store(buf: &mut [u8], at: OctetCount, word: u32)
+    requires { ⌜ at .0 + 4 ≤ length (now buf) ⌝ }
+    ensures { λ _. ⌜ Stored word (now (buf .entry)) (now (buf .exit)) (at .0) ⌝ }
 {
-    buf[at] = (word / 16777216) as u8;
-    buf[at + 1] = (word / 65536 % 256) as u8;
-    buf[at + 2] = (word / 256 % 256) as u8;
-    buf[at + 3] = (word % 256) as u8;
+    let i = at.0;
+    buf[i] = (word / 16777216) as u8;
+    buf[i + 1] = (word / 65536 % 256) as u8;
+    buf[i + 2] = (word / 256 % 256) as u8;
+    buf[i + 3] = (word % 256) as u8;
 }
 
 // Writes the `w` bits that spell `v`. They stay in hand until there are 32.
@@ -166,7 +172,7 @@ pub fn put(buf: &mut [u8], s: Sink, w: u32, v: u32) -> Sink
         return Sink { octets, n, acc };
     }
     let left = n - 32;
-    store(buf, octets.0, (acc >> left) as u32);
+    store(buf, octets, (acc >> left) as u32);
     Sink {
         octets: OctetCount(octets.0 + 4),
         n: left,

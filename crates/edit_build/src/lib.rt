@@ -31,17 +31,17 @@ fn copy_bits(msg: &[u8], at: BitPlace, n: usize, out: &mut [u8], sink: Sink) -> 
     ensures { λ r. ⌜ Put (written (now (out .entry)) (sink .octets .0) (sink .n) (sink .acc)) (take n (drop (at .0) (bitsOf (now (msg .entry))))) (placeAfter (sink .octets .0) + sink .n + n) (now (out .entry)) (now (out .exit)) (r .octets .0) (r .n) (r .acc) ⌝ }
 {
     let mut s = sink;
-    let mut place = at.0;
+    let mut place = at;
     let mut left = n;
     while 24 <= left {
-        s = bits::put(out, s, 24, bits::look(msg, BitPlace(place)));
-        place += 24;
+        s = bits::put(out, s, 24, bits::look(msg, place));
+        place = BitPlace(place.0 + 24);
         left -= 24;
     }
     if left == 0 {
         return s;
     }
-    let x = bits::look(msg, BitPlace(place));
+    let x = bits::look(msg, place);
     bits::put(out, s, left as u32, bits::part(x, 0, left as u32))
 }
 

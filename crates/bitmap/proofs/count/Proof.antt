@@ -7,8 +7,8 @@ use Rattle.bitmap.proofs.Counting.{counted-all}
 count-eights-requires : tie.Need-count-eights-requires
 count-eights-requires c κs = search needs
 
-sub-count-from : tie.Need-sub-count-from
-sub-count-from c = search needs
+sub-t7 : tie.Need-sub-t7
+sub-t7 c = search needs
 
 count-from-requires : tie.Need-count-from-requires
 count-from-requires c κs = search needs
@@ -22,4 +22,4 @@ returns c = search (counted-all, needs)
 pub count-spec : {M : Type 1} → statement M
 count-spec =
     tie.close
-    (tie.spec count-eights-requires sub-count-from count-from-requires add-result returns)
+    (tie.spec count-eights-requires sub-t7 count-from-requires add-result returns)

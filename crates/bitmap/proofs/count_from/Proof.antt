@@ -7,10 +7,10 @@ use lib.ListN.{length}
 use Rattle.bitmap.proofs.Counting.{Octetwise, octetwise}
 
 abbrev Inv-loop : tie.InvT-loop
-Inv-loop s from n₀ i₀ n i = Octetwise s i₀ n i
+Inv-loop s n₀ i₀ n i = Octetwise s i₀ n i
 
 abbrev μ-loop : tie.MeasureT-loop
-μ-loop s from n₀ i₀ n i = length s - i
+μ-loop s n₀ i₀ n i = length s - i
 
 loop-holds : tie.Need-loop-holds Inv-loop μ-loop
 loop-holds c = search (octetwise, needs)

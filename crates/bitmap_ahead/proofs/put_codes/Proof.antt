@@ -10,8 +10,8 @@ slice-write-out c = search needs
 put-at-requires : tie.Need-put-at-requires
 put-at-requires c κs = search (codes, needs)
 
-add-put-at : tie.Need-add-put-at
-add-put-at c = search needs
+add-t12 : tie.Need-add-t12
+add-t12 c = search needs
 
 put-at-requires-2 : tie.Need-put-at-requires-2
 put-at-requires-2 c κs = search (codes, needs)
@@ -25,4 +25,4 @@ returns c = search (codes, needs)
 pub put-codes-spec : {M : Type 1} → statement M
 put-codes-spec =
     tie.close
-    (tie.spec slice-write-out put-at-requires add-put-at put-at-requires-2 same-length returns)
+    (tie.spec slice-write-out put-at-requires add-t12 put-at-requires-2 same-length returns)

@@ -7,8 +7,8 @@ use Rattle.bitmap_kinds.proofs.Exits.{fields}
 add-at : tie.Need-add-at
 add-at c = search needs
 
-sub-part : tie.Need-sub-part
-sub-part c = search needs
+sub-t8 : tie.Need-sub-t8
+sub-t8 c = search needs
 
 part-requires : tie.Need-part-requires
 part-requires c κs = search needs
@@ -34,8 +34,8 @@ part-requires-2 c κs = search needs
 part-requires-3 : tie.Need-part-requires-3
 part-requires-3 c κs = search needs
 
-sub-part-2 : tie.Need-sub-part-2
-sub-part-2 c = search (fields, needs)
+sub-t19 : tie.Need-sub-t19
+sub-t19 c = search (fields, needs)
 
 part-requires-4 : tie.Need-part-requires-4
 part-requires-4 c κs = search needs
@@ -54,7 +54,7 @@ fields-at-spec =
     tie.close
     (tie.spec
     add-at
-    sub-part
+    sub-t8
     part-requires
     enum-told
     image-alone-requires
@@ -63,7 +63,7 @@ fields-at-spec =
     enum-told-3
     part-requires-2
     part-requires-3
-    sub-part-2
+    sub-t19
     part-requires-4
     returns
     returns-2

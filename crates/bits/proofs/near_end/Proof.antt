@@ -10,8 +10,8 @@ octet-requires c κs = search needs
 mul-result : tie.Need-mul-result
 mul-result c = search needs
 
-add-octet : tie.Need-add-octet
-add-octet c = search needs
+add-t7 : tie.Need-add-t7
+add-t7 c = search needs
 
 octet-requires-2 : tie.Need-octet-requires-2
 octet-requires-2 c κs = search needs
@@ -22,8 +22,8 @@ mul-result-2 c = search needs
 add-result : tie.Need-add-result
 add-result c = search needs
 
-add-octet-2 : tie.Need-add-octet-2
-add-octet-2 c = search needs
+add-t12 : tie.Need-add-t12
+add-t12 c = search needs
 
 octet-requires-3 : tie.Need-octet-requires-3
 octet-requires-3 c κs = search needs
@@ -34,8 +34,8 @@ mul-result-3 c = search needs
 add-result-2 : tie.Need-add-result-2
 add-result-2 c = search needs
 
-add-octet-3 : tie.Need-add-octet-3
-add-octet-3 c = search needs
+add-t17 : tie.Need-add-t17
+add-t17 c = search needs
 
 octet-requires-4 : tie.Need-octet-requires-4
 octet-requires-4 c κs = search needs
@@ -52,15 +52,15 @@ near-end-spec =
     (tie.spec
     octet-requires
     mul-result
-    add-octet
+    add-t7
     octet-requires-2
     mul-result-2
     add-result
-    add-octet-2
+    add-t12
     octet-requires-3
     mul-result-3
     add-result-2
-    add-octet-3
+    add-t17
     octet-requires-4
     add-result-3
     returns)

@@ -76,8 +76,8 @@ near-end-requires c κs = search needs
 cast-result-3 : tie.Need-cast-result-3
 cast-result-3 c = search needs
 
-add-near-end : tie.Need-add-near-end
-add-near-end c = search needs
+add-t6 : tie.Need-add-t6
+add-t6 c = search needs
 
 near-end-requires-2 : tie.Need-near-end-requires-2
 near-end-requires-2 c κs = search (eight-is, needs)
@@ -119,7 +119,7 @@ wide-window-spec =
     returns
     near-end-requires
     cast-result-3
-    add-near-end
+    add-t6
     near-end-requires-2
     cast-result-4
     add-result-2

@@ -19,8 +19,8 @@ blocks-requires c κs = search needs
 rows-requires : tie.Need-rows-requires
 rows-requires c κs = search needs
 
-sub-short-row : tie.Need-sub-short-row
-sub-short-row c = search needs
+sub-last : tie.Need-sub-last
+sub-last c = search needs
 
 short-row-requires : tie.Need-short-row-requires
 short-row-requires c κs = search needs
@@ -46,7 +46,7 @@ copy-spec =
     returns
     blocks-requires
     rows-requires
-    sub-short-row
+    sub-last
     short-row-requires
     same-length-2
     returns-2)

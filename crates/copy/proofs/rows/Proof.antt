@@ -7,10 +7,10 @@ use lib.ListN.{length}
 use Rattle.copy.proofs.Copies.{Going, going}
 
 abbrev Inv-loop : tie.InvT-loop
-Inv-loop src dst₀ from i₀ dst i = Going src dst₀ dst i₀ i
+Inv-loop src dst₀ i₀ dst i = Going src dst₀ dst i₀ i
 
 abbrev μ-loop : tie.MeasureT-loop
-μ-loop src dst₀ from i₀ dst i = length src - i
+μ-loop src dst₀ i₀ dst i = length src - i
 
 loop-holds : tie.Need-loop-holds Inv-loop μ-loop
 loop-holds c = search (going, needs)

@@ -9,7 +9,7 @@ use Rattle.edit_build.proofs.Copies.{bits-step}
 -- `edit_build::copy_bits` meets its contract. Each turn copies 24 bits.
 
 abbrev Inv-loop : tie.InvT-loop
-Inv-loop msg n out₀ s₀ place₀ left₀ out s place left = BitCopy msg place₀ n (written out₀ (s₀ .octets .0) (s₀ .n) (s₀ .acc)) (8 * s₀ .octets .0 + s₀ .n) out₀ place left out (s .octets .0) (s .n) (s .acc)
+Inv-loop msg n out₀ s₀ place₀ left₀ out s place left = BitCopy msg (place₀ .0) n (written out₀ (s₀ .octets .0) (s₀ .n) (s₀ .acc)) (8 * s₀ .octets .0 + s₀ .n) out₀ (place .0) left out (s .octets .0) (s .n) (s .acc)
 
 abbrev μ-loop : tie.MeasureT-loop
 μ-loop msg n out₀ s₀ place₀ left₀ out s place left = left
@@ -23,16 +23,16 @@ look-requires c κs = search (bits, needs)
 put-requires : tie.Need-put-requires Inv-loop μ-loop
 put-requires c κs = search (bits, needs)
 
-add-place : tie.Need-add-place Inv-loop μ-loop
-add-place c = search (bits, needs)
+add-t14 : tie.Need-add-t14 Inv-loop μ-loop
+add-t14 c = search (bits, needs)
 
 loop-less : tie.Need-loop-less Inv-loop μ-loop
 loop-less c = search (bits, needs)
 
 loop-again : tie.Need-loop-again Inv-loop μ-loop
 loop-again c =
-    let l = c .before .before .before .before .before in
-    bits-step (l .before .loop .inv) (l .loop-test .taken) (c .before .before .before .look .ensures) (c .before .before .put .kept .0) (c .before .before .put .ensures)
+    let l = c .before .before .before .before .before .before in
+    bits-step (l .before .loop .inv) (l .loop-test .taken) (c .before .before .before .before .look .ensures) (c .before .before .before .put .kept .0) (c .before .before .before .put .ensures)
 
 same-length : tie.Need-same-length Inv-loop μ-loop
 same-length c = search (bits, needs)
@@ -70,7 +70,7 @@ copy-bits-spec =
     loop-holds
     look-requires
     put-requires
-    add-place
+    add-t14
     loop-less
     loop-again
     same-length
