@@ -24,21 +24,26 @@ fn odd(title: &[u8], unicode: bool) -> bool
 }
 
 // The octets of a title's character.
-fn width(unicode: bool) -> usize
-    ensures { λ r. ⌜ (r ≡ perCharacter unicode) × (1 ≤ r) ⌝ }
+fn width(unicode: bool) -> OctetCount
+    ensures { λ r. ⌜ (r .0 ≡ perCharacter unicode) × (1 ≤ r .0) ⌝ }
 {
-    if unicode { 2 } else { 1 }
+    if unicode {
+        OctetCount(2)
+    } else {
+        OctetCount(1)
+    }
 }
 
 // The character that starts at an octet.
-fn character(title: &[u8], at: usize, unicode: bool) -> u32
-    requires { ⌜ at + perCharacter unicode ≤ length (now title) ⌝ }
-    ensures { λ r. ⌜ r ≡ characterAt (perCharacter unicode) (now (title .entry)) at ⌝ }
+fn character(title: &[u8], at: OctetCount, unicode: bool) -> u32
+    requires { ⌜ at .0 + perCharacter unicode ≤ length (now title) ⌝ }
+    ensures { λ r. ⌜ r ≡ characterAt (perCharacter unicode) (now (title .entry)) (at .0) ⌝ }
 {
+    let i = at.0;
     if unicode {
-        return title[at] as u32 * 256 + title[at + 1] as u32;
+        return title[i] as u32 * 256 + title[i + 1] as u32;
     }
-    title[at] as u32
+    title[i] as u32
 }
 
 // The octets that are left of a title without its trailing spaces.
@@ -46,11 +51,11 @@ fn left(title: &[u8], unicode: bool) -> OctetCount
     requires { ⌜ oddOf unicode (now title) ≡ false ⌝ }
     ensures { λ r. ⌜ r .0 ≡ leftOctets (perCharacter unicode) (now (title .entry)) ⌝ }
 {
-    let w = width(unicode);
+    let w = width(unicode).0;
     let mut end = title.len();
     while 0 < end {
         let at = end - w;
-        if character(title, at, unicode) != 32 {
+        if character(title, OctetCount(at), unicode) != 32 {
             return OctetCount(end);
         }
         end = at;

@@ -6,8 +6,6 @@ use mathlib.Core.Bool.{Bool, true, false}
 use mathlib.Core.List.{List}
 use lib.ListN.{length}
 use lib.Dec.{leb, lit≤}
-use mir.Val.{Fits}
-use mir.Syntax.{w32}
 use borrow.Author.Tests.{leb-true}
 use Rattle.bits.specs.Choice.{pick}
 use Rattle.bits.specs.Outcome.{Outcome, accepted, refused}
@@ -56,9 +54,9 @@ small room n p m (accepted t) q h = go (anyTooLong (playingList t .entries)) (fi
     go false false e = let z : p ≡ place 0 = cc in rw z (lit≤ tt)
 small room n p m (refused i j) q h = let z : p ≡ place j = cc in rw z (place-most m i j q)
 
-pub refused-small : (m list : List ℕ) {list′ : List ℕ} {r : Listed} {n : ℕ} {p : BitPlace} → ListPromise m (fitsNumbers (length list)) list list′ r → r ≡ Refused n p → Fits w32 (p .0)
+pub refused-small : (m list : List ℕ) {list′ : List ℕ} {r : Listed} {n : ℕ} {p : BitPlace} → ListPromise m (fitsNumbers (length list)) list list′ r → r ≡ Refused n p → p .0 ≤ 32768
 unfolding listTone
-refused-small m list {n = n} {p = p} q e = let s = small (length list) n p m (readTone m) refl (sym e ∙ q .answer) in record { fits = omega arith }
+refused-small m list {n = n} {p = p} q e = small (length list) n p m (readTone m) refl (sym e ∙ q .answer)
 
 -- ---- the text
 

@@ -3,6 +3,8 @@ ghost use mathlib.Core.Path.{_≡_};
 ghost use Prim.Native.Nat.{_+_, _*_, _%_, _≤_};
 ghost use lib.ListN.{length};
 ghost use Rattle.list_text.specs.Text.{Added, digits, places as placesOf, number, line, lines, markText, opening, refusal, answerOf};
+use bits::BitPlace;
+use bits::OctetCount;
 use list::Listed;
 
 // ---- numbers
@@ -50,38 +52,40 @@ fn last_digit(n: u32) -> u8
 }
 
 // Puts the last k digits of a number behind the text.
-fn put_digits(out: &mut [u8], at: usize, k: usize, n: u32)
-    requires { ⌜ at + k ≤ length (now out) ⌝ }
-    ensures { λ _. ⌜ Added (now (out .entry)) at (digits k n) (now (out .exit)) (at + k) ⌝ }
+fn put_digits(out: &mut [u8], at: OctetCount, k: usize, n: u32)
+    requires { ⌜ at .0 + k ≤ length (now out) ⌝ }
+    ensures { λ _. ⌜ Added (now (out .entry)) (at .0) (digits k n) (now (out .exit)) (at .0 + k) ⌝ }
 {
+    let first = at.0;
     let mut i = k;
     let mut rest = n;
     while i > 0 {
         i -= 1;
-        out[at + i] = last_digit(rest);
+        out[first + i] = last_digit(rest);
         rest /= 10;
     }
 }
 
 // Puts a number in decimal and a character behind the text, and answers where the text now ends.
-fn put_number(out: &mut [u8], at: usize, n: u32, behind: u8) -> usize
-    requires { ⌜ at + 11 ≤ length (now out) ⌝ }
-    ensures { λ r. ⌜ Added (now (out .entry)) at (number n behind) (now (out .exit)) r ⌝ }
-    ensures { λ r. ⌜ r ≤ at + 11 ⌝ }
+fn put_number(out: &mut [u8], at: OctetCount, n: u32, behind: u8) -> OctetCount
+    requires { ⌜ at .0 + 11 ≤ length (now out) ⌝ }
+    ensures { λ r. ⌜ Added (now (out .entry)) (at .0) (number n behind) (now (out .exit)) (r .0) ⌝ }
+    ensures { λ r. ⌜ r .0 ≤ at .0 + 11 ⌝ }
 {
     let k = places(n);
     put_digits(out, at, k, n);
-    out[at + k] = behind;
-    at + k + 1
+    let end = at.0 + k;
+    out[end] = behind;
+    OctetCount(end + 1)
 }
 
 // ---- lines
 
 // Puts a line for an entry behind the text.
-fn put_entry(out: &mut [u8], at: usize, sound: u32, microseconds: u32) -> usize
-    requires { ⌜ at + 55 ≤ length (now out) ⌝ }
-    ensures { λ r. ⌜ Added (now (out .entry)) at (line sound microseconds) (now (out .exit)) r ⌝ }
-    ensures { λ r. ⌜ r ≤ at + 55 ⌝ }
+fn put_entry(out: &mut [u8], at: OctetCount, sound: u32, microseconds: u32) -> OctetCount
+    requires { ⌜ at .0 + 55 ≤ length (now out) ⌝ }
+    ensures { λ r. ⌜ Added (now (out .entry)) (at .0) (line sound microseconds) (now (out .exit)) (r .0) ⌝ }
+    ensures { λ r. ⌜ r .0 ≤ at .0 + 55 ⌝ }
 {
     let at = put_number(out, at, sound / 1024, b' ');
     let at = put_number(out, at, sound / 256 % 4, b' ');
@@ -91,24 +95,25 @@ fn put_entry(out: &mut [u8], at: usize, sound: u32, microseconds: u32) -> usize
 }
 
 // Puts octets behind the text.
-fn put_text(out: &mut [u8], at: usize, src: &[u8]) -> usize
-    requires { ⌜ at + length (now src) ≤ length (now out) ⌝ }
-    ensures { λ r. ⌜ Added (now (out .entry)) at (now (src .entry)) (now (out .exit)) r ⌝ }
-    ensures { λ r. ⌜ r ≡ at + length (now (src .entry)) ⌝ }
+fn put_text(out: &mut [u8], at: OctetCount, src: &[u8]) -> OctetCount
+    requires { ⌜ at .0 + length (now src) ≤ length (now out) ⌝ }
+    ensures { λ r. ⌜ Added (now (out .entry)) (at .0) (now (src .entry)) (now (out .exit)) (r .0) ⌝ }
+    ensures { λ r. ⌜ r .0 ≡ at .0 + length (now (src .entry)) ⌝ }
 {
+    let first = at.0;
     let mut i = 0;
     while i < src.len() {
-        out[at + i] = src[i];
+        out[first + i] = src[i];
         i += 1;
     }
-    at + i
+    OctetCount(first + i)
 }
 
 // Puts the lines for the first entries of a list behind the text.
-fn put_entries(out: &mut [u8], start: usize, list: &[u32], entries: usize) -> usize
-    requires { ⌜ (start + entries * 55 ≤ length (now out)) × (entries * 2 ≤ length (now list)) ⌝ }
-    ensures { λ r. ⌜ Added (now (out .entry)) start (lines entries (now (list .entry))) (now (out .exit)) r ⌝ }
-    ensures { λ r. ⌜ r ≤ length (now (out .exit)) ⌝ }
+fn put_entries(out: &mut [u8], start: OctetCount, list: &[u32], entries: usize) -> OctetCount
+    requires { ⌜ (start .0 + entries * 55 ≤ length (now out)) × (entries * 2 ≤ length (now list)) ⌝ }
+    ensures { λ r. ⌜ Added (now (out .entry)) (start .0) (lines entries (now (list .entry))) (now (out .exit)) (r .0) ⌝ }
+    ensures { λ r. ⌜ r .0 ≤ length (now (out .exit)) ⌝ }
 {
     let mut at = start;
     let mut i = 0;
@@ -120,10 +125,10 @@ fn put_entries(out: &mut [u8], start: usize, list: &[u32], entries: usize) -> us
 }
 
 // Puts the return mark and a line's end behind the text.
-fn put_mark(out: &mut [u8], at: usize, mark: u32) -> usize
-    requires { ⌜ at + 11 ≤ length (now out) ⌝ }
-    ensures { λ r. ⌜ Added (now (out .entry)) at (markText mark) (now (out .exit)) r ⌝ }
-    ensures { λ r. ⌜ r ≤ at + 11 ⌝ }
+fn put_mark(out: &mut [u8], at: OctetCount, mark: u32) -> OctetCount
+    requires { ⌜ at .0 + 11 ≤ length (now out) ⌝ }
+    ensures { λ r. ⌜ Added (now (out .entry)) (at .0) (markText mark) (now (out .exit)) (r .0) ⌝ }
+    ensures { λ r. ⌜ r .0 ≤ at .0 + 11 ⌝ }
 {
     if mark == 4294967295 {
         return put_text(out, at, b"none\n");
@@ -132,43 +137,43 @@ fn put_mark(out: &mut [u8], at: usize, mark: u32) -> usize
 }
 
 // Puts the first line of a list at the front.
-fn put_opening(out: &mut [u8], entries: u32, mark: u32) -> usize
+fn put_opening(out: &mut [u8], entries: u32, mark: u32) -> OctetCount
     requires { ⌜ 64 ≤ length (now out) ⌝ }
-    ensures { λ r. ⌜ Added (now (out .entry)) 0 (opening entries mark) (now (out .exit)) r ⌝ }
-    ensures { λ r. ⌜ r ≤ 64 ⌝ }
+    ensures { λ r. ⌜ Added (now (out .entry)) 0 (opening entries mark) (now (out .exit)) (r .0) ⌝ }
+    ensures { λ r. ⌜ r .0 ≤ 64 ⌝ }
 {
-    let at = put_text(out, 0, b"entries ");
+    let at = put_text(out, OctetCount(0), b"entries ");
     let at = put_number(out, at, entries, b' ');
     let at = put_text(out, at, b"return ");
     put_mark(out, at, mark)
 }
 
-// Puts the line of a refusal at the front.
-fn put_refusal(out: &mut [u8], number: u32, place: u32) -> usize
+// Puts the line of a refusal at the front. A message has no more than 32,768 bits, so the place is a number of 32 bits.
+fn put_refusal(out: &mut [u8], number: u32, place: BitPlace) -> OctetCount
     requires { ⌜ 64 ≤ length (now out) ⌝ }
-    ensures { λ r. ⌜ Added (now (out .entry)) 0 (refusal number place) (now (out .exit)) r ⌝ }
-    ensures { λ r. ⌜ r ≤ 64 ⌝ }
+    requires { ⌜ place .0 ≤ 32768 ⌝ }
+    ensures { λ r. ⌜ Added (now (out .entry)) 0 (refusal number (place .0)) (now (out .exit)) (r .0) ⌝ }
+    ensures { λ r. ⌜ r .0 ≤ 64 ⌝ }
 {
-    let at = put_text(out, 0, b"refused ");
+    let at = put_text(out, OctetCount(0), b"refused ");
     let at = put_number(out, at, number, b' ');
     let at = put_text(out, at, b"at ");
-    put_number(out, at, place, b'\n')
+    put_number(out, at, place.0 as u32, b'\n')
 }
 
 // ---- the whole text
 
 // Makes a message's list and puts the answer into the buffer as text.
-pub fn answer(msg: &[u8], list: &mut [u32], text: &mut [u8]) -> usize
+pub fn answer(msg: &[u8], list: &mut [u32], text: &mut [u8]) -> OctetCount
     requires { ⌜ length (now list) * 28 + 64 ≤ length (now text) ⌝ }
-    ensures { λ r. ⌜ Added (now (text .entry)) 0 (answerOf (now (msg .entry)) (now (list .entry))) (now (text .exit)) r ⌝ }
-    ensures { λ r. ⌜ r ≤ length (now (text .exit)) ⌝ }
+    ensures { λ r. ⌜ Added (now (text .entry)) 0 (answerOf (now (msg .entry)) (now (list .entry))) (now (text .exit)) (r .0) ⌝ }
+    ensures { λ r. ⌜ r .0 ≤ length (now (text .exit)) ⌝ }
 {
     match list::list(msg, list) {
         Listed::Made { entries, mark } => {
             let at = put_opening(text, entries, mark);
             put_entries(text, at, list, entries as usize)
         }
-        // A message has no more than 32,768 bits, so the remainder is the place itself.
-        Listed::Refused { number, place } => { put_refusal(text, number, place.0 as u32) }
+        Listed::Refused { number, place } => put_refusal(text, number, place),
     }
 }

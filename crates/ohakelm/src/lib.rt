@@ -229,15 +229,14 @@ fn edit_answer(answer: Answer) -> EditAnswer
 // Edits, and answers by the numbers. The three exports differ in the edit alone.
 fn edited(
     buf: &mut [u8],
-    used: usize,
+    used: OctetCount,
     edit: Edit,
     pattern: usize,
     instruction: usize,
     list: &mut [u32],
 ) -> EditAnswer
-    ensures { λ r. ⌜ EditExport edit (now (buf .entry)) used pattern instruction (now (list .entry)) (now (buf .exit)) (now (list .exit)) r ⌝ }
+    ensures { λ r. ⌜ EditExport edit (now (buf .entry)) (used .0) pattern instruction (now (list .entry)) (now (buf .exit)) (now (list .exit)) r ⌝ }
 {
-    let used = OctetCount(used);
     edit_answer(edit::edit_message(buf, used, edit, pattern, instruction, list))
 }
 
@@ -253,7 +252,14 @@ pub extern "C" fn ohakelm_replace(
 ) -> EditAnswer
     ensures { λ r. ⌜ EditExport (Replace cell) (now (buf .entry)) used pattern instruction (now (list .entry)) (now (buf .exit)) (now (list .exit)) r ⌝ }
 {
-    edited(buf, used, Edit::Replace(cell), pattern, instruction, list)
+    edited(
+        buf,
+        OctetCount(used),
+        Edit::Replace(cell),
+        pattern,
+        instruction,
+        list,
+    )
 }
 
 // Inserts an instruction before another one, or behind the last.
@@ -268,7 +274,14 @@ pub extern "C" fn ohakelm_insert(
 ) -> EditAnswer
     ensures { λ r. ⌜ EditExport (Insert cell) (now (buf .entry)) used pattern instruction (now (list .entry)) (now (buf .exit)) (now (list .exit)) r ⌝ }
 {
-    edited(buf, used, Edit::Insert(cell), pattern, instruction, list)
+    edited(
+        buf,
+        OctetCount(used),
+        Edit::Insert(cell),
+        pattern,
+        instruction,
+        list,
+    )
 }
 
 // Deletes an instruction.
@@ -282,7 +295,14 @@ pub extern "C" fn ohakelm_delete(
 ) -> EditAnswer
     ensures { λ r. ⌜ EditExport Delete (now (buf .entry)) used pattern instruction (now (list .entry)) (now (buf .exit)) (now (list .exit)) r ⌝ }
 {
-    edited(buf, used, Edit::Delete, pattern, instruction, list)
+    edited(
+        buf,
+        OctetCount(used),
+        Edit::Delete,
+        pattern,
+        instruction,
+        list,
+    )
 }
 
 // ---- bitmaps

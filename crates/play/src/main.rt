@@ -25,15 +25,16 @@ enum Input {
 }
 
 // Reads a piece behind the octets that came before.
-fn read_piece(buf: &mut [u8], at: usize) -> Piece
-    requires { ⌜ at ≤ length (now buf) ⌝ }
-    ensures { λ r. ⌜ (length (now (buf .exit)) ≡ length (now (buf .entry))) × Grows r at (length (now (buf .entry))) ⌝ }
+fn read_piece(buf: &mut [u8], at: OctetCount) -> Piece
+    requires { ⌜ at .0 ≤ length (now buf) ⌝ }
+    ensures { λ r. ⌜ (length (now (buf .exit)) ≡ length (now (buf .entry))) × Grows r (at .0) (length (now (buf .entry))) ⌝ }
 {
-    let got = libc::read(STDIN_FILENO, &mut buf[at..]);
+    let i = at.0;
+    let got = libc::read(STDIN_FILENO, &mut buf[i..]);
     if got < 0 {
         return Piece::Failed;
     }
-    let n = io::count(got, &buf[at..]);
+    let n = io::count(got, &buf[i..]);
     if n == 0 {
         return Piece::End;
     }
@@ -46,7 +47,7 @@ fn read_input(buf: &mut [u8]) -> Input
 {
     let mut at = 0;
     while at < buf.len() {
-        match read_piece(buf, at) {
+        match read_piece(buf, OctetCount(at)) {
             Piece::Some(n) => at += n.0,
             Piece::End => return Input::Octets(OctetCount(at)),
             Piece::Failed => return Input::Unreadable,
@@ -56,10 +57,10 @@ fn read_input(buf: &mut [u8]) -> Input
 }
 
 // Writes the text, the first octets of a buffer.
-fn write_text(text: &[u8], n: usize)
-    requires { ⌜ n ≤ length (now text) ⌝ }
+fn write_text(text: &[u8], n: OctetCount)
+    requires { ⌜ n .0 ≤ length (now text) ⌝ }
 {
-    let all = io::write_all(STDOUT_FILENO, &text[..n]);
+    let all = io::write_all(STDOUT_FILENO, &text[..n.0]);
     if !all {
         io::write_all(STDERR_FILENO, b"play: standard output cannot be written\n");
     }

@@ -13,6 +13,7 @@ use mir.Syntax.{Width}
 use Rattle.bits.specs.Choice.{pick}
 use Rattle.bits.specs.Bits.{bitsOf, field, fillerTo, placeAfter, octetsTo}
 use Rattle.bits.specs.declared.BitPlace.{BitPlace}
+use Rattle.bits.specs.declared.OctetCount.{OctetCount}
 use Rattle.bits.proofs.Choice.{pick-elim}
 use Rattle.bits.specs.Window.{Look, Sight}
 use Rattle.bits.proofs.Octets.{length-bitsOf}
@@ -27,10 +28,12 @@ use Rattle.tone_elements.specs.declared.Step.{Step}
 use Rattle.tone_elements.specs.declared.Step.the-variants.{Good, Bad}
 use Rattle.tone_elements.specs.declared.Command.{Command}
 use Rattle.tone_elements.specs.declared.Command.the-variants.{Announced, Withheld}
+use Rattle.tone_elements.specs.declared.Characters.{Characters}
+use Rattle.tone_elements.specs.declared.Characters.the-variants.{Present, Cut}
 use Rattle.tone_elements.specs.declared.Opening.{Opening}
 use Rattle.tone_elements.specs.declared.Opening.the-variants.{Opened, Closed}
-use Rattle.tone_elements.specs.Answers.{Within, place, octetCount, stepAs, stepOf, commandOf, openingOf}
-use Rattle.tone_elements.proofs.Steps.{step-there, step-good, step-bad, step-cong, step-map}
+use Rattle.tone_elements.specs.Answers.{Within, place, octetCount, stepAs, stepOf, commandOf, charactersOf, openingOf}
+use Rattle.tone_elements.proofs.Steps.{step-there, step-bad, step-cong, step-map, characters-as, characters-good, characters-cut}
 use Rattle.tone_elements.proofs.Walks.{stays}
 
 -- ---- places stay within the message
@@ -212,7 +215,7 @@ module _ (m : List ℕ) (at : ℕ) (unicode : Bool) (n : ℕ) {r b : ℕ} (hr : 
       ∙ step-cong (text unicode j (bitsOf m) (at + k * across unicode)) (λ t. omega arith))
 
   -- fewer are there than are due: the first that is cut short is refused
-  pub text-cut : r < n * b → Bad 2 (place (at + (r - r % b))) ≡ stepAs length (text unicode n (bitsOf m) at)
+  pub text-cut : r < n * b → Cut (place (at + (r - r % b))) 2 ≡ charactersOf (text unicode n (bitsOf m) at)
   unfolding text character
   text-cut h =
       let k = r / b in
@@ -222,12 +225,12 @@ module _ (m : List ℕ) (at : ℕ) (unicode : Bool) (n : ℕ) {r b : ℕ} (hr : 
       let e : n ≡ k + suc j = omega arith in
       let q : r - r % b ≡ k * b = omega arith in
       let c : length (bitsOf m) < at + k * b + across unicode = rw (length-bitsOf m, ← hb .0) (omega (arith, lt-div-mul-add {a = r} (hb .2))) in
-      sym (text-after k (suc j) e (omega arith) ∙ (rw (q, element-cut (across unicode) (λ _. true) 0 (bitsOf m) (at + k * b) c)))
+      characters-as (text unicode n (bitsOf m) at) (Bad 2 (place (at + (r - r % b)))) (text-after k (suc j) e (omega arith) ∙ (rw (q, element-cut (across unicode) (λ _. true) 0 (bitsOf m) (at + k * b) c)))
 
   -- all of them are there
-  pub text-good : {o : ℕ} → (o ≡ perCharacter unicode) × (o ≤ 2) × (1 ≤ o) → n * b ≤ r → Good (n * o) (place (at + n * b)) ≡ stepAs length (text unicode n (bitsOf m) at)
+  pub text-good : {o : ℕ} → (o ≡ perCharacter unicode) × (o ≤ 2) × (1 ≤ o) → n * b ≤ r → Present (place (at + n * b)) (octetCount (n * o)) ≡ charactersOf (text unicode n (bitsOf m) at)
   unfolding text
-  text-good ho h = sym (text-after n 0 (sym (add-zero n)) h ∙ (rw (ho .0, add-zero (n * perCharacter unicode))))
+  text-good {o} ho h = characters-as (text unicode n (bitsOf m) at) (Good (n * o) (place (at + n * b))) (text-after n 0 (sym (add-zero n)) h ∙ (rw (ho .0, add-zero (n * perCharacter unicode))))
 
 -- a product fits where that of the bounds does
 pub product-fits : (w : Width) (n b p q : ℕ) → n ≤ p → b ≤ q → T (ltb (p * q) (2 ^ bits w)) → Fits w (n * b)
@@ -235,7 +238,7 @@ product-fits w n b p q h k t = record { fits = lt-of-le-of-lt (mul-le-mul h k) (
 
 -- ---- the title
 
-pub title-none : (m : List ℕ) (song : ℕ) (unicode : Bool) (p : BitPlace) → (song ≡ 1 → ⊥) → Good 0 p ≡ stepAs length (title song unicode (bitsOf m) (p .0))
+pub title-none : (m : List ℕ) (song : ℕ) (unicode : Bool) (p : BitPlace) → (song ≡ 1 → ⊥) → Present p (octetCount 0) ≡ charactersOf (title song unicode (bitsOf m) (p .0))
 unfolding title
 title-none m song unicode p h = rw (ne-eqb song 1 h)
 
@@ -246,11 +249,11 @@ title-short m at q g =
     omega arith
 
 module _ (m : List ℕ) (at song : ℕ) (unicode : Bool) {s : Step} (h : song ≡ 1) (q : s ≡ stepOf (anyOf 4 (bitsOf m) at)) where
-  pub title-cut : {n : ℕ} {f : BitPlace} → s ≡ Bad n f → Bad n f ≡ stepAs length (title song unicode (bitsOf m) at)
+  pub title-cut : {n : ℕ} {f : BitPlace} → s ≡ Bad n f → Cut f n ≡ charactersOf (title song unicode (bitsOf m) at)
   unfolding title
   title-cut g = let b = step-bad (λ v. v) (anyOf 4 (bitsOf m) at) (sym g ∙ q) in rw (eq-eqb song 1 h, b .1)
 
-  pub title-text : {v : ℕ} {f : BitPlace} {t : Step} → s ≡ Good v f → t ≡ stepAs length (text unicode v (bitsOf m) (f .0)) → t ≡ stepAs length (title song unicode (bitsOf m) at)
+  pub title-text : {v : ℕ} {f : BitPlace} {t : Characters} → s ≡ Good v f → t ≡ charactersOf (text unicode v (bitsOf m) (f .0)) → t ≡ charactersOf (title song unicode (bitsOf m) at)
   unfolding title
   title-text g e = let b = step-there (anyOf 4 (bitsOf m) at) (sym g ∙ q) in rw (eq-eqb song 1 h, b) e
 
@@ -267,14 +270,14 @@ title-within m at song unicode {o} {p} h = pick-elim (λ (r : Reader (List ℕ))
 
 -- ---- the title and the count
 
-module _ (m : List ℕ) (at song : ℕ) (unicode : Bool) {s : Step} (q : s ≡ stepAs length (title song unicode (bitsOf m) at)) where
-  pub titled-bad : {n : ℕ} {f : BitPlace} → s ≡ Bad n f → Closed n f ≡ openingOf (titled song unicode (bitsOf m) at)
+module _ (m : List ℕ) (at song : ℕ) (unicode : Bool) {s : Characters} (q : s ≡ charactersOf (title song unicode (bitsOf m) at)) where
+  pub titled-bad : {n : ℕ} {f : BitPlace} → s ≡ Cut f n → Closed n f ≡ openingOf (titled song unicode (bitsOf m) at)
   unfolding titled
-  titled-bad g = let b = step-bad length (title song unicode (bitsOf m) at) (sym g ∙ q) in rw (b .1)
+  titled-bad g = let b = characters-cut (title song unicode (bitsOf m) at) (sym g ∙ q) in rw (b .1)
 
-  module _ {o : ℕ} {f : BitPlace} (g : s ≡ Good o f) where
-    title-there : (t : List ℕ) × (title song unicode (bitsOf m) at ≡ got t (f .0)) × (o ≡ length t)
-    title-there = step-good length (title song unicode (bitsOf m) at) (sym g ∙ q)
+  module _ {o : OctetCount} {f : BitPlace} (g : s ≡ Present f o) where
+    title-there : (t : List ℕ) × (title song unicode (bitsOf m) at ≡ got t (f .0)) × (o ≡ octetCount (length t))
+    title-there = characters-good (title song unicode (bitsOf m) at) (sym g ∙ q)
 
     pub titled-within : Within m at → Within m (f .0)
     titled-within i = record { inside = title-within m at song unicode (i .inside) (title-there .1); counted = i .counted }
@@ -289,9 +292,9 @@ module _ (m : List ℕ) (at song : ℕ) (unicode : Bool) {s : Step} (q : s ≡ s
         unfolding titled counted
         titled-zero h = rw (title-there .1, bad-there 8 5 (leb 1) m (f .0) q′ g′ (rw h refl))
 
-        pub titled-good : (v ≡ 0 → ⊥) → Opened song f′ (octetCount o) v unicode ≡ openingOf (titled song unicode (bitsOf m) at)
+        pub titled-good : (v ≡ 0 → ⊥) → Opened song f′ o v unicode ≡ openingOf (titled song unicode (bitsOf m) at)
         unfolding titled counted
-        titled-good h = rw (title-there .1, good-there 8 5 (leb 1) m (f .0) q′ g′ (le-leb 1 v (omega arith))) (ap (λ (x : ℕ). Opened song f′ (octetCount x) v unicode) (title-there .2))
+        titled-good h = rw (title-there .1, good-there 8 5 (leb 1) m (f .0) q′ g′ (le-leb 1 v (omega arith))) (ap (λ (x : OctetCount). Opened song f′ x v unicode) (title-there .2))
 
 -- ---- the whole front
 

@@ -2,10 +2,16 @@
 use Prim.Native.Nat.{ℕ}
 use native.Mathlib.Omega.{arith}
 use mathlib.Core.Path.{_≡_, refl, sym, ap, _∙_}
+use mathlib.Core.List.{List}
+use lib.ListN.{length}
 use Rattle.bits.specs.declared.BitPlace.{BitPlace}
+use Rattle.bits.specs.declared.OctetCount.{OctetCount}
+use Rattle.tone_elements.specs.declared.Step.{Step}
 use Rattle.tone_elements.specs.declared.Step.the-variants.{Good, Bad}
+use Rattle.tone_elements.specs.declared.Characters.{Characters}
+use Rattle.tone_elements.specs.declared.Characters.the-variants.{Present, Cut}
 use Rattle.tone.specs.Reading.{Got, got, bad, onward}
-use Rattle.tone_elements.specs.Answers.{place, stepAs, stepOf}
+use Rattle.tone_elements.specs.Answers.{place, octetCount, stepAs, stepOf, charactersOf}
 
 -- a value was read there
 pub step-good : {A : Type 0} (f : A → ℕ) (x : Got A) {v : ℕ} {q : BitPlace} → Good v q ≡ stepAs f x → (a : A) × (x ≡ got a (q .0)) × (v ≡ f a)
@@ -49,3 +55,34 @@ onward-made (got a p) f {c} {q} e =
     let e₂ : c ≡ f a = cc in
     (a, ap (λ (y : ℕ). got a y) e₁, e₂)
 onward-made (bad n p e′) f e = let z : _≡_ {A = ℕ} 0 1 = cc in absurd (omega arith)
+
+-- ---- the characters of a title
+
+-- a number that was counted, as octets of a title
+abbrev asCharacters : Step → Characters
+asCharacters (Good v p) = Present p (octetCount v)
+asCharacters (Bad n p) = Cut p n
+
+-- a title's octets are its length, counted
+pub characters-as : (x : Got (List ℕ)) (s : Step) → stepAs length x ≡ s → asCharacters s ≡ charactersOf x
+characters-as x s e = sym (ap asCharacters e) ∙ same x
+  where
+    same : (x : Got (List ℕ)) → asCharacters (stepAs length x) ≡ charactersOf x
+    same (got t p) = refl
+    same (bad n p e) = refl
+
+-- a title was read there
+pub characters-good : (x : Got (List ℕ)) {q : BitPlace} {o : OctetCount} → Present q o ≡ charactersOf x → (t : List ℕ) × (x ≡ got t (q .0)) × (o ≡ octetCount (length t))
+characters-good (got t p) {q} {o} e =
+    let e₁ : q ≡ place p = cc in
+    let e₂ : o ≡ octetCount (length t) = cc in
+    (t, ap (λ (y : ℕ). got t y) (sym (ap (λ (z : BitPlace). z .0) e₁)), e₂)
+characters-good (bad n p e′) e = let z : _≡_ {A = ℕ} 0 1 = cc in absurd (omega arith)
+
+-- a refusal is there
+pub characters-cut : (x : Got (List ℕ)) {q : BitPlace} {n : ℕ} → Cut q n ≡ charactersOf x → (e : ℕ) × (x ≡ bad n (q .0) e)
+characters-cut (got t p) e = let z : _≡_ {A = ℕ} 0 1 = cc in absurd (omega arith)
+characters-cut (bad n′ p e′) {q} {n} e =
+    let e₁ : n ≡ n′ = cc in
+    let e₂ : q ≡ place p = cc in
+    (e′, rw (e₁, e₂) refl)

@@ -14,6 +14,8 @@ use Rattle.tone_elements.specs.declared.Step.{Step}
 use Rattle.tone_elements.specs.declared.Step.the-variants.{Good, Bad}
 use Rattle.tone_elements.specs.declared.Command.{Command}
 use Rattle.tone_elements.specs.declared.Command.the-variants.{Announced, Withheld}
+use Rattle.tone_elements.specs.declared.Characters.{Characters}
+use Rattle.tone_elements.specs.declared.Characters.the-variants.{Present, Cut}
 use Rattle.tone_elements.specs.declared.Opening.{Opening}
 use Rattle.tone_elements.specs.declared.Opening.the-variants.{Opened, Closed}
 use Rattle.tone.specs.Table.{kind}
@@ -69,6 +71,11 @@ entries ps = length (cells ps)
 abbrev pub commandOf : Got Bool → Command
 commandOf (got u p) = Announced u (place p)
 commandOf (bad n p e) = Withheld n (place p)
+
+-- how many octets a title's characters are, or the refusal
+abbrev pub charactersOf : Got (List ℕ) → Characters
+charactersOf (got t p) = Present (place p) (octetCount (length t))
+charactersOf (bad n p e) = Cut (place p) n
 
 -- the front as the code answers it, or the refusal
 abbrev pub openingOf : Got Front → Opening

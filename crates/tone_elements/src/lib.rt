@@ -9,7 +9,7 @@ ghost use Rattle.tone.specs.Table.{width as widthOf, allowed as allowedOf};
 ghost use Rattle.tone.specs.Tone.{perCharacter};
 ghost use Rattle.tone.specs.Reading.{element, anyOf, filled, soundPart, parts as partsDue, command, text as textDue, title as titleDue, titled as titledDue, front};
 ghost use Rattle.tone.specs.Reading.{headerDue, instructionDue, bodyDue, ending as endingDue};
-ghost use Rattle.tone_elements.specs.Answers.{Within, allKnown, stepAs, stepOf, commandOf, noteIn, notes as notesOf, openingOf, Seen, SomeEntry, EntryAt, Passed};
+ghost use Rattle.tone_elements.specs.Answers.{Within, allKnown, stepAs, stepOf, commandOf, noteIn, notes as notesOf, charactersOf, openingOf, Seen, SomeEntry, EntryAt, Passed};
 ghost use mathlib.Core.Bool.{Bool};
 ghost use mathlib.Core.List.{List};
 use bits::BitPlace;
@@ -25,6 +25,12 @@ pub enum Step {
 pub enum Command {
     Announced { unicode: bool, next: BitPlace },
     Withheld { number: u32, at: BitPlace },
+}
+
+// The characters of a title: the place behind them and how many octets they are; or the refusal, where they are cut short.
+pub enum Characters {
+    Present { next: BitPlace, octets: OctetCount },
+    Cut { at: BitPlace, number: u32 },
 }
 
 // The front of a message: song type, the place behind it, the title's octets, the pattern count, UNICODE or not; or the
@@ -433,43 +439,58 @@ fn character_bits(unicode: bool) -> usize
 }
 
 // The octets of a title's character.
-pub fn character_octets(unicode: bool) -> u32
-    ensures { λ r. ⌜ (r ≡ perCharacter unicode) × (r ≤ 2) × (1 ≤ r) ⌝ }
+fn character_octets(unicode: bool) -> OctetCount
+    ensures { λ r. ⌜ (r .0 ≡ perCharacter unicode) × (r .0 ≤ 2) × (1 ≤ r .0) ⌝ }
 {
-    if unicode { 2 } else { 1 }
+    if unicode {
+        OctetCount(2)
+    } else {
+        OctetCount(1)
+    }
 }
 
-// `n` characters, told at once: every code is allowed. The number is how many octets they are.
-fn text(msg: &[u8], at: BitPlace, unicode: bool, n: u32) -> Step
+// How many characters a title of so many octets has.
+pub fn characters_in(octets: OctetCount, unicode: bool) -> u32
+    requires { ⌜ octets .0 < 2 ^ 32 ⌝ }
+    ensures { λ r. ⌜ r ≡ octets .0 / perCharacter unicode ⌝ }
+{
+    octets.0 as u32 / character_octets(unicode).0 as u32
+}
+
+// `n` characters, told at once: every code is allowed.
+fn text(msg: &[u8], at: BitPlace, unicode: bool, n: u32) -> Characters
     requires { ⌜ Within (now msg) (at .0) ⌝ }
     requires { ⌜ n ≤ 15 ⌝ }
-    ensures { λ r. ⌜ r ≡ stepAs length (textDue unicode n (bitsOf (now (msg .entry))) (at .0)) ⌝ }
+    ensures { λ r. ⌜ r ≡ charactersOf (textDue unicode n (bitsOf (now (msg .entry))) (at .0)) ⌝ }
 {
     let bits = character_bits(unicode);
     let rest = left(msg, at);
     let all = n as usize * bits;
     if rest < all {
-        return Step::Bad {
-            number: 2,
+        return Characters::Cut {
             at: BitPlace(at.0 + (rest - rest % bits)),
+            number: 2,
         };
     }
-    Step::Good {
-        value: n * character_octets(unicode),
+    Characters::Present {
         next: BitPlace(at.0 + all),
+        octets: OctetCount(n as usize * character_octets(unicode).0),
     }
 }
 
-// The title of a basic song; a temporary one has none. The number is how many octets it is.
-fn title(msg: &[u8], at: BitPlace, song: u32, unicode: bool) -> Step
+// The title of a basic song; a temporary one has none.
+fn title(msg: &[u8], at: BitPlace, song: u32, unicode: bool) -> Characters
     requires { ⌜ Within (now msg) (at .0) ⌝ }
-    ensures { λ r. ⌜ r ≡ stepAs length (titleDue song unicode (bitsOf (now (msg .entry))) (at .0)) ⌝ }
+    ensures { λ r. ⌜ r ≡ charactersOf (titleDue song unicode (bitsOf (now (msg .entry))) (at .0)) ⌝ }
 {
     if song != 1 {
-        return Step::Good { value: 0, next: at };
+        return Characters::Present {
+            next: at,
+            octets: OctetCount(0),
+        };
     }
     match any(msg, at, 4) {
-        Step::Bad { number, at: fault } => Step::Bad { number, at: fault },
+        Step::Bad { number, at: fault } => Characters::Cut { at: fault, number },
         Step::Good { value, next } => text(msg, next, unicode, value),
     }
 }
@@ -480,10 +501,10 @@ fn titled(msg: &[u8], at: BitPlace, song: u32, unicode: bool) -> Opening
     ensures { λ r. ⌜ r ≡ openingOf (titledDue song unicode (bitsOf (now (msg .entry))) (at .0)) ⌝ }
 {
     match title(msg, at, song, unicode) {
-        Step::Bad { number, at: fault } => Opening::Closed { number, at: fault },
-        Step::Good {
-            value: octets,
+        Characters::Cut { at: fault, number } => Opening::Closed { number, at: fault },
+        Characters::Present {
             next: behind,
+            octets,
         } => match any(msg, behind, 8) {
             Step::Bad { number, at: fault } => Opening::Closed { number, at: fault },
             Step::Good { value, next } => {
@@ -496,7 +517,7 @@ fn titled(msg: &[u8], at: BitPlace, song: u32, unicode: bool) -> Opening
                 Opening::Opened {
                     song,
                     next,
-                    octets: OctetCount(octets as usize),
+                    octets,
                     count: value,
                     unicode,
                 }

@@ -1,9 +1,8 @@
 ghost use mathlib.Core.Path.{_≡_};
-ghost use Prim.Native.Nat.{_+_, _*_, _/_, _^_, _≤_, _<_};
+ghost use Prim.Native.Nat.{_+_, _*_, _^_, _≤_, _<_};
 ghost use lib.ListN.{length};
 ghost use Rattle.bits.specs.Bits.{placeAfter};
 ghost use Rattle.bits.specs.Lent.{over};
-ghost use Rattle.tone.specs.Tone.{perCharacter};
 ghost use Rattle.tone_elements.specs.Answers.{Within};
 ghost use Rattle.tone_read.specs.Judging.{TableAt, OctetsAt, tableOf, titleOf};
 ghost use Rattle.tone_read.specs.Promise.{ReadPromise};
@@ -66,14 +65,6 @@ fn title_place(end: BitPlace, octets: OctetCount) -> BitPlace
     BitPlace(end.0 - 8 - bits::place_after(octets).0)
 }
 
-// How many characters a title of so many octets has.
-fn characters_in(octets: OctetCount, unicode: bool) -> u32
-    requires { ⌜ octets .0 < 2 ^ 32 ⌝ }
-    ensures { λ r. ⌜ r ≡ octets .0 / perCharacter unicode ⌝ }
-{
-    octets.0 as u32 / tone_elements::character_octets(unicode)
-}
-
 // Reads a tone message into a lent table and a lent title.
 pub fn read(msg: &[u8], table: &mut [u32], title: &mut [u8]) -> Reading
     ensures { λ r. ⌜ ReadPromise (now (msg .entry)) (now (table .entry)) (now (title .entry)) (now (table .exit)) (now (title .exit)) r ⌝ }
@@ -104,7 +95,7 @@ pub fn read(msg: &[u8], table: &mut [u32], title: &mut [u8]) -> Reading
                     place: BitPlace(0),
                 };
             }
-            let characters = characters_in(octets, unicode);
+            let characters = tone_elements::characters_in(octets, unicode);
             fill_title(msg, title_place(at, octets), octets, title);
             fill_table(msg, at, entries as usize, table);
             Reading::Read {

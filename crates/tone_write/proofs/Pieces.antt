@@ -226,27 +226,27 @@ module _ (song : ℕ) (u : Bool) (title : List ℕ) where
       rw (ne-eqb song 1 e) (put-as refl (sym (add-zero (reached s))) (put-none buf (s .octets .0) (s .n) (s .acc) h))
 
   module _ (short : characters u title ≤ 15) where
-    pub title-fits : Fits w32 (length title)
-    title-fits = record { fits = go u short }
+    pub title-fits : length title < 2 ^ 32
+    title-fits = go u short
       where
-        go : (u : Bool) → characters u title ≤ 15 → length title < 4294967296
+        go : (u : Bool) → characters u title ≤ 15 → length title < 2 ^ 32
         go true h = omega arith
         go false h = omega arith
 
-    module _ {k : ℕ} (ek : k ≡ perCharacter u) (e : song ≡ 1) where
-      pub title-value : length title / k < 2 ^ 4
+    module _ {k : ℕ} (ek : k ≡ length title / perCharacter u) (e : song ≡ 1) where
+      pub title-value : k < 2 ^ 4
       title-value = rw ek (omega arith)
 
       pub title-room : (z : ℕ) (kept : List ℕ) → z + length (titleBits song u title) ≤ placeAfter (length kept) → z + 4 ≤ placeAfter (length kept)
       title-room z kept l = omega (arith, basic-length e)
 
-      module _ (z : ℕ) {old : List Bool} {kept mid : List ℕ} {at n acc : ℕ} (p : Put old (bitsN 4 (length title / k)) (z + 4) kept mid at n acc) where
+      module _ (z : ℕ) {old : List Bool} {kept mid : List ℕ} {at n acc : ℕ} (p : Put old (bitsN 4 k) (z + 4) kept mid at n acc) where
         pub title-rest : z + length (titleBits song u title) ≤ placeAfter (length kept) → length mid ≡ length kept → 8 * at + n + length (bitsOf title) ≤ placeAfter (length mid)
         title-rest l h = omega (arith, p .place, basic-length e)
 
         pub title-put : {buf : List ℕ} {at′ n′ acc′ : ℕ} → Put (written mid at n acc) (bitsOf title) (8 * at + n + length (bitsOf title)) mid buf at′ n′ acc′
             → Put old (titleBits song u title) (z + length (titleBits song u title)) kept buf at′ n′ acc′
         title-put q =
-            put-as (ap (λ (x : ℕ). bitsN 4 (length title / x) ++ bitsOf title) ek ∙ sym (basic e)) (omega (arith, p .place, basic-length e)) (put-then p q (omega (arith, p .place)))
+            put-as (ap (λ (x : ℕ). bitsN 4 x ++ bitsOf title) ek ∙ sym (basic e)) (omega (arith, p .place, basic-length e)) (put-then p q (omega (arith, p .place)))
 
 pub ruleset titles = (title-none, title-fits, title-value, title-room, title-rest, title-put)

@@ -111,7 +111,7 @@ fn put_title(out: &mut [u8], from: Sink, song: u32, unicode: bool, title: &[u8])
     if song != 1 {
         return from;
     }
-    let n = title.len() as u32 / tone_elements::character_octets(unicode);
+    let n = tone_elements::characters_in(OctetCount(title.len()), unicode);
     let s = bits::put(out, from, 4, n);
     put_octets(out, s, title)
 }
@@ -170,16 +170,16 @@ fn titled(song: u32, unicode: bool, title: &[u8]) -> bool
     n <= 15
 }
 
-// The bits ahead of the patterns, with so many octets of title.
-fn front_bits(song: u32, unicode: bool, octets: OctetCount) -> usize
+// Where the patterns begin, behind so many octets of title.
+fn front_end(song: u32, unicode: bool, octets: OctetCount) -> BitPlace
     requires { ⌜ octets .0 < 2 ^ 60 ⌝ }
-    ensures { λ r. ⌜ r ≡ frontLength song unicode (octets .0) ⌝ }
+    ensures { λ r. ⌜ r .0 ≡ frontLength song unicode (octets .0) ⌝ }
 {
     let lead = lead_bits(unicode) as usize;
     if song == 1 {
-        return lead + 22 + bits::place_after(octets).0;
+        return BitPlace(lead + 22 + bits::place_after(octets).0);
     }
-    lead + 18
+    BitPlace(lead + 18)
 }
 
 // Writes a tone whose song type and title are fine.
@@ -193,7 +193,8 @@ fn save(song: u32, unicode: bool, title: &[u8], table: &[u32], out: &mut [u8]) -
             place: BitPlace(0),
         },
         Judged::Sound { patterns, bits } => {
-            let end = BitPlace(front_bits(song, unicode, OctetCount(title.len())) + bits);
+            let front = front_end(song, unicode, OctetCount(title.len()));
+            let end = BitPlace(front.0 + bits);
             let octets = bits::octets_to(end).0 + 1;
             if 4096 < octets {
                 return Writing::Refused {

@@ -27,13 +27,10 @@ put-entries-requires c κs =
 enum-known-number : tie.Need-enum-known-number
 enum-known-number c = search needs
 
-cast-put-refusal : tie.Need-cast-put-refusal
-cast-put-refusal c =
-    let s = c .before .before .before .before .before .before .before .before .before .before .before .before in
-    refused-small (s .args .msg .now) (s .args .list .now) (c .before .before .before .before .before .before .before .list .ensures) (c .before .before .before .number .given .1)
-
 put-refusal-requires : tie.Need-put-refusal-requires
-put-refusal-requires c κs = search needs
+put-refusal-requires c κs =
+    let s = c .before .before .before .before .before .before .before .before .before .before .before in
+    (search needs, refused-small (s .args .msg .now) (s .args .list .now) (c .before .before .before .before .before .before .list .ensures) (c .before .before .number .given .1))
 
 same-length : tie.Need-same-length
 same-length c = search needs
@@ -58,9 +55,9 @@ same-length-4 c = search needs
 
 returns-2 : tie.Need-returns-2
 returns-2 c =
-    let s = c .before .before .before .before .before .before .before .before .before .before .before .before .before .before .before in
-    let q = c .before .before .before .before .before .before .before .before .before .before .list .ensures in
-    let e = c .before .before .before .before .before .before .number .given .1 in
+    let s = c .before .before .before .before .before .before .before .before .before .before .before .before .before .before in
+    let q = c .before .before .before .before .before .before .before .before .before .list .ensures in
+    let e = c .before .before .before .before .before .number .given .1 in
     let t = c .before .before .put-refusal .ensures in
     (refused-text (s .args .msg .now) (s .args .list .now) (s .args .text .now) q e (t .0), omega (arith, t .1, t .0 .long, s .pre))
 
@@ -74,7 +71,6 @@ answer-spec =
     cast-put-entries
     put-entries-requires
     enum-known-number
-    cast-put-refusal
     put-refusal-requires
     same-length
     same-length-2

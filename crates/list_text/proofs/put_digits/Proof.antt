@@ -5,10 +5,10 @@ use borrow.Author.Needs.{needs}
 use Rattle.list_text.proofs.Texts.{Spelling, spelling}
 
 abbrev Inv-loop : tie.InvT-loop
-Inv-loop out₀ at k n i₀ rest₀ out i rest = Spelling out₀ at k n out i rest
+Inv-loop out₀ k n first i₀ rest₀ out i rest = Spelling out₀ first k n out i rest
 
 abbrev μ-loop : tie.MeasureT-loop
-μ-loop out₀ at k n i₀ rest₀ out i rest = i
+μ-loop out₀ k n first i₀ rest₀ out i rest = i
 
 loop-holds : tie.Need-loop-holds Inv-loop μ-loop
 loop-holds c = search (spelling, needs)

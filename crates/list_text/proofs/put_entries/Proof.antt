@@ -6,10 +6,10 @@ use Prim.Native.Nat.{_-_}
 use Rattle.list_text.proofs.Texts.{Lining, lining}
 
 abbrev Inv-loop : tie.InvT-loop
-Inv-loop out₀ start list entries at₀ i₀ out at i = Lining out₀ start list entries out at i
+Inv-loop out₀ list entries at₀ i₀ out at i = Lining out₀ (at₀ .0) list entries out (at .0) i
 
 abbrev μ-loop : tie.MeasureT-loop
-μ-loop out₀ start list entries at₀ i₀ out at i = entries - i
+μ-loop out₀ list entries at₀ i₀ out at i = entries - i
 
 loop-holds : tie.Need-loop-holds Inv-loop μ-loop
 loop-holds c = search (lining, needs)

@@ -31,7 +31,7 @@ returns c =
     let v = c .before .before .before .before .before .before .before .before .before .before .put-number3 .ensures in
     let w = c .before .before .before .before .before .before .put-number4 .ensures in
     let x = c .before .before .put-number5 .ensures in
-    (line-put (a .out .now) (a .at) (a .sound) (a .microseconds) (t .0) (u .0) (v .0) (w .0) (x .0), omega (arith, t .1, u .1, v .1, w .1, x .1))
+    (line-put (a .out .now) (a .at .0) (a .sound) (a .microseconds) (t .0) (u .0) (v .0) (w .0) (x .0), omega (arith, t .1, u .1, v .1, w .1, x .1))
 
 pub put-entry-spec : {M : Type 1} → statement M
 put-entry-spec =

@@ -10,17 +10,14 @@ places-requires c κs = search needs
 put-digits-requires : tie.Need-put-digits-requires
 put-digits-requires c κs = search (number-put, needs)
 
-add-out : tie.Need-add-out
-add-out c = search (number-put, needs)
+add-end : tie.Need-add-end
+add-end c = search (number-put, needs)
 
 slice-write-out : tie.Need-slice-write-out
 slice-write-out c = search (number-put, needs)
 
-add-result : tie.Need-add-result
-add-result c = search (number-put, needs)
-
-add-result-2 : tie.Need-add-result-2
-add-result-2 c = search (number-put, needs)
+add-t11 : tie.Need-add-t11
+add-t11 c = search (number-put, needs)
 
 same-length : tie.Need-same-length
 same-length c = search needs
@@ -34,9 +31,8 @@ put-number-spec =
     (tie.spec
     places-requires
     put-digits-requires
-    add-out
+    add-end
     slice-write-out
-    add-result
-    add-result-2
+    add-t11
     same-length
     returns)

@@ -20,6 +20,9 @@ slice-aggregate-put-text-2 c = search needs
 put-text-requires-2 : tie.Need-put-text-requires-2
 put-text-requires-2 c κs = search needs
 
+cast-put-number : tie.Need-cast-put-number
+cast-put-number c = search needs
+
 put-number-requires-2 : tie.Need-put-number-requires-2
 put-number-requires-2 c κs = search needs
 
@@ -28,12 +31,12 @@ same-length c = search needs
 
 returns : tie.Need-returns
 returns c =
-    let a = c .before .before .before .before .before .before .before .before .before .before .before .before .before .before .before .before .before .before .before .args in
+    let a = c .before .before .before .before .before .before .before .before .before .before .before .before .before .before .before .before .before .before .before .before .args in
     let w = c .before .before .put-number2 .ensures in
-    let v = c .before .before .before .before .before .before .put-text2 .ensures in
-    let u = c .before .before .before .before .before .before .before .before .before .before .before .put-number .ensures in
-    let t = c .before .before .before .before .before .before .before .before .before .before .before .before .before .before .before .put-text .ensures in
-    (refusal-put (a .out .now) (a .number) (a .place) (t .0) (u .0) (v .0) (w .0), omega (arith, t .1, u .1, v .1, w .1))
+    let v = c .before .before .before .before .before .before .before .put-text2 .ensures in
+    let u = c .before .before .before .before .before .before .before .before .before .before .before .before .put-number .ensures in
+    let t = c .before .before .before .before .before .before .before .before .before .before .before .before .before .before .before .before .put-text .ensures in
+    (refusal-put (a .out .now) (a .number) (a .place .0) (t .0) (u .0) (v .0) (w .0), omega (arith, t .1, u .1, v .1, w .1))
 
 pub put-refusal-spec : {M : Type 1} → statement M
 put-refusal-spec =
@@ -44,6 +47,7 @@ put-refusal-spec =
     put-number-requires
     slice-aggregate-put-text-2
     put-text-requires-2
+    cast-put-number
     put-number-requires-2
     same-length
     returns)

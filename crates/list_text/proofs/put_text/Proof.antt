@@ -7,10 +7,10 @@ use lib.ListN.{length}
 use Rattle.list_text.proofs.Texts.{Putting, putting}
 
 abbrev Inv-loop : tie.InvT-loop
-Inv-loop out₀ at src i₀ out i = Putting out₀ at src out i
+Inv-loop out₀ src first i₀ out i = Putting out₀ first src out i
 
 abbrev μ-loop : tie.MeasureT-loop
-μ-loop out₀ at src i₀ out i = length src - i
+μ-loop out₀ src first i₀ out i = length src - i
 
 loop-holds : tie.Need-loop-holds Inv-loop μ-loop
 loop-holds c = search (putting, needs)
@@ -33,8 +33,8 @@ loop-less c = search (putting, needs)
 loop-again : tie.Need-loop-again Inv-loop μ-loop
 loop-again c = search (putting, needs)
 
-add-result : tie.Need-add-result Inv-loop μ-loop
-add-result c = search (putting, needs)
+add-t11 : tie.Need-add-t11 Inv-loop μ-loop
+add-t11 c = search (putting, needs)
 
 same-length : tie.Need-same-length Inv-loop μ-loop
 same-length c = search (putting, needs)
@@ -55,6 +55,6 @@ put-text-spec =
     add-i
     loop-less
     loop-again
-    add-result
+    add-t11
     same-length
     returns)

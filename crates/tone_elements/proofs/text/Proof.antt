@@ -25,14 +25,14 @@ add-t12 c = search needs
 returns : tie.Need-returns
 returns c = search (texts, needs)
 
+add-t8 : tie.Need-add-t8
+add-t8 c = search needs
+
 character-octets-requires : tie.Need-character-octets-requires
 character-octets-requires c κs = search needs
 
-mul-t15 : tie.Need-mul-t15
-mul-t15 c = search (texts, needs)
-
-add-t8 : tie.Need-add-t8
-add-t8 c = search needs
+mul-t17 : tie.Need-mul-t17
+mul-t17 c = search (texts, needs)
 
 returns-2 : tie.Need-returns-2
 returns-2 c = search (texts, needs)
@@ -48,7 +48,7 @@ text-spec =
     sub-t11
     add-t12
     returns
-    character-octets-requires
-    mul-t15
     add-t8
+    character-octets-requires
+    mul-t17
     returns-2)

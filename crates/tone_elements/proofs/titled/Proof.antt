@@ -7,26 +7,23 @@ use Rattle.tone_elements.proofs.Openings.{titles}
 title-requires : tie.Need-title-requires
 title-requires c κs = search needs
 
-enum-known-number : tie.Need-enum-known-number
-enum-known-number c = search needs
+enum-known-fault : tie.Need-enum-known-fault
+enum-known-fault c = search needs
 
-enum-known-octets : tie.Need-enum-known-octets
-enum-known-octets c = search needs
+enum-known-behind : tie.Need-enum-known-behind
+enum-known-behind c = search needs
 
 any-requires : tie.Need-any-requires
 any-requires c κs = search (titles, needs)
 
-enum-known-number-2 : tie.Need-enum-known-number-2
-enum-known-number-2 c = search needs
+enum-known-number : tie.Need-enum-known-number
+enum-known-number c = search needs
 
 enum-known-value : tie.Need-enum-known-value
 enum-known-value c = search needs
 
 returns : tie.Need-returns
 returns c = search (titles, needs)
-
-cast-t18 : tie.Need-cast-t18
-cast-t18 c = search (titles, needs)
 
 returns-2 : tie.Need-returns-2
 returns-2 c = search (titles, needs)
@@ -42,13 +39,12 @@ titled-spec =
     tie.close
     (tie.spec
     title-requires
-    enum-known-number
-    enum-known-octets
+    enum-known-fault
+    enum-known-behind
     any-requires
-    enum-known-number-2
+    enum-known-number
     enum-known-value
     returns
-    cast-t18
     returns-2
     returns-3
     returns-4)

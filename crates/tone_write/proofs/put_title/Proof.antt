@@ -7,14 +7,8 @@ use Rattle.tone_write.proofs.Pieces.{titles}
 returns : tie.Need-returns
 returns c = search (titles, c .if1 .taken, needs)
 
-cast-n : tie.Need-cast-n
-cast-n c = search (titles, needs)
-
-character-octets-requires : tie.Need-character-octets-requires
-character-octets-requires c κs = search needs
-
-div-n : tie.Need-div-n
-div-n c = search needs
+characters-in-requires : tie.Need-characters-in-requires
+characters-in-requires c κs = search (titles, needs)
 
 put-requires : tie.Need-put-requires
 put-requires c κs = search (titles, needs)
@@ -33,9 +27,7 @@ put-title-spec =
     tie.close
     (tie.spec
     returns
-    cast-n
-    character-octets-requires
-    div-n
+    characters-in-requires
     put-requires
     put-octets-requires
     same-length

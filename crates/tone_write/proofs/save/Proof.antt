@@ -2,7 +2,7 @@
 use borrow.Author.Needs.{needs}
 use Rattle.tone_write.proofs.save.Statement.{statement}
 use Rattle.tone_write.proofs.save.Tie as tie
-use Rattle.tone_write.proofs.Told.{savings}
+use Rattle.tone_write.proofs.Told.{savings, save-accepted}
 
 judge-requires : tie.Need-judge-requires
 judge-requires c κs = search needs
@@ -13,11 +13,11 @@ enum-known-number c = search needs
 enum-known-patterns : tie.Need-enum-known-patterns
 enum-known-patterns c = search needs
 
-front-bits-requires : tie.Need-front-bits-requires
-front-bits-requires c κs = search (savings, needs)
+front-end-requires : tie.Need-front-end-requires
+front-end-requires c κs = search (savings, needs)
 
-add-t17 : tie.Need-add-t17
-add-t17 c = search (savings, needs)
+add-if2 : tie.Need-add-if2
+add-if2 c = search (savings, needs)
 
 octets-to-requires : tie.Need-octets-to-requires
 octets-to-requires c κs = search (savings, needs)
@@ -32,7 +32,11 @@ returns-2 : tie.Need-returns-2
 returns-2 c = search (savings, needs)
 
 fill-requires : tie.Need-fill-requires
-fill-requires c κs = search (savings, needs)
+fill-requires c κs =
+    let b = c .before .before .before .before .before .before .before .before .before .before .before .before .before .before in
+    let a = b .args in
+    let g = c .before .before .before .before .before .before .before .before .patterns .given .1 in
+    (save-accepted (a .song) (a .unicode) (a .title .now) (a .table .now) (a .out .now) (b .pre .0) (b .pre .1) (c .before .before .before .before .before .before .before .before .before .before .judge .ensures) g (c .before .before .before .before .before .before .front-end .ensures) (c .before .before .before .before .octets-to .ensures) (c .before .before .if1 .left) (c .before .if2 .left), search (savings, needs))
 
 returns-3 : tie.Need-returns-3
 returns-3 c = search (savings, needs)
@@ -50,8 +54,8 @@ save-spec =
     judge-requires
     enum-known-number
     enum-known-patterns
-    front-bits-requires
-    add-t17
+    front-end-requires
+    add-if2
     octets-to-requires
     add-octets
     returns
