@@ -9,3 +9,4 @@ pub mod Bounds
 pub mod Grounds
 pub mod Packing
 pub mod Settling
+pub mod Samples

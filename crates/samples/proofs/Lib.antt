@@ -5,3 +5,5 @@ pub mod Label
 pub mod List
 pub mod Edits
 pub mod Bounds
+pub mod Pinned
+pub mod Text
