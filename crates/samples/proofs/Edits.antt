@@ -31,6 +31,7 @@ edits = record {
   noRoom = refl;
   noList = refl;
   noNumbers = refl;
+  place = refl;
   appended = refl;
   replaced = refl;
   replacedNumbers = refl;

@@ -42,6 +42,8 @@ lists = record {
   p1 = refl;
   cells = refl;
   rows = refl;
+  endless = refl;
   longest = refl;
   tooLong = refl;
+  tooLongFirst = refl;
 }

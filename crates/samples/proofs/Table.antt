@@ -20,6 +20,7 @@ readings = record {
   noWideTitle = refl;
   messageFirst = refl;
   table = refl;
+  headers = refl;
   title = refl;
   kept = refl;
 }
@@ -39,12 +40,14 @@ writings = record {
   headerInBody = refl;
   cutBody = refl;
   recall = refl;
+  recalls = refl;
   noPattern = refl;
   patterns = refl;
   room = refl;
   p1 = refl;
   titleWritten = refl;
   kindsWritten = refl;
+  partsWritten = refl;
   numbers = refl;
   noNumbers = refl;
 }

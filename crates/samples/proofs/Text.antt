@@ -16,6 +16,7 @@ unfolding field bitsN table.width table.allowed reading.element reading.filled r
 texts = record {
   p1 = refl;
   p1Roomy = refl;
+  three = refl;
   p4 = refl;
   noRoom = refl;
   returns = refl;

@@ -3,19 +3,18 @@ use Prim.Native.Nat.{ℕ}
 use mathlib.Core.Path.{_≡_}
 use mathlib.Core.Bool.{false}
 use mathlib.Core.List.{List, [], _∷_, _++_, map}
-use lib.ListN.{length, set, replicate}
-use lib.IntN.{pos, negsuc}
+use lib.ListN.{set, replicate}
+use lib.IntN.{pos}
 use Rattle.bits.specs.Outcome.{Outcome, accepted, refused}
 use Rattle.tone.specs.Tone.{Tone}
 use Rattle.edit_change.specs.declared.Edit.{Edit}
 use Rattle.edit_change.specs.declared.Edit.the-variants.{Replace, Insert, Delete}
+use Rattle.edit_change.specs.Change.{instructionPlace}
 use Rattle.edit.specs.Editing.{Edited, editTone, editMessage, bufferAfter, listAfter}
 use Rattle.edit.specs.Promise.{editNumbers}
-use Rattle.samples.specs.Samples.{message, withScale, withoutTempo}
-
--- part A with C, part B with D, and a recall of A
-abbrev pub twoParts : List ℕ
-twoParts = 0x02 ∷ 0x4A ∷ 0x3A ∷ 0x80 ∷ 0xC0 ∷ 0x00 ∷ 0x24 ∷ 0x50 ∷ 0x10 ∷ 0x01 ∷ 0x26 ∷ 0x80 ∷ 0x00 ∷ 0x00 ∷ 0x00 ∷ []
+use Rattle.bitmap.specs.Bitmap.{refusalOf}
+use Rattle.samples.specs.Samples.{message, tone, withoutTempo}
+use Rattle.samples.specs.Message.{twoParts}
 
 -- an edit of P1 in a buffer of 11 octets, with a list of two numbers
 abbrev pub ofP1 : Edit → ℕ → ℕ → Outcome Edited
@@ -31,11 +30,6 @@ octetsLeft o = bufferAfter o 15 (twoParts ++ (0xEE ∷ []))
 
 abbrev pub numbersLeft : Outcome Edited → List ℕ
 numbersLeft o = listAfter o (replicate 8 77)
-
--- the number of a refusal, 0 where there is none
-abbrev pub numberOf : {A : Type 0} → Outcome A → ℕ
-numberOf (accepted a) = 0
-numberOf (refused n p) = n
 
 -- a tone whose part A has so many instructions
 abbrev pub partOf : ℕ → Tone
@@ -64,14 +58,16 @@ pub record Edits : Type 0 where
   -- 13: a part's only instruction, here in the second pattern
   pub only : ofTwo Delete 1 0 ≡ refused 13 0
   -- 14: inserting into a part of 255; 254 are no fault, and neither is replacing
-  pub full : map (λ n. numberOf (editTone (Insert 131072) 0 n (partOf n))) (254 ∷ 255 ∷ []) ≡ 0 ∷ 14 ∷ []
-  pub fullReplaced : numberOf (editTone (Replace 131073) 0 254 (partOf 255)) ≡ 0
+  pub full : map (λ n. refusalOf (editTone (Insert 131072) 0 n (partOf n))) (254 ∷ 255 ∷ []) ≡ 0 ∷ 14 ∷ []
+  pub fullReplaced : refusalOf (editTone (Replace 131073) 0 254 (partOf 255)) ≡ 0
   -- 11 for the buffer: P2 has 11 octets
   pub noRoom : editMessage message 10 (Insert 131072) 0 1 2 ≡ refused 11 0
   -- 11 for the list: it has one entry, and so two numbers
   pub noList : editMessage (message ++ (0xEE ∷ [])) 10 (Insert 131072) 0 1 1 ≡ refused 11 0
   -- all other numbers 0
   pub noNumbers : editNumbers 10 (ofP1 Delete 1 0) ≡ record { refusal = 12; place = 0; length = 0; entries = 0; mark = 0; change = pos 0 }
+  -- where an instruction stands: the note of P1
+  pub place : instructionPlace tone 0 1 ≡ 59
   -- insert at the count appends
   pub appended : bufferAfter (ofP1 (Insert 131072) 0 2) 10 (message ++ (0xEE ∷ [])) ≡ 0x02 ∷ 0x4A ∷ 0x3A ∷ 0x80 ∷ 0x40 ∷ 0x00 ∷ 0x71 ∷ 0xC6 ∷ 0x90 ∷ 0x80 ∷ 0x00 ∷ []
   -- replace: C for A, and the octet behind is left

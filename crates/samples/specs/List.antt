@@ -2,14 +2,14 @@
 use Prim.Native.Nat.{ℕ}
 use mathlib.Core.Path.{_≡_}
 use mathlib.Core.Bool.{true, false}
-use mathlib.Core.List.{List, [], _∷_, _++_, map}
-use lib.ListN.{length, replicate}
-use Rattle.bits.specs.Outcome.{Outcome, accepted, refused}
-use Rattle.tone.specs.Tone.{Pattern, Tone}
+use mathlib.Core.List.{List, [], _∷_, _++_}
+use lib.ListN.{set, replicate}
+use Rattle.bits.specs.Outcome.{accepted, refused}
+use Rattle.tone.specs.Tone.{Pattern}
 use Rattle.list_rules.specs.declared.Entry.{Entry}
 use Rattle.list_rules.specs.Sounding.{atStart, numbers, entryAt}
 use Rattle.list_rules.specs.Playing.{Listing, playingList}
-use Rattle.list_rules.specs.Listing.{anyTooLong, listTone, fitsNumbers, fitsBoth}
+use Rattle.list_rules.specs.Listing.{anyTooLong, fitted, listTone, fitsNumbers, fitsBoth}
 use Rattle.list.specs.Promise.{listNumbers, cellsAfter, rowsAfter}
 use Rattle.samples.specs.Samples.{message, oneNote}
 
@@ -92,6 +92,10 @@ pub record Lists : Type 0 where
   pub cells : cellsAfter (listTone message (fitsNumbers 3)) (77 ∷ 77 ∷ 77 ∷ []) ≡ 10503 ∷ 480000 ∷ 77 ∷ []
   pub rows : rowsAfter (listTone message (fitsBoth 2 2)) (replicate 2 (record { note = 0; scale = 0; style = 0; volume = 0; microseconds = 0 }))
       ≡ record { note = 10; scale = 1; style = 0; volume = 7; microseconds = 480000 } ∷ record { note = 0; scale = 0; style = 0; volume = 0; microseconds = 0 } ∷ []
+  -- P1 with loop 15: the mark is 0
+  pub endless : listNumbers (listTone (set (set message 4 0x41) 5 0xE0) (fitsNumbers 2)) ≡ record { refusal = 0; place = 0; entries = 1; mark = 0 }
   -- 19 for a duration above 32 bits
   pub longest : anyTooLong (record { note = 0; scale = 0; style = 0; volume = 0; microseconds = 4294967295 } ∷ []) ≡ false
   pub tooLong : anyTooLong (record { note = 0; scale = 0; style = 0; volume = 0; microseconds = 4294967296 } ∷ []) ≡ true
+  -- ahead of 11
+  pub tooLongFirst : fitted (fitsNumbers 0) (record { entries = record { note = 0; scale = 0; style = 0; volume = 0; microseconds = 4294967296 } ∷ []; mark = 4294967295 }) ≡ refused 19 0

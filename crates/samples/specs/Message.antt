@@ -3,11 +3,11 @@ use Prim.Native.Nat.{ℕ, zero, suc}
 use mathlib.Core.Path.{_≡_}
 use mathlib.Core.Bool.{true, false}
 use mathlib.Core.List.{List, [], _∷_, _++_, map}
-use lib.ListN.{length, take, set, replicate}
+use lib.ListN.{take, set, replicate}
 use Rattle.bits.specs.Outcome.{Outcome, accepted, refused}
-use Rattle.tone.specs.Tone.{Pattern, Tone, cells}
+use Rattle.tone.specs.Tone.{Pattern, Tone}
 use Rattle.tone.specs.Reading.{readTone}
-use Rattle.samples.specs.Samples.{message, tone, withScale}
+use Rattle.samples.specs.Samples.{message, withScale}
 
 -- ---- the messages
 
@@ -38,6 +38,10 @@ oneShort octet = 0x02 ∷ 0x4A ∷ 0x3A ∷ 0x80 ∷ 0x40 ∷ 0x00 ∷ octet ∷
 -- part A with scale 0, and behind it a recall: the octet has the id B as 08, A as 00
 abbrev pub thenRecall : ℕ → List ℕ
 thenRecall octet = 0x02 ∷ 0x4A ∷ 0x3A ∷ 0x80 ∷ 0x80 ∷ 0x00 ∷ 0x28 ∷ octet ∷ 0x00 ∷ 0x00 ∷ 0x00 ∷ []
+
+-- part A with C, part B with D, and a recall of A
+abbrev pub twoParts : List ℕ
+twoParts = 0x02 ∷ 0x4A ∷ 0x3A ∷ 0x80 ∷ 0xC0 ∷ 0x00 ∷ 0x24 ∷ 0x50 ∷ 0x10 ∷ 0x01 ∷ 0x26 ∷ 0x80 ∷ 0x00 ∷ 0x00 ∷ 0x00 ∷ []
 
 -- ---- what is asked of them
 

@@ -3,14 +3,15 @@ use Prim.Native.Nat.{ℕ}
 use mathlib.Core.Path.{_≡_}
 use mathlib.Core.Bool.{Bool, true, false}
 use mathlib.Core.List.{List, [], _∷_, _++_, map}
-use lib.ListN.{length, take, set, replicate}
+use lib.ListN.{set, replicate}
 use Rattle.bits.specs.Outcome.{Outcome, accepted, refused}
 use Rattle.tone.specs.Tone.{Tone}
 use Rattle.tone_read.specs.Promise.{readInto, readNumbers, tableAfter, titleAfter}
 use Rattle.tone_write.specs.Judging.{writeTone}
 use Rattle.tone_write.specs.Promise.{writeNumbers, octetsAfter}
+use Rattle.bitmap.specs.Bitmap.{refusalOf}
 use Rattle.samples.specs.Samples.{message}
-use Rattle.samples.specs.Message.{titled, wide, fifteen, everyKind}
+use Rattle.samples.specs.Message.{titled, wide, fifteen, everyKind, twoParts}
 
 -- ---- reading into a table and a title
 
@@ -31,6 +32,8 @@ pub record Readings : Type 0 where
   pub messageFirst : readNumbers (readInto (set message 1 0x0A) 0 0) ≡ record { refusal = 3; place = 8; song = 0; unicode = false; characters = 0; patterns = 0; entries = 0 }
   -- kind × 65,536 + payload, and id × 4,096 + loop × 256 + specifier; the cells behind are left
   pub table : tableAfter (readInto everyKind 0 9) (replicate 9 77) ≡ 15878 ∷ 65536 ∷ 65943 ∷ 131075 ∷ 196610 ∷ 262175 ∷ 327695 ∷ 77 ∷ 77 ∷ []
+  -- several headers, in message order
+  pub headers : tableAfter (readInto twoParts 0 5) (replicate 5 77) ≡ 1 ∷ 65576 ∷ 4097 ∷ 65640 ∷ 0 ∷ []
   -- a title's octets; those behind are left
   pub title : titleAfter (readInto wide 5 2) (replicate 5 77) ≡ 0x01 ∷ 0x41 ∷ 0x20 ∷ 0xAC ∷ 77 ∷ []
   -- a refusal leaves both
@@ -50,43 +53,41 @@ basic unicode octets = writeTone 1 unicode (replicate octets 0x41) (1 ∷ 65864 
 abbrev pub alone : ℕ → List ℕ
 alone e = 1 ∷ e ∷ []
 
--- the number of a refusal, 0 where there is none
-abbrev pub numberOf : Outcome Tone → ℕ
-numberOf (accepted t) = 0
-numberOf (refused n p) = n
-
 pub record Writings : Type 0 where
   -- 4: the song types 0 and 3
-  pub songs : map (λ s. numberOf (writeTone s false [] (1 ∷ 65864 ∷ []) 99)) (0 ∷ 1 ∷ 2 ∷ 3 ∷ []) ≡ 4 ∷ 0 ∷ 0 ∷ 4 ∷ []
+  pub songs : map (λ s. refusalOf (writeTone s false [] (1 ∷ 65864 ∷ []) 99)) (0 ∷ 1 ∷ 2 ∷ 3 ∷ []) ≡ 4 ∷ 0 ∷ 0 ∷ 4 ∷ []
   -- 17: more than 15 characters; odd octets are no fault without UNICODE
-  pub titles : map (λ n. numberOf (basic false n)) (0 ∷ 1 ∷ 15 ∷ 16 ∷ []) ≡ 0 ∷ 0 ∷ 0 ∷ 17 ∷ []
+  pub titles : map (λ n. refusalOf (basic false n)) (0 ∷ 1 ∷ 15 ∷ 16 ∷ []) ≡ 0 ∷ 0 ∷ 0 ∷ 17 ∷ []
   -- under UNICODE 15 characters are 30 octets, and odd octets are a fault
-  pub wideTitles : map (λ n. numberOf (basic true n)) (0 ∷ 1 ∷ 2 ∷ 29 ∷ 30 ∷ 31 ∷ 32 ∷ []) ≡ 0 ∷ 17 ∷ 0 ∷ 17 ∷ 0 ∷ 17 ∷ 17 ∷ []
+  pub wideTitles : map (λ n. refusalOf (basic true n)) (0 ∷ 1 ∷ 2 ∷ 29 ∷ 30 ∷ 31 ∷ 32 ∷ []) ≡ 0 ∷ 17 ∷ 0 ∷ 17 ∷ 0 ∷ 17 ∷ 17 ∷ []
   -- a title in a temporary song
   pub temporaryTitle : writeTone 2 false (0x41 ∷ []) (1 ∷ 65864 ∷ []) 99 ≡ refused 17 0
   -- 6: kind 6, and the first payload that each kind does not have: header, note, scale, style, tempo, volume
   pub kindSix : temporary (393216 ∷ []) ≡ refused 6 0
-  pub payloads : map (λ t. numberOf (temporary t)) ((16384 ∷ []) ∷ alone 66048 ∷ alone 131076 ∷ alone 196611 ∷ alone 262176 ∷ alone 327696 ∷ []) ≡ replicate 6 6
+  pub payloads : map (λ t. refusalOf (temporary t)) ((16384 ∷ []) ∷ alone 66048 ∷ alone 131076 ∷ alone 196611 ∷ alone 262176 ∷ alone 327696 ∷ []) ≡ replicate 6 6
   -- and the last that it has: D with loop 15 and 255 instructions, which are not there, then the others
-  pub lastPayloads : map (λ t. numberOf (temporary t)) ((16383 ∷ []) ∷ alone 65943 ∷ alone 131075 ∷ alone 196610 ∷ alone 262175 ∷ alone 327695 ∷ []) ≡ 18 ∷ replicate 5 0
+  pub lastPayloads : map (λ t. refusalOf (temporary t)) ((16383 ∷ []) ∷ alone 65943 ∷ alone 131075 ∷ alone 196610 ∷ alone 262175 ∷ alone 327695 ∷ []) ≡ 18 ∷ replicate 5 0
   -- note 13, and durations 6 and 7
-  pub notes : map (λ t. numberOf (temporary t)) (alone 65952 ∷ alone 65880 ∷ alone 65884 ∷ []) ≡ replicate 3 6
+  pub notes : map (λ t. refusalOf (temporary t)) (alone 65952 ∷ alone 65880 ∷ alone 65884 ∷ []) ≡ replicate 3 6
   -- 18: an instruction where a header is due, a header where an instruction is due, a body cut short
   pub instructionFirst : temporary (65864 ∷ []) ≡ refused 18 0
   pub headerInBody : temporary (1 ∷ 1 ∷ 65864 ∷ []) ≡ refused 18 0
   pub cutBody : temporary (2 ∷ 65864 ∷ []) ≡ refused 18 0
   -- 7: a recall with nothing earlier of that id
-  pub recall : map (λ t. numberOf (temporary t)) ((0 ∷ []) ∷ (1 ∷ 65864 ∷ 4096 ∷ []) ∷ (1 ∷ 65864 ∷ 0 ∷ []) ∷ []) ≡ 7 ∷ 7 ∷ 0 ∷ []
+  pub recall : map (λ t. refusalOf (temporary t)) ((0 ∷ []) ∷ (1 ∷ 65864 ∷ 4096 ∷ []) ∷ (1 ∷ 65864 ∷ 0 ∷ []) ∷ []) ≡ 7 ∷ 7 ∷ 0 ∷ []
+  -- each of the four parts may be recalled, once it is defined
+  pub recalls : map (λ t. refusalOf (temporary t)) ((1 ∷ 65864 ∷ 0 ∷ []) ∷ (4097 ∷ 65864 ∷ 4096 ∷ []) ∷ (8193 ∷ 65864 ∷ 8192 ∷ []) ∷ (12289 ∷ 65864 ∷ 12288 ∷ []) ∷ []) ≡ replicate 4 0
   -- 5: no pattern
   pub noPattern : temporary [] ≡ refused 5 0
   -- 18: 256 patterns, of which 255 recall the first; 255 are no fault
-  pub patterns : map (λ n. numberOf (writeTone 2 false [] (alone 131072 ++ replicate n 0) 4096)) (254 ∷ 255 ∷ []) ≡ 0 ∷ 18 ∷ []
+  pub patterns : map (λ n. refusalOf (writeTone 2 false [] (alone 131072 ++ replicate n 0) 4096)) (254 ∷ 255 ∷ []) ≡ 0 ∷ 18 ∷ []
   -- 11: one octet too few
-  pub room : map (λ n. numberOf (writeTone 2 false [] (2 ∷ 262158 ∷ 65864 ∷ []) n)) (9 ∷ 10 ∷ []) ≡ 11 ∷ 0 ∷ []
+  pub room : map (λ n. refusalOf (writeTone 2 false [] (2 ∷ 262158 ∷ 65864 ∷ []) n)) (9 ∷ 10 ∷ []) ≡ 11 ∷ 0 ∷ []
   -- the octets, those behind left: P1, and a title under UNICODE
   pub p1 : octetsAfter (temporary (2 ∷ 262158 ∷ 65864 ∷ [])) (replicate 12 0xEE) ≡ message ++ (0xEE ∷ 0xEE ∷ [])
   pub titleWritten : octetsAfter (writeTone 1 true (0x01 ∷ 0x41 ∷ 0x20 ∷ 0xAC ∷ []) (1 ∷ 65864 ∷ []) 15) (replicate 15 0xEE) ≡ wide
   pub kindsWritten : octetsAfter (temporary (15878 ∷ 65536 ∷ 65943 ∷ 131075 ∷ 196610 ∷ 262175 ∷ 327695 ∷ [])) (replicate 14 0xEE) ≡ everyKind
+  pub partsWritten : octetsAfter (temporary (1 ∷ 65576 ∷ 4097 ∷ 65640 ∷ 0 ∷ [])) (replicate 15 0xEE) ≡ twoParts
   -- the numbers: how many octets, and on a refusal none
   pub numbers : writeNumbers (temporary (2 ∷ 262158 ∷ 65864 ∷ [])) ≡ record { refusal = 0; place = 0; octets = 10 }
   pub noNumbers : writeNumbers (temporary []) ≡ record { refusal = 5; place = 0; octets = 0 }

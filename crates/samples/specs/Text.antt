@@ -2,9 +2,10 @@
 use Prim.Native.Nat.{ℕ}
 use mathlib.Core.Path.{_≡_}
 use mathlib.Core.List.{List, [], _∷_, _++_, map}
-use lib.ListN.{take, replicate}
+use lib.ListN.{take, set, replicate}
 use Rattle.list_text.specs.Text.{number, opening, line, answerOf}
 use Rattle.samples.specs.Samples.{message}
+use Rattle.samples.specs.Message.{twoParts}
 
 -- "entries 1 return none", line feed
 abbrev pub oneEntry : List ℕ
@@ -14,6 +15,13 @@ oneEntry = 0x65 ∷ 0x6E ∷ 0x74 ∷ 0x72 ∷ 0x69 ∷ 0x65 ∷ 0x73 ∷ 0x20 �
 abbrev pub itsLine : List ℕ
 itsLine = 0x31 ∷ 0x30 ∷ 0x20 ∷ 0x31 ∷ 0x20 ∷ 0x30 ∷ 0x20 ∷ 0x37 ∷ 0x20 ∷ 0x34 ∷ 0x38 ∷ 0x30 ∷ 0x30 ∷ 0x30 ∷ 0x30 ∷ 0x0A ∷ []
 
+-- "1 1 0 7 952380" and "3 1 0 7 952380", each with a line feed
+abbrev pub lineC : List ℕ
+lineC = 0x31 ∷ 0x20 ∷ 0x31 ∷ 0x20 ∷ 0x30 ∷ 0x20 ∷ 0x37 ∷ 0x20 ∷ 0x39 ∷ 0x35 ∷ 0x32 ∷ 0x33 ∷ 0x38 ∷ 0x30 ∷ 0x0A ∷ []
+
+abbrev pub lineD : List ℕ
+lineD = 0x33 ∷ 0x20 ∷ 0x31 ∷ 0x20 ∷ 0x30 ∷ 0x20 ∷ 0x37 ∷ 0x20 ∷ 0x39 ∷ 0x35 ∷ 0x32 ∷ 0x33 ∷ 0x38 ∷ 0x30 ∷ 0x0A ∷ []
+
 -- the digits of a number, behind which a line feed stands
 abbrev pub decimal : ℕ → List ℕ
 decimal n = number n 0x0A
@@ -22,6 +30,8 @@ pub record Texts : Type 0 where
   -- P1, whole, with room for one entry and for more
   pub p1 : answerOf message (replicate 2 0) ≡ oneEntry ++ itsLine
   pub p1Roomy : answerOf message (replicate 5 0) ≡ oneEntry ++ itsLine
+  -- C, D and C again: "entries 3 return none", line feed, and their lines
+  pub three : answerOf twoParts (replicate 6 0) ≡ set oneEntry 8 0x33 ++ (lineC ++ (lineD ++ lineC))
   -- P4: "refused 2 at 72", line feed
   pub p4 : answerOf (take 9 message) (replicate 2 0) ≡ 0x72 ∷ 0x65 ∷ 0x66 ∷ 0x75 ∷ 0x73 ∷ 0x65 ∷ 0x64 ∷ 0x20 ∷ 0x32 ∷ 0x20 ∷ 0x61 ∷ 0x74 ∷ 0x20 ∷ 0x37 ∷ 0x32 ∷ 0x0A ∷ []
   -- no room for the entry: "refused 11 at 0", line feed
