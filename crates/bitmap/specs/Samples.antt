@@ -26,7 +26,7 @@ message = 0x00 ∷ 0x08 ∷ 0x02 ∷ 0x01 ∷ 0xFF ∷ 0x01 ∷ []
 abbrev pub eachAt : ℕ → List ℕ → List (Outcome Bitmap)
 eachAt i octets = map (λ x. reading (set message i x)) octets
 
--- a bitmap of these sizes whose image is all black, with an octet more than it asks or without one
+-- a bitmap of these sizes with so many octets of image, all black
 abbrev pub black : ℕ → ℕ → ℕ → List ℕ
 black width height octets = 0x00 ∷ width ∷ height ∷ 0x01 ∷ replicate octets 0xFF
 
@@ -34,6 +34,7 @@ black width height octets = 0x00 ∷ width ∷ height ∷ 0x01 ∷ replicate oct
 abbrev pub written : ℕ → ℕ → ℕ → Outcome (List ℕ)
 written room width height = writingInto room width height (0xFF ∷ 0x01 ∷ [])
 
+-- the grounds against reading in their order, pixels, the image, and writing
 pub record BitmapSamples : Type 0 where
   -- 2: fewer than four octets, whatever they are
   pub cut : map (λ n. reading (take n (0x01 ∷ 0x09 ∷ 0x00 ∷ 0x02 ∷ []))) (0 ∷ 1 ∷ 2 ∷ 3 ∷ []) ≡ replicate 4 (refused 2 0)

@@ -9,6 +9,7 @@ abbrev pub codes : ℕ → List ℕ
 codes zero = []
 codes (suc n) = codes n ++ (n ∷ [])
 
+-- tempos, quarter notes and lengths
 pub record Durations : Type 0 where
   -- the beats a minute of the tempo codes 0 to 31
   pub tempos : map beats (codes 32)

@@ -13,6 +13,7 @@ use Rattle.tone_write.specs.Judging.{songFine, titleFine, toneOf, writeTone}
 use Rattle.edit.specs.Editing.{inBuffer}
 use Rattle.samples.specs.Samples.{message}
 
+-- reading, writing and editing: what has as many octets, and what has one more
 pub record Bounds : Type 0 where
   -- 4,096 octets may read
   pub reads : (t : Tone) → Formed t → toneLength t ≡ 4096 → readTone (toneOctets t) ≡ accepted t

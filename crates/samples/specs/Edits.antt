@@ -35,6 +35,7 @@ numbersLeft o = listAfter o (replicate 8 77)
 abbrev pub partOf : ℕ → Tone
 partOf n = record { song = 2; unicode = false; title = []; patterns = record { id = 0; loop = 0; body = replicate n 131072 } ∷ [] }
 
+-- the grounds against an edit in their order, and what it leaves
 pub record Edits : Type 0 where
   -- 1: a used length beyond the buffer
   pub used : editMessage message 11 Delete 0 0 2 ≡ refused 1 0

@@ -10,6 +10,7 @@ use Rattle.label.specs.Promises.{suppliedNumbers}
 abbrev pub car : List ℕ
 car = 0x63 ∷ 0x61 ∷ 0x72 ∷ []
 
+-- which octets are the label, and whose they are
 pub record Labels : Type 0 where
   -- trailing spaces, character 32, go; those within stay
   pub trimmed : labelOf false (0x41 ∷ 32 ∷ 0x42 ∷ 32 ∷ 32 ∷ []) car ≡ 0x41 ∷ 32 ∷ 0x42 ∷ []

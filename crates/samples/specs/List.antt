@@ -45,6 +45,7 @@ markOf ps = listOf ps .mark
 abbrev pub cellsOf : List Pattern → List ℕ
 cellsOf ps = numbers (listOf ps .entries)
 
+-- settings and entries, passes and marks, recalls, and then the room
 pub record Lists : Type 0 where
   -- scale code 1, natural style, tempo code 8, volume 7
   pub start : atStart ≡ record { scale = 1; style = 0; tempo = 8; volume = 7 }

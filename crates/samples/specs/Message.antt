@@ -62,6 +62,7 @@ cutAt places = map (refused 2) places
 abbrev pub all : ℕ → ℕ → ℕ → List (Outcome Tone)
 all n number place = replicate n (refused number place)
 
+-- what reading makes of them: the elements in their order, and then what is accepted
 pub record Messages : Type 0 where
   -- where each element of P1 begins: length, programming, sound, song type, pattern count, header, two instructions, end
   pub cut : cuts message 10 ≡ cutAt (0 ∷ 8 ∷ 16 ∷ 23 ∷ 26 ∷ 37 ∷ 37 ∷ 54 ∷ 62 ∷ 72 ∷ [])

@@ -10,6 +10,7 @@ use Rattle.samples.specs.Edits.{Edits}
 use Rattle.samples.specs.Bounds.{Bounds}
 use Rattle.samples.specs.Text.{Texts}
 
+-- all of them
 pub record Pinned : Type 0 where
   pub messages : Messages
   pub readings : Readings

@@ -15,6 +15,7 @@ use Rattle.samples.specs.Message.{titled, wide, fifteen, everyKind, twoP
 
 -- ---- reading into a table and a title
 
+-- the numbers of reading, 11, and what is left in the table and in the title
 pub record Readings : Type 0 where
   -- P1 into three cells and no title
   pub p1 : readNumbers (readInto message 0 3) ≡ record { refusal = 0; place = 0; song = 2; unicode = false; characters = 0; patterns = 1; entries = 3 }
@@ -53,6 +54,7 @@ basic unicode octets = writeTone 1 unicode (replicate octets 0x41) (1 ∷ 65864 
 abbrev pub alone : ℕ → List ℕ
 alone e = 1 ∷ e ∷ []
 
+-- the grounds against writing in their order, and what is written
 pub record Writings : Type 0 where
   -- 4: the song types 0 and 3
   pub songs : map (λ s. refusalOf (writeTone s false [] (1 ∷ 65864 ∷ []) 99)) (0 ∷ 1 ∷ 2 ∷ 3 ∷ []) ≡ 4 ∷ 0 ∷ 0 ∷ 4 ∷ []

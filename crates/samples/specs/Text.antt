@@ -26,6 +26,7 @@ lineD = 0x33 ∷ 0x20 ∷ 0x31 ∷ 0x20 ∷ 0x30 ∷ 0x20 ∷ 0x37 ∷ 0x20 ∷ 
 abbrev pub decimal : ℕ → List ℕ
 decimal n = number n 0x0A
 
+-- whole answers, lines, and numbers in decimal
 pub record Texts : Type 0 where
   -- P1, whole, with room for one entry and for more
   pub p1 : answerOf message (replicate 2 0) ≡ oneEntry ++ itsLine
