@@ -41,4 +41,8 @@ kind-samples = record {
   values = refl;
   longCode = refl;
   shortDate = refl;
+  iconWritten = refl;
+  iconNoRoom = refl;
+  iconCode = refl;
+  plainDate = refl;
 }

@@ -136,3 +136,9 @@ pub record KindSamples : Type 0 where
   pub longCode : logoInto 22 mcc (mnc ++ 0x31 ∷ []) day ≡ refused 20 0
   -- a date of seven digits: 20
   pub shortDate : logoInto 21 mcc mnc (take 7 day) ≡ refused 20 0
+  -- an icon is written in seven octets; six are too few: 11
+  pub iconWritten : writingInto 7 Icon (said [] [] []) 8 2 (0xFF ∷ 0x01 ∷ []) ≡ accepted (v0 ++ p11)
+  pub iconNoRoom : writingInto 6 Icon (said [] [] []) 8 2 (0xFF ∷ 0x01 ∷ []) ≡ refused 11 0
+  -- a code or a date with an icon or a plain bitmap: 20
+  pub iconCode : writingInto 7 Icon (said mcc [] []) 8 2 (0xFF ∷ 0x01 ∷ []) ≡ refused 20 0
+  pub plainDate : writingInto 6 Plain (said [] [] day) 8 2 (0xFF ∷ 0x01 ∷ []) ≡ refused 20 0

@@ -5,7 +5,7 @@ use mathlib.Core.Path.{_≡_, refl, sym, ap, ap₂, subst, _∙_}
 use mathlib.Core.Bool.{Bool}
 use mathlib.Core.List.{List, _++_}
 use lib.ListN.{length, take, replicate}
-use lib.Seq.{take-length, length-take-le}
+use lib.Seq.{length-take-le}
 use lib.Dec.{leb}
 use lib.IntN.{ℤ, pos, _-ℤ_}
 use borrow.Author.Tests.{le-leb, lt-leb}
@@ -87,24 +87,24 @@ module _ (new buf list : List ℕ) (used : ℕ) {o : Outline} (w : Written new o
     pub finish-room : 2 * entryCount noBodies (patternsIn new (o .first .0) (o .patterns)) ≤ length list
     finish-room = omega (arith, ap (entryCount noBodies) patterns-are, w .outlines .entries)
 
-    pub finish-made : {list′ buf₁ buf₂ : List ℕ} {ch : ℤ} → list′ ≡ over (numbers (play atStart noBodies 0 (patternsIn new (o .first .0) (o .patterns)) .entries)) list → length new ≤ length buf
-        → buf₁ ≡ over (take (length new) new) buf → buf₂ ≡ cleared (length new) used buf₁ → ch ≡ pos (length new) -ℤ pos used
-        → (t : Tone) → WellFormed t → toneOctets t ≡ new → Leaves (withList (length list) (accepted t)) used buf list buf₂ list′ (Made (octetCount (length new)) (o .entries) (o .mark) ch)
+    pub finish-made : {list′ buf₁ buf₂ : List ℕ} {ch : ℤ} {n : ℕ} → length new ≡ n → list′ ≡ over (numbers (play atStart noBodies 0 (patternsIn new (o .first .0) (o .patterns)) .entries)) list → n ≤ length buf
+        → buf₁ ≡ over new buf → buf₂ ≡ cleared n used buf₁ → ch ≡ pos n -ℤ pos used
+        → (t : Tone) → WellFormed t → toneOctets t ≡ new → Leaves (withList (length list) (accepted t)) used buf list buf₂ list′ (Made (octetCount n) (o .entries) (o .mark) ch)
     unfolding playingList
-    finish-made {list′} {buf₁} {buf₂} {ch} z l b₁ b₂ hc t f e =
+    finish-made {list′} {buf₁} {buf₂} {ch} {n} hn z l b₁ b₂ hc t f e =
         let g = playingList (w .tone) in
         let d : withList (length list) (accepted t) ≡ accepted (record { tone = w .tone; listing = g }) =
         ap (λ (y : Tone). withList (length list) (accepted y)) (same-tone t f e) ∙ outcome ∙ (rw (le-leb (2 * o .entries) (length list) (omega arith)) refl) in
-        let size : length new ≡ toneLength (w .tone) = ap length (sym (w .writes)) ∙ length-toneOctets (w .tone) in
+        let size : n ≡ toneLength (w .tone) = sym hn ∙ ap length (sym (w .writes)) ∙ length-toneOctets (w .tone) in
         let buffer : buf₂ ≡ over (toneOctets (w .tone) ++ replicate (used - toneLength (w .tone)) 0) buf =
-        b₂ ∙ ap (cleared (length new) used) (b₁ ∙ ap (λ (y : List ℕ). over y buf) (take-length new)) ∙ cleared-over new buf (length new) used refl l
+        b₂ ∙ ap (cleared n used) b₁ ∙ cleared-over new buf n used hn l
         ∙ ap₂ (λ (y : List ℕ) (x : ℕ). over (y ++ replicate (used - x) 0) buf) (sym (w .writes)) size in
         let e₁ : o .entries ≡ length (g .entries) = sym count in
         let e₂ : o .mark ≡ g .mark = w .outlines .mark ∙ sym (list-mark atStart noBodies 0 (w .tone .patterns)) in
-        let e₃ : octetCount (length new) ≡ octetCount (toneLength (w .tone)) = ap octetCount size in
+        let e₃ : octetCount n ≡ octetCount (toneLength (w .tone)) = ap octetCount size in
         let e₄ : ch ≡ pos (toneLength (w .tone)) -ℤ pos used = hc ∙ ap (λ (y : ℕ). pos y -ℤ pos used) size in
         let listing : list′ ≡ over (numbers (g .entries)) list = z ∙ ap (λ (x : List Pattern). over (numbers (play atStart noBodies 0 x .entries)) list) patterns-are in
-        rw d (leaves (accepted (record { tone = w .tone; listing = g })) used buf list buf₂ list′ (Made (octetCount (length new)) (o .entries) (o .mark) ch) (cc) buffer listing)
+        rw d (leaves (accepted (record { tone = w .tone; listing = g })) used buf list buf₂ list′ (Made (octetCount n) (o .entries) (o .mark) ch) (cc) buffer listing)
 
 -- ---- building, and what is refused before it
 

@@ -155,18 +155,19 @@ fn clear(buf: &mut [u8], from: OctetCount, to: OctetCount)
     }
 }
 
-// Puts a message that was built, and its list, in place of the old ones; or the list refuses, and nothing changes. What
-// the list comes to was counted on the way over the old message.
+// Puts the message that was built in the first `n` octets of a scratch, and its list, in place of the old ones; or the
+// list refuses, and nothing changes. What the list comes to was counted on the way over the old message.
 fn finish(
     buf: &mut [u8],
     used: OctetCount,
-    new: &[u8],
+    scratch: &mut [u8],
+    n: OctetCount,
     outline: Outline,
     list: &mut [u32],
 ) -> Answer
-    requires { ⌜ (used .0 ≤ length (now buf)) × (used .0 ≤ 4096) × (length (now new) ≤ length (now buf)) × (length (now new) ≤ 4096) ⌝ }
-    requires { ⌜ Written (now new) outline ⌝ }
-    ensures { λ r. ⌜ ((t : Tone) → WellFormed t → toneOctets t ≡ now (new .entry) → Leaves (withList (length (now (list .entry))) (accepted t)) (used .0) (now (buf .entry)) (now (list .entry)) (now (buf .exit)) (now (list .exit)) r) ⌝ }
+    requires { ⌜ (used .0 ≤ length (now buf)) × (used .0 ≤ 4096) × Room (n .0) (length (now buf)) (length (now scratch)) ⌝ }
+    requires { ⌜ Written (take (n .0) (now scratch)) outline ⌝ }
+    ensures { λ r. ⌜ ((t : Tone) → WellFormed t → toneOctets t ≡ take (n .0) (now (scratch .entry)) → Leaves (withList (length (now (list .entry))) (accepted t)) (used .0) (now (buf .entry)) (now (list .entry)) (now (buf .exit)) (now (list .exit)) r) ⌝ }
 {
     let first = outline.first;
     let entries = outline.entries;
@@ -177,15 +178,15 @@ fn finish(
             place: BitPlace(0),
         };
     }
-    list_fill::fill_list(new, first, outline.patterns, list);
-    let length = OctetCount(new.len());
-    edit_build::copy_octets(new, length, buf);
-    clear(buf, length, used);
+    let new = n.0;
+    list_fill::fill_list(&scratch[..new], first, outline.patterns, list);
+    edit_build::copy_octets(scratch, n, buf);
+    clear(buf, n, used);
     Answer::Edited {
-        length,
+        length: n,
         entries,
         mark,
-        change: change(length, used),
+        change: change(n, used),
     }
 }
 
@@ -207,8 +208,7 @@ fn build_apart(
     let piece = layout.piece;
     let outline = layout.outline;
     let n = edit_build::build(&buf[..old], header, layout.cell, spot, piece, scratch);
-    let new = n.0;
-    finish(buf, used, &scratch[..new], outline, list)
+    finish(buf, used, scratch, n, outline, list)
 }
 
 // Carries out an edit. A short message needs a short scratch: to clear a long one costs more than the edit.

@@ -10,3 +10,4 @@ pub mod Grounds
 pub mod Order
 pub mod Packing
 pub mod Settling
+pub mod Samples

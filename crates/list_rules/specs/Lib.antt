@@ -4,3 +4,4 @@ pub mod Ranges
 pub mod Playing
 pub mod Tempo
 pub mod Listing
+pub mod Samples

@@ -1,1 +1,9 @@
 pub mod Shown
+pub mod Message
+pub mod Table
+pub mod Label
+pub mod List
+pub mod Edits
+pub mod Bounds
+pub mod Pinned
+pub mod Text

@@ -10,7 +10,6 @@ use Rattle.tone.specs.Writing.{toneOctets}
 use Rattle.tone.specs.Reading.{readTone}
 use Rattle.list_rules.specs.Duration.{beats, units, microseconds}
 use Rattle.list_rules.specs.Playing.{Listing, playingList}
-use Rattle.list_count.specs.Bodies.{noMark}
 use Rattle.edit_change.specs.declared.Edit.the-variants.{Insert, Delete}
 use Rattle.edit.specs.Editing.{Edited, editMessage, bufferAfter}
 use Rattle.edit.specs.Promise.{editNumbers}
@@ -33,7 +32,7 @@ withoutTempo = 0x02 ∷ 0x4A ∷ 0x3A ∷ 0x80 ∷ 0x40 ∷ 0x00 ∷ 0x26 ∷ 0x
 
 -- the list of one entry: A, scale 1, natural, volume 7, for so long
 abbrev pub oneNote : ℕ → Listing
-oneNote us = record { entries = record { note = 10; scale = 1; style = 0; volume = 7; microseconds = us } ∷ []; mark = noMark }
+oneNote us = record { entries = record { note = 10; scale = 1; style = 0; volume = 7; microseconds = us } ∷ []; mark = 4294967295 }
 
 -- the edit of P2, in a buffer of eleven octets and a list of two numbers
 abbrev pub inserted : Outcome Edited
@@ -55,9 +54,9 @@ pub record Samples : Type 0 where
   pub p1-table : cells (tone .patterns) ≡ 2 ∷ 262158 ∷ 65864 ∷ []
   pub p1-lists : playingList tone ≡ oneNote 480000
   pub p2-octets : bufferAfter inserted 10 (message ++ (0xEE ∷ [])) ≡ withScale
-  pub p2-numbers : editNumbers 10 inserted ≡ record { refusal = 0; place = 0; length = 11; entries = 1; mark = noMark; change = pos 1 }
+  pub p2-numbers : editNumbers 10 inserted ≡ record { refusal = 0; place = 0; length = 11; entries = 1; mark = 4294967295; change = pos 1 }
   pub p3-octets : bufferAfter deleted 10 message ≡ withoutTempo ++ (0 ∷ [])
-  pub p3-numbers : editNumbers 10 deleted ≡ record { refusal = 0; place = 0; length = 9; entries = 1; mark = noMark; change = negsuc 0 }
+  pub p3-numbers : editNumbers 10 deleted ≡ record { refusal = 0; place = 0; length = 9; entries = 1; mark = 4294967295; change = negsuc 0 }
   pub p3-lists : listingOf deleted ≡ oneNote 952380
   pub p4 : readTone (0x02 ∷ 0x4A ∷ 0x3A ∷ 0x80 ∷ 0x40 ∷ 0x00 ∷ 0x51 ∷ 0xC6 ∷ 0x90 ∷ []) ≡ refused 2 72
   pub p5 : readTone (message ++ (0x00 ∷ [])) ≡ refused 10 80

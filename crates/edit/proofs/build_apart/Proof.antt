@@ -1,8 +1,7 @@
 -- `edit::build_apart` meets its contract.
 use native.Mathlib.Omega.{arith}
 use mathlib.Core.Path.{refl, sym}
-use lib.ListN.{take, length-take}
-use lib.Seq.{length-take-le}
+use lib.ListN.{take}
 use borrow.Author.Needs.{needs}
 use Rattle.edit.proofs.build_apart.Statement.{statement}
 use Rattle.edit.proofs.build_apart.Tie as tie
@@ -23,28 +22,13 @@ build-requires c κs =
     let n = carry-short (s .args .buf .now) (s .args .used .0) (s .pre .0) in
     ((y .ahead, y .inside, omega (arith, n, s .pre .0 .1), y .header), ((y .width, y .value, y .order, y .ends), s .pre .1 .2))
 
-slice-reshare-prefix-finish : tie.Need-slice-reshare-prefix-finish
-slice-reshare-prefix-finish c =
-    let b = c .before .before .before in
-    let s = b .before .before .before .before .before .before .before .before .before .before in
-    let a = s .args in
-    omega (arith, apart-size (take (a .used .0) (a .buf .now)) (a .layout) (a .buf .now) (a .list .now) (a .used .0) refl (s .pre .1 .0) (b .build .ensures) (s .pre .0 .2), s .pre .1 .2, b .build .kept .1 .1 .1 .1 .1 .0)
-
-slice-aggregate-finish : tie.Need-slice-aggregate-finish
-slice-aggregate-finish c =
-    let b = c .before .before .before .before in
-    let s = b .before .before .before .before .before .before .before .before .before .before in
-    let a = s .args in
-    sym (length-take-le _ _ (omega (arith, apart-size (take (a .used .0) (a .buf .now)) (a .layout) (a .buf .now) (a .list .now) (a .used .0) refl (s .pre .1 .0) (b .build .ensures) (s .pre .0 .2), s .pre .1 .2, b .build .kept .1 .1 .1 .1 .1 .0)))
-
 finish-requires : tie.Need-finish-requires
 finish-requires c κs =
     let b = c .before .before .before .before .before in
     let s = b .before .before .before .before .before .before .before .before .before .before in
     let a = s .args in
     let z = apart-size (take (a .used .0) (a .buf .now)) (a .layout) (a .buf .now) (a .list .now) (a .used .0) refl (s .pre .1 .0) (b .build .ensures) (s .pre .0 .2) in
-    let n = length-take (b .build .result .0) (b .build .last .1 .1 .1 .1 .1 .0) in
-    ((s .pre .0 .0, s .pre .0 .1, omega (arith, n, z, s .pre .1 .1), omega (arith, n, z, s .pre .1 .0)), apart-written (take (a .used .0) (a .buf .now)) (a .layout) (a .buf .now) (a .list .now) (a .used .0) refl (s .pre .1 .0) (b .build .ensures) (s .pre .0 .2))
+    ((s .pre .0 .0, s .pre .0 .1, (omega (arith, z, s .pre .1 .0), omega (arith, z, s .pre .1 .1), omega (arith, z, s .pre .1 .2, b .build .kept .1 .1 .1 .1 .1 .0))), apart-written (take (a .used .0) (a .buf .now)) (a .layout) (a .buf .now) (a .list .now) (a .used .0) refl (s .pre .1 .0) (b .build .ensures) (s .pre .0 .2))
 
 same-length : tie.Need-same-length
 same-length c = search needs
@@ -57,10 +41,11 @@ same-length-3 c = search needs
 
 returns : tie.Need-returns
 returns c =
-    let b = c .before .before .before .before .before .before .before .before .before .before in
+    let f = c .before .before .before .before .before .before in
+    let b = f .before .before .before .before .before .before in
     let s = b .before .before .before .before .before .before .before .before .before .before in
     let a = s .args in
-    apart-done (take (a .used .0) (a .buf .now)) (a .layout) (a .buf .now) (a .list .now) (a .used .0) refl (s .pre .1 .0) (b .build .ensures) refl (c .before .before .before .before .finish .ensures)
+    apart-done (take (a .used .0) (a .buf .now)) (a .layout) (a .buf .now) (a .list .now) (a .used .0) refl (s .pre .1 .0) (b .build .ensures) refl (f .finish .ensures)
 
 pub build-apart-spec : {M : Type 1} → statement M
 build-apart-spec =
@@ -69,8 +54,6 @@ build-apart-spec =
     slice-reshare-prefix-build
     slice-aggregate-build
     build-requires
-    slice-reshare-prefix-finish
-    slice-aggregate-finish
     finish-requires
     same-length
     same-length-2

@@ -1,4 +1,8 @@
 -- `edit::finish` meets its contract.
+use native.Mathlib.Omega.{arith}
+use mathlib.Core.Path.{sym}
+use lib.ListN.{take}
+use lib.Seq.{length-take-le}
 use borrow.Author.Needs.{needs}
 use Rattle.edit.proofs.Finishing.{finish-short, finish-patterns, finish-room, finish-made}
 use Rattle.edit.proofs.Changes.{change-kept}
@@ -12,13 +16,23 @@ returns : tie.Need-returns
 returns c =
     let s = c .before .before .before .before .before in
     let a = s .args in
-    finish-short (a .new .now) (a .buf .now) (a .list .now) (a .used .0) (s .pre .1) (c .if1 .taken)
+    finish-short (take (a .n .0) (a .scratch .now)) (a .buf .now) (a .list .now) (a .used .0) (s .pre .1) (c .if1 .taken)
+
+slice-reshare-prefix-fill-list : tie.Need-slice-reshare-prefix-fill-list
+slice-reshare-prefix-fill-list c = search needs
+
+slice-aggregate-fill-list : tie.Need-slice-aggregate-fill-list
+slice-aggregate-fill-list c =
+    let r = c .before .before .before .before .before .before .pre .0 .2 in
+    sym (length-take-le _ _ (omega (arith, r .1, r .2)))
 
 fill-list-requires : tie.Need-fill-list-requires
 fill-list-requires c κs =
-    let s = c .before .before .before .before .before .before in
+    let s = c .before .before .before .before .before .before .before in
     let a = s .args in
-    (finish-patterns (a .new .now) (a .buf .now) (a .list .now) (a .used .0) (s .pre .1) (c .before .if1 .left), finish-room (a .new .now) (a .buf .now) (a .list .now) (a .used .0) (s .pre .1) (c .before .if1 .left))
+    let new = take (a .n .0) (a .scratch .now) in
+    let left = c .before .before .if1 .left in
+    (finish-patterns new (a .buf .now) (a .list .now) (a .used .0) (s .pre .1) left, finish-room new (a .buf .now) (a .list .now) (a .used .0) (s .pre .1) left)
 
 copy-octets-requires : tie.Need-copy-octets-requires
 copy-octets-requires c κs = search needs
@@ -35,11 +49,17 @@ same-length c = search needs
 same-length-2 : tie.Need-same-length-2
 same-length-2 c = search needs
 
+same-length-3 : tie.Need-same-length-3
+same-length-3 c = search needs
+
 returns-2 : tie.Need-returns-2
 returns-2 c =
-    let s = c .before .before .before .before .before .before .before .before .before .before .before .before .before .before .before .before .before .before in
+    let f = c .before .before .before .before .before .before .before .before .before .before .before .before in
+    let left = f .before .before .before .if1 .left in
+    let s = f .before .before .before .before .before .before .before .before in
     let a = s .args in
-    finish-made (a .new .now) (a .buf .now) (a .list .now) (a .used .0) (s .pre .1) (c .before .before .before .before .before .before .before .before .before .before .before .before .before .if1 .left) (c .before .before .before .before .before .before .before .before .before .before .before .fill-list .ensures) (s .pre .0 .2) (c .before .before .before .before .before .before .before .copy-octets .ensures) (c .before .before .before .clear .ensures) (change-kept _ (a .used .0) (s .pre .0 .3) (s .pre .0 .1) (c .change .ensures))
+    let r = s .pre .0 .2 in
+    finish-made (take (a .n .0) (a .scratch .now)) (a .buf .now) (a .list .now) (a .used .0) (s .pre .1) left (length-take-le (a .n .0) (a .scratch .now) (r .2)) (f .fill-list .ensures) (r .1) (c .before .before .before .before .before .before .before .copy-octets .ensures) (c .before .before .before .clear .ensures) (change-kept _ (a .used .0) (r .0) (s .pre .0 .1) (c .change .ensures))
 
 pub finish-spec : {M : Type 1} → statement M
 finish-spec =
@@ -47,10 +67,13 @@ finish-spec =
     (tie.spec
     cast-if1
     returns
+    slice-reshare-prefix-fill-list
+    slice-aggregate-fill-list
     fill-list-requires
     copy-octets-requires
     clear-requires
     change-requires
     same-length
     same-length-2
+    same-length-3
     returns-2)

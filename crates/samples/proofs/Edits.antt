@@ -1,0 +1,45 @@
+-- Samples of edits: each is computed.
+use mathlib.Core.Path.{refl}
+use Rattle.bits.specs.Bits.{field, bitsN}
+use Rattle.tone.specs.Table as table
+use Rattle.tone.specs.Writing as writing
+use Rattle.tone.specs.Reading as reading
+use Rattle.list_rules.specs.Duration.{beats, units, microseconds}
+use Rattle.list_rules.specs.Sounding.{applied, sounded}
+use Rattle.list_rules.specs.Playing.{step, patternPlayed, playingList}
+use Rattle.list_count.specs.Bodies.{passesOf, bodyOf, remember}
+use Rattle.edit.specs.Editing.{editMessage}
+use Rattle.samples.specs.Edits.{Edits}
+
+pub edits : Edits
+unfolding field bitsN table.width table.allowed writing.commandBits writing.titleBits writing.entryBits writing.frontBits writing.songBits writing.toneBits writing.toneOctets reading.element reading.filled reading.whetherUnicode reading.soundPart reading.parts reading.command reading.character reading.text reading.title reading.counted reading.titled reading.typed reading.front reading.headerDue reading.instructionDue reading.bodyDue reading.patternsDue reading.ending reading.rest reading.wholeTone reading.readTone beats units microseconds applied sounded step passesOf bodyOf remember patternPlayed playingList editMessage
+edits = record {
+  used = refl;
+  messageFirst = refl;
+  cutShort = refl;
+  new = refl;
+  newFirst = refl;
+  noPattern = refl;
+  noReplaced = refl;
+  noDeleted = refl;
+  noPlace = refl;
+  recall = refl;
+  placeFirst = refl;
+  only = refl;
+  full = refl;
+  fullReplaced = refl;
+  noRoom = refl;
+  noList = refl;
+  noNumbers = refl;
+  place = refl;
+  appended = refl;
+  replaced = refl;
+  replacedNumbers = refl;
+  cleared = refl;
+  kept = refl;
+  first = refl;
+  firstList = refl;
+  second = refl;
+  secondList = refl;
+  secondNumbers = refl;
+}

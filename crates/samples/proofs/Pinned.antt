@@ -1,0 +1,27 @@
+-- Every sample beside P1 to P12 holds of the rules.
+use Rattle.bitmap.proofs.Samples.{bitmap-samples}
+use Rattle.bitmap_kinds.proofs.Samples.{kind-samples}
+use Rattle.list_rules.proofs.Samples as sounding
+use Rattle.samples.specs.Pinned.{Pinned}
+use Rattle.samples.proofs.Message.{messages}
+use Rattle.samples.proofs.Table.{readings, writings}
+use Rattle.samples.proofs.Label.{labels}
+use Rattle.samples.proofs.List.{lists}
+use Rattle.samples.proofs.Edits.{edits}
+use Rattle.samples.proofs.Bounds.{bounds}
+use Rattle.samples.proofs.Text.{texts}
+
+pub pinned : Pinned
+pinned = record {
+  messages = messages;
+  readings = readings;
+  writings = writings;
+  labels = labels;
+  lists = lists;
+  durations = sounding.durations;
+  edits = edits;
+  bounds = bounds;
+  bitmaps = bitmap-samples;
+  kinds = kind-samples;
+  texts = texts;
+}

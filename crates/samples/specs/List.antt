@@ -1,0 +1,102 @@
+-- Samples of the playing list: settings, passes, recalls, the return mark, and an entry's numbers.
+use Prim.Native.Nat.{ℕ}
+use mathlib.Core.Path.{_≡_}
+use mathlib.Core.Bool.{true, false}
+use mathlib.Core.List.{List, [], _∷_, _++_}
+use lib.ListN.{set, replicate}
+use Rattle.bits.specs.Outcome.{accepted, refused}
+use Rattle.tone.specs.Tone.{Pattern}
+use Rattle.list_rules.specs.declared.Entry.{Entry}
+use Rattle.list_rules.specs.Sounding.{atStart, numbers, entryAt}
+use Rattle.list_rules.specs.Playing.{Listing, playingList}
+use Rattle.list_rules.specs.Listing.{anyTooLong, fitted, listTone, fitsNumbers, fitsBoth}
+use Rattle.list.specs.Promise.{listNumbers, cellsAfter, rowsAfter}
+use Rattle.samples.specs.Samples.{message, oneNote}
+
+-- ---- the parts that lists are made of
+
+-- a part, A to D as 0 to 3, with its loop value and its instructions; with none it is a recall
+abbrev pub part : ℕ → ℕ → List ℕ → Pattern
+part id loop body = record { id = id; loop = loop; body = body }
+
+-- C and D as quarters
+abbrev pub c : ℕ
+c = 65576
+
+abbrev pub d : ℕ
+d = 65640
+
+-- the list of some parts
+abbrev pub listOf : List Pattern → Listing
+listOf ps = playingList (record { song = 2; unicode = false; title = []; patterns = ps })
+
+-- the notes that sound, and the mark
+abbrev pub notesOf : List Entry → List ℕ
+notesOf [] = []
+notesOf (r ∷ rs) = r .note ∷ notesOf rs
+
+abbrev pub heard : List Pattern → List ℕ
+heard ps = notesOf (listOf ps .entries)
+
+abbrev pub markOf : List Pattern → ℕ
+markOf ps = listOf ps .mark
+
+-- the list in two-number form
+abbrev pub cellsOf : List Pattern → List ℕ
+cellsOf ps = numbers (listOf ps .entries)
+
+-- settings and entries, passes and marks, recalls, and then the room
+pub record Lists : Type 0 where
+  -- scale code 1, natural style, tempo code 8, volume 7
+  pub start : atStart ≡ record { scale = 1; style = 0; tempo = 8; volume = 7 }
+  -- note × 1,024 + scale × 256 + style × 16 + volume, and the microseconds: C at the start, a pause, H with all settings at their last
+  pub first : cellsOf (part 0 0 (c ∷ []) ∷ []) ≡ 1287 ∷ 952380 ∷ []
+  pub pause : cellsOf (part 0 0 (65544 ∷ []) ∷ []) ≡ 263 ∷ 952380 ∷ []
+  pub last : cellsOf (part 0 0 (131075 ∷ 196610 ∷ 262175 ∷ 327695 ∷ 65943 ∷ []) ∷ []) ≡ 13103 ∷ 5555 ∷ []
+  -- and back
+  pub fields : entryAt (0 ∷ 0 ∷ 13103 ∷ 5555 ∷ []) 1 ≡ record { note = 12; scale = 3; style = 2; volume = 15; microseconds = 5555 }
+  -- loop n sounds n + 1 times
+  pub once : heard (part 0 0 (c ∷ []) ∷ []) ≡ 1 ∷ []
+  pub twice : heard (part 0 1 (c ∷ []) ∷ []) ≡ 1 ∷ 1 ∷ []
+  pub fifteenTimes : heard (part 0 14 (c ∷ []) ∷ []) ≡ replicate 15 1
+  -- with loop 15 one pass is listed and listing stops
+  pub stops : heard (part 0 1 (c ∷ []) ∷ part 1 15 (c ∷ d ∷ []) ∷ part 2 0 (c ∷ []) ∷ []) ≡ 1 ∷ 1 ∷ 1 ∷ 3 ∷ []
+  -- the mark is the position of that pass's first entry
+  pub returns : markOf (part 0 1 (c ∷ []) ∷ part 1 15 (c ∷ d ∷ []) ∷ part 2 0 (c ∷ []) ∷ []) ≡ 2
+  pub returnsToStart : markOf (part 0 15 (c ∷ []) ∷ []) ≡ 0
+  -- there is none where that pass adds no entry, and with no loop 15
+  pub silent : markOf (part 0 0 (c ∷ []) ∷ part 1 15 (131072 ∷ []) ∷ []) ≡ 4294967295
+  pub noReturn : markOf (part 0 14 (c ∷ []) ∷ []) ≡ 4294967295
+  -- a silent loop 15 stops the listing too
+  pub silentStops : heard (part 0 15 (131072 ∷ []) ∷ part 1 0 (c ∷ []) ∷ []) ≡ []
+  -- a recall sounds its part's body with its own loop value
+  pub recall : heard (part 0 0 (c ∷ []) ∷ part 1 0 (d ∷ []) ∷ part 0 2 [] ∷ []) ≡ 1 ∷ 3 ∷ 1 ∷ 1 ∷ 1 ∷ []
+  pub recallReturns : markOf (part 0 1 (c ∷ []) ∷ part 0 15 [] ∷ []) ≡ 2
+  -- a later definition replaces the earlier one, and no other part's
+  pub redefined : heard (part 3 0 (c ∷ []) ∷ part 2 0 (65544 ∷ []) ∷ part 3 0 (d ∷ []) ∷ part 3 0 [] ∷ part 2 0 [] ∷ []) ≡ 1 ∷ 0 ∷ 3 ∷ 3 ∷ 0 ∷ []
+  -- settings carry on through patterns and recalls: A is recalled with the volume that B set, and not the one that it was defined with
+  pub carried : cellsOf (part 0 0 (c ∷ []) ∷ part 1 0 (327689 ∷ []) ∷ part 0 0 [] ∷ []) ≡ 1287 ∷ 952380 ∷ 1289 ∷ 952380 ∷ []
+  -- and through passes: the second pass begins with the volume that the first ended with
+  pub carriedOn : cellsOf (part 0 1 (c ∷ 327689 ∷ []) ∷ []) ≡ 1287 ∷ 952380 ∷ 1289 ∷ 952380 ∷ []
+  -- each instruction sets its own: scale 2, style 1, tempo 14, volume 0, between notes
+  pub each : cellsOf (part 0 0 (131074 ∷ c ∷ 196609 ∷ c ∷ 262158 ∷ c ∷ 327680 ∷ c ∷ []) ∷ []) ≡ 1543 ∷ 952380 ∷ 1559 ∷ 952380 ∷ 1559 ∷ 480000 ∷ 1552 ∷ 480000 ∷ []
+  -- two numbers an entry and one row: exact, and one too few
+  pub room : listTone message (fitsNumbers 2) ≡ accepted (oneNote 480000)
+  pub noRoom : listTone message (fitsNumbers 1) ≡ refused 11 0
+  pub both : listTone message (fitsBoth 2 1) ≡ accepted (oneNote 480000)
+  pub noRows : listTone message (fitsBoth 2 0) ≡ refused 11 0
+  pub noNumbers : listTone message (fitsBoth 1 1) ≡ refused 11 0
+  -- the message's refusal with its place ahead of 11, and all other numbers 0
+  pub messageFirst : listNumbers (listTone (message ++ (0 ∷ [])) (fitsNumbers 0)) ≡ record { refusal = 10; place = 80; entries = 0; mark = 0 }
+  -- the numbers of P1, its cells, and its rows; what lies behind is left
+  pub p1 : listNumbers (listTone message (fitsNumbers 2)) ≡ record { refusal = 0; place = 0; entries = 1; mark = 4294967295 }
+  pub cells : cellsAfter (listTone message (fitsNumbers 3)) (77 ∷ 77 ∷ 77 ∷ []) ≡ 10503 ∷ 480000 ∷ 77 ∷ []
+  pub rows : rowsAfter (listTone message (fitsBoth 2 2)) (replicate 2 (record { note = 0; scale = 0; style = 0; volume = 0; microseconds = 0 }))
+      ≡ record { note = 10; scale = 1; style = 0; volume = 7; microseconds = 480000 } ∷ record { note = 0; scale = 0; style = 0; volume = 0; microseconds = 0 } ∷ []
+  -- P1 with loop 15: the mark is 0
+  pub endless : listNumbers (listTone (set (set message 4 0x41) 5 0xE0) (fitsNumbers 2)) ≡ record { refusal = 0; place = 0; entries = 1; mark = 0 }
+  -- 19 for a duration above 32 bits
+  pub longest : anyTooLong (record { note = 0; scale = 0; style = 0; volume = 0; microseconds = 4294967295 } ∷ []) ≡ false
+  pub tooLong : anyTooLong (record { note = 0; scale = 0; style = 0; volume = 0; microseconds = 4294967296 } ∷ []) ≡ true
+  -- ahead of 11
+  pub tooLongFirst : fitted (fitsNumbers 0) (record { entries = record { note = 0; scale = 0; style = 0; volume = 0; microseconds = 4294967296 } ∷ []; mark = 4294967295 }) ≡ refused 19 0

@@ -1,0 +1,25 @@
+-- Samples beside P1 to P12, in the order of document 01, one collection with a single claim: each number, code and bound of the rules by its own figures.
+use Rattle.bitmap.specs.Samples.{BitmapSamples}
+use Rattle.bitmap_kinds.specs.Samples.{KindSamples}
+use Rattle.list_rules.specs.Samples.{Durations}
+use Rattle.samples.specs.Message.{Messages}
+use Rattle.samples.specs.Table.{Readings, Writings}
+use Rattle.samples.specs.Label.{Labels}
+use Rattle.samples.specs.List.{Lists}
+use Rattle.samples.specs.Edits.{Edits}
+use Rattle.samples.specs.Bounds.{Bounds}
+use Rattle.samples.specs.Text.{Texts}
+
+-- all of them
+pub record Pinned : Type 0 where
+  pub messages : Messages
+  pub readings : Readings
+  pub writings : Writings
+  pub labels : Labels
+  pub lists : Lists
+  pub durations : Durations
+  pub edits : Edits
+  pub bounds : Bounds
+  pub bitmaps : BitmapSamples
+  pub kinds : KindSamples
+  pub texts : Texts
