@@ -252,17 +252,13 @@ fn run(text: &[u8]) {
     };
     let mut at = 0;
     while at < text.len() {
-        let end = vectors::line_end(text, at);
-        hand = act(&text[at..end], hand, &mut octets, &mut cells);
-        at = end + 1;
+        hand = act(vectors::line(text, at), hand, &mut octets, &mut cells);
+        at = vectors::next_line(text, at);
     }
 }
 
 fn main() {
     let mut text = [0u8; 32768];
-    let n = io::read_full(0, &mut text);
+    let n = vectors::read_text(&mut text);
     run(&text[..n]);
-    if n == text.len() {
-        io::write_all(1, b"there may be more cases than there is room for\n");
-    }
 }

@@ -1,6 +1,8 @@
-// What programs share that run cases given as lines of text: printing numbers, octets and cells, and taking a line apart.
+// What the programs of vectors share: printing numbers, octets and cells, and taking apart the lines of text that give the
+// cases of most.
 ghost use Prim.Native.Nat.{_≤_, _<_};
 ghost use lib.ListN.{length};
+ghost use Rattle.io.specs.Counts.{Counts};
 
 // A number of the text, and where the next word starts.
 pub struct Parsed {
@@ -49,7 +51,7 @@ pub fn cells(s: &[u32]) {
 }
 
 // Octets as one number, to which each octet and its place matter.
-fn digest(s: &[u8]) -> u64 {
+pub fn digest(s: &[u8]) -> u64 {
     let mut d: u64 = 1;
     let mut i = 0;
     while i < s.len() {
@@ -87,6 +89,15 @@ pub fn show_cells(s: &[u32]) {
         return;
     }
     number(digest_cells(s));
+}
+
+// Prints a part of a buffer that was handed back: its octets counted, and the octets.
+pub fn show_part(s: &[u8]) {
+    io::write_all(1, b":");
+    number(s.len() as u64);
+    if s.len() != 0 {
+        show_octets(s);
+    }
 }
 
 // ---- the text
@@ -129,8 +140,19 @@ pub fn cell(value: u64) -> u32 {
     (value % 4294967296) as u32
 }
 
+// Takes the text of standard input into a buffer, and says so where it may be longer. It answers how many octets there are.
+pub fn read_text(buf: &mut [u8]) -> usize
+    ensures { λ r. ⌜ Counts r (now (buf .exit)) ⌝ }
+{
+    let n = io::read_full(0, buf);
+    if n == buf.len() {
+        io::write_all(1, b"there may be more cases than there is room for\n");
+    }
+    n
+}
+
 // Where the line that starts at a place ends.
-pub fn line_end(text: &[u8], at: usize) -> usize
+fn line_end(text: &[u8], at: usize) -> usize
     requires { ⌜ at ≤ length (now text) ⌝ }
     ensures { λ r. ⌜ (at ≤ r) × (r ≤ length (now (text .entry))) ⌝ }
 {
@@ -142,6 +164,22 @@ pub fn line_end(text: &[u8], at: usize) -> usize
         i += 1;
     }
     i
+}
+
+// The line that starts at a place, without its end.
+pub fn line(text: &[u8], at: usize) -> &[u8]
+    requires { ⌜ at ≤ length (now text) ⌝ }
+{
+    let end = line_end(text, at);
+    &text[at..end]
+}
+
+// Where the line behind that one starts.
+pub fn next_line(text: &[u8], at: usize) -> usize
+    requires { ⌜ at ≤ length (now text) ⌝ }
+    ensures { λ r. ⌜ at < r ⌝ }
+{
+    line_end(text, at) + 1
 }
 
 // The octet that two hexadecimal digits from a place on give; 0 where there is one digit only.
