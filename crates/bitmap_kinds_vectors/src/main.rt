@@ -100,14 +100,6 @@ fn show_writing(answer: Writing) -> usize {
 
 // ---- the calls
 
-// The first octets of a buffer; all where it has no more.
-fn front(s: &[u8], octets: usize) -> &[u8] {
-    if s.len() < octets {
-        return s;
-    }
-    &s[0..octets]
-}
-
 // Reads a message. Prints the answer and the fields.
 fn read(kind: Kind, msg: &[u8]) {
     show_reading(bitmap_kinds::read(kind, msg));
@@ -191,7 +183,7 @@ fn write(
     vectors::show_octets(out);
     if n != 0 {
         io::write_all(1, b":");
-        read(kind, front(&out[1..end], n));
+        read(kind, vectors::front(&out[1..end], n));
     }
 }
 
@@ -293,9 +285,9 @@ fn call(line: &[u8], hand: InHand, octets: &mut [u8], mcc: &[u8], mnc: &[u8], da
     if letter == b'w' {
         write_case(
             line,
-            front(mcc, hand.mcc),
-            front(mnc, hand.mnc),
-            front(date, hand.date),
+            vectors::front(mcc, hand.mcc),
+            vectors::front(mnc, hand.mnc),
+            vectors::front(date, hand.date),
             &octets[0..end],
         );
         return;

@@ -122,24 +122,6 @@ fn lend_write(song: u32, unicode: bool, title: &[u8], table: &[u32], room: u32) 
 
 // ---- the text
 
-// Puts the cells of a line, from a place on, behind those in a table. It answers how many are then in it.
-fn add_cells(line: &[u8], from: usize, table: &mut [u32], used: usize) -> usize
-    requires { ⌜ from ≤ length (now line) ⌝ }
-{
-    let mut n = used;
-    let mut i = from;
-    while n < table.len() {
-        if line.len() <= i {
-            return n;
-        }
-        let w = vectors::word(line, i);
-        table[n] = vectors::cell(w.value);
-        i = w.next;
-        n += 1;
-    }
-    n
-}
-
 // Puts what a line gives, from a place on, behind what is in hand.
 fn add(
     line: &[u8],
@@ -158,7 +140,7 @@ fn add(
     }
     InHand {
         octets: hand.octets,
-        cells: add_cells(line, from, cells, hand.cells),
+        cells: vectors::add_cells(line, from, cells, hand.cells),
     }
 }
 

@@ -18,6 +18,19 @@ pub fn number(n: u64) {
     io::print_decimal(1, n);
 }
 
+// Prints a change, which may be negative. No edit of one instruction changes more than two octets, so the cases are few,
+// and no signed number is converted. It answers as the call that writes does.
+pub fn signed(n: i32) -> bool {
+    match n {
+        -2 => io::write_all(1, b" -2"),
+        -1 => io::write_all(1, b" -1"),
+        0 => io::write_all(1, b" 0"),
+        1 => io::write_all(1, b" 1"),
+        2 => io::write_all(1, b" 2"),
+        _ => io::write_all(1, b" more"),
+    }
+}
+
 // An octet as a wider number, with its bound.
 fn wide(x: u8) -> u64
     ensures { λ r. ⌜ r < 256 ⌝ }
@@ -206,6 +219,30 @@ pub fn add_octets(line: &[u8], from: usize, buf: &mut [u8], used: usize) -> usiz
         i += 2;
     }
     n
+}
+
+// Puts the cells of a line, from a place on, behind those in a table. It answers how many are then in it.
+pub fn add_cells(line: &[u8], from: usize, table: &mut [u32], used: usize) -> usize {
+    let mut n = used;
+    let mut i = from;
+    while n < table.len() {
+        if line.len() <= i {
+            return n;
+        }
+        let w = word(line, i);
+        table[n] = cell(w.value);
+        i = w.next;
+        n += 1;
+    }
+    n
+}
+
+// The first octets of a buffer; all where it has no more.
+pub fn front(s: &[u8], octets: usize) -> &[u8] {
+    if s.len() < octets {
+        return s;
+    }
+    &s[0..octets]
 }
 
 // Prints the name of a case, which a line has from a place on.
