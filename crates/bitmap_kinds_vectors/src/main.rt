@@ -81,15 +81,6 @@ fn show_reading(answer: Reading) {
     }
 }
 
-// Prints a field that was handed back: its octets counted, and the octets.
-fn show_part(s: &[u8]) {
-    io::write_all(1, b":");
-    vectors::number(s.len() as u64);
-    if s.len() != 0 {
-        vectors::show_octets(s);
-    }
-}
-
 // Prints the numbers of a writing, and answers the octets written.
 fn show_writing(answer: Writing) -> usize {
     match answer {
@@ -109,21 +100,13 @@ fn show_writing(answer: Writing) -> usize {
 
 // ---- the calls
 
-// The first octets of a buffer; all where it has no more.
-fn front(s: &[u8], octets: usize) -> &[u8] {
-    if s.len() < octets {
-        return s;
-    }
-    &s[0..octets]
-}
-
 // Reads a message. Prints the answer and the fields.
 fn read(kind: Kind, msg: &[u8]) {
     show_reading(bitmap_kinds::read(kind, msg));
-    show_part(bitmap_kinds::field_of(kind, Field::Mcc, msg));
-    show_part(bitmap_kinds::field_of(kind, Field::Mnc, msg));
-    show_part(bitmap_kinds::field_of(kind, Field::Date, msg));
-    show_part(bitmap_kinds::field_of(kind, Field::Image, msg));
+    vectors::show_part(bitmap_kinds::field_of(kind, Field::Mcc, msg));
+    vectors::show_part(bitmap_kinds::field_of(kind, Field::Mnc, msg));
+    vectors::show_part(bitmap_kinds::field_of(kind, Field::Date, msg));
+    vectors::show_part(bitmap_kinds::field_of(kind, Field::Image, msg));
 }
 
 // Reads a message, and prints the refusal alone.
@@ -200,7 +183,7 @@ fn write(
     vectors::show_octets(out);
     if n != 0 {
         io::write_all(1, b":");
-        read(kind, front(&out[1..end], n));
+        read(kind, vectors::front(&out[1..end], n));
     }
 }
 
@@ -302,9 +285,9 @@ fn call(line: &[u8], hand: InHand, octets: &mut [u8], mcc: &[u8], mnc: &[u8], da
     if letter == b'w' {
         write_case(
             line,
-            front(mcc, hand.mcc),
-            front(mnc, hand.mnc),
-            front(date, hand.date),
+            vectors::front(mcc, hand.mcc),
+            vectors::front(mnc, hand.mnc),
+            vectors::front(date, hand.date),
             &octets[0..end],
         );
         return;
@@ -393,24 +376,20 @@ fn run(text: &[u8]) {
     };
     let mut at = 0;
     while at < text.len() {
-        let end = vectors::line_end(text, at);
         hand = act(
-            &text[at..end],
+            vectors::line(text, at),
             hand,
             &mut octets,
             &mut mcc,
             &mut mnc,
             &mut date,
         );
-        at = end + 1;
+        at = vectors::next_line(text, at);
     }
 }
 
 fn main() {
     let mut text = [0u8; 32768];
-    let n = io::read_full(0, &mut text);
+    let n = vectors::read_text(&mut text);
     run(&text[..n]);
-    if n == text.len() {
-        io::write_all(1, b"there may be more cases than there is room for\n");
-    }
 }

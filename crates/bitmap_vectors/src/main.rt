@@ -1,31 +1,6 @@
 // Runs the cases of bitmaps and prints what the calls answer, a line for each case.
-ghost use Prim.Native.Nat.{_<_};
 use bitmap::Reading;
 use bitmap::Writing;
-
-// Prints a number, and a space ahead of it.
-fn number(n: u64) {
-    io::write_all(1, b" ");
-    io::print_decimal(1, n);
-}
-
-// An octet as a wider number, with its bound.
-fn wide(x: u8) -> u64
-    ensures { λ r. ⌜ r < 256 ⌝ }
-{
-    x as u64
-}
-
-// Octets as one number, to which each octet and its place matter.
-fn digest(s: &[u8]) -> u64 {
-    let mut d: u64 = 1;
-    let mut i = 0;
-    while i < s.len() {
-        d = (d * 31 + wide(s[i])) % 1000003;
-        i += 1;
-    }
-    d
-}
 
 // Prints the numbers of reading: refusal, place, width, height, black pixels.
 fn show_read(msg: &[u8]) {
@@ -35,18 +10,18 @@ fn show_read(msg: &[u8]) {
             height,
             black,
         } => {
-            number(0);
-            number(0);
-            number(width as u64);
-            number(height as u64);
-            number(black as u64);
+            vectors::number(0);
+            vectors::number(0);
+            vectors::number(width as u64);
+            vectors::number(height as u64);
+            vectors::number(black as u64);
         }
         Reading::Refused(n, p) => {
-            number(n as u64);
-            number(p.0 as u64);
-            number(0);
-            number(0);
-            number(0);
+            vectors::number(n as u64);
+            vectors::number(p.0 as u64);
+            vectors::number(0);
+            vectors::number(0);
+            vectors::number(0);
         }
     }
 }
@@ -55,8 +30,8 @@ fn show_read(msg: &[u8]) {
 fn show(msg: &[u8]) {
     show_read(msg);
     let image = bitmap::image(msg);
-    number(image.len() as u64);
-    number(digest(image));
+    vectors::number(image.len() as u64);
+    vectors::number(vectors::digest(image));
     io::write_all(1, b"\n");
 }
 
@@ -70,12 +45,12 @@ fn show_front(buf: &[u8], octets: usize) {
 // Reads a message of so many octets: a header, and image octets that are all alike.
 fn read_case(info: u8, width: u8, height: u8, depth: u8, pixels: u8, octets: usize) {
     io::write_all(1, b"read");
-    number(info as u64);
-    number(width as u64);
-    number(height as u64);
-    number(depth as u64);
-    number(pixels as u64);
-    number(octets as u64);
+    vectors::number(info as u64);
+    vectors::number(width as u64);
+    vectors::number(height as u64);
+    vectors::number(depth as u64);
+    vectors::number(pixels as u64);
+    vectors::number(octets as u64);
     io::write_all(1, b":");
     let mut msg = [pixels; 7920];
     msg[0] = info;
@@ -89,15 +64,15 @@ fn read_case(info: u8, width: u8, height: u8, depth: u8, pixels: u8, octets: usi
 fn show_write(width: u32, height: u32, image: &[u8], out: &mut [u8]) -> usize {
     match bitmap::write(width, height, image, out) {
         Writing::Wrote(n) => {
-            number(0);
-            number(0);
-            number(n.0 as u64);
+            vectors::number(0);
+            vectors::number(0);
+            vectors::number(n.0 as u64);
             n.0
         }
         Writing::Refused(n, p) => {
-            number(n as u64);
-            number(p.0 as u64);
-            number(0);
+            vectors::number(n as u64);
+            vectors::number(p.0 as u64);
+            vectors::number(0);
             0
         }
     }
@@ -125,16 +100,16 @@ fn write_front(
 // and then what reading the octets written answers.
 fn write_case(width: u32, height: u32, pixels: u8, octets: usize, room: usize) {
     io::write_all(1, b"write");
-    number(width as u64);
-    number(height as u64);
-    number(pixels as u64);
-    number(octets as u64);
-    number(room as u64);
+    vectors::number(width as u64);
+    vectors::number(height as u64);
+    vectors::number(pixels as u64);
+    vectors::number(octets as u64);
+    vectors::number(room as u64);
     io::write_all(1, b":");
     let row = [pixels; 7920];
     let mut out = [119u8; 7920];
     let n = write_front(width, height, &row, octets, &mut out, room);
-    number(digest(&out));
+    vectors::number(vectors::digest(&out));
     show_front(&out, n);
 }
 

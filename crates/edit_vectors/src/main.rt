@@ -44,19 +44,6 @@ struct Wanted {
 
 // ---- printing
 
-// Prints a change, which may be negative. No edit of one instruction changes more than two octets, so the cases are few,
-// and no signed number is converted. It answers as the call that writes does.
-fn signed(n: i32) -> bool {
-    match n {
-        -2 => io::write_all(1, b" -2"),
-        -1 => io::write_all(1, b" -1"),
-        0 => io::write_all(1, b" 0"),
-        1 => io::write_all(1, b" 1"),
-        2 => io::write_all(1, b" 2"),
-        _ => io::write_all(1, b" more"),
-    }
-}
-
 // Prints the numbers of an answer.
 fn show_answer(answer: Answer) {
     match answer {
@@ -70,7 +57,7 @@ fn show_answer(answer: Answer) {
             vectors::number(length.0 as u64);
             vectors::number(entries as u64);
             vectors::number(mark as u64);
-            signed(change);
+            vectors::signed(change);
         }
         Answer::Refused { number, place } => {
             vectors::number(number as u64);
@@ -316,17 +303,19 @@ fn run(text: &[u8]) {
     };
     let mut at = 0;
     while at < text.len() {
-        let end = vectors::line_end(text, at);
-        hand = act(&text[at..end], hand, &mut buf, &mut list, &mut blank);
-        at = end + 1;
+        hand = act(
+            vectors::line(text, at),
+            hand,
+            &mut buf,
+            &mut list,
+            &mut blank,
+        );
+        at = vectors::next_line(text, at);
     }
 }
 
 fn main() {
     let mut text = [0u8; 32768];
-    let n = io::read_full(0, &mut text);
+    let n = vectors::read_text(&mut text);
     run(&text[..n]);
-    if n == text.len() {
-        io::write_all(1, b"there may be more cases than there is room for\n");
-    }
 }

@@ -11,9 +11,9 @@
 // A call leaves nothing in hand.
 //
 // A line of output has the name, the width, the numbers of the answer (0 for the title or 1 for the stand-in, and the
-// label's octets), and the label itself.
+// label's octets), and the label itself, its octets counted.
 //
-//   NAME, WIDTH bits: supplier octets: label
+//   NAME, WIDTH bits: supplier octets: octets label
 ghost use Prim.Native.Nat.{_≤_};
 ghost use lib.ListN.{length};
 use label::Supplier;
@@ -25,21 +25,6 @@ struct InHand {
 }
 
 // ---- printing
-
-// Prints an octet as two hexadecimal digits, and a space ahead of them.
-fn octet(x: u8) {
-    io::write_all(1, b" ");
-    io::print_hex(1, x as u64, 2);
-}
-
-// Prints octets.
-fn octets(s: &[u8]) {
-    let mut i = 0;
-    while i < s.len() {
-        octet(s[i]);
-        i += 1;
-    }
-}
 
 // Prints the numbers of the answer.
 fn show_supplied(title: &[u8], unicode: bool, stand_in: &[u8]) {
@@ -58,8 +43,7 @@ fn show_supplied(title: &[u8], unicode: bool, stand_in: &[u8]) {
 // Prints the numbers, and then the label itself.
 fn show<'a, 'b: 'a>(title: &'a [u8], unicode: bool, stand_in: &'b [u8]) {
     show_supplied(title, unicode, stand_in);
-    io::write_all(1, b":");
-    octets(label::label(title, unicode, stand_in));
+    vectors::show_part(label::label(title, unicode, stand_in));
     io::write_all(1, b"\n");
 }
 
@@ -91,7 +75,7 @@ fn label_case<'a, 'b: 'a>(line: &[u8], hand: InHand, title: &'a [u8], stand_in: 
 }
 
 // Does what a line says, and answers what is then in hand.
-fn act(line: &[u8], hand: InHand, title: &mut [u8], stand_in: &mut [u8]) -> InHand {
+fn act(line: &[u8], hand: InHand, title: &mut [u8; 64], stand_in: &mut [u8; 64]) -> InHand {
     if line.len() < 2 {
         return hand;
     }
@@ -128,17 +112,13 @@ fn run(text: &[u8]) {
     };
     let mut at = 0;
     while at < text.len() {
-        let end = vectors::line_end(text, at);
-        hand = act(&text[at..end], hand, &mut title, &mut stand_in);
-        at = end + 1;
+        hand = act(vectors::line(text, at), hand, &mut title, &mut stand_in);
+        at = vectors::next_line(text, at);
     }
 }
 
 fn main() {
     let mut text = [0u8; 2048];
-    let n = io::read_full(0, &mut text);
+    let n = vectors::read_text(&mut text);
     run(&text[..n]);
-    if n == text.len() {
-        io::write_all(1, b"there may be more cases than there is room for\n");
-    }
 }

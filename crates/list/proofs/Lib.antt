@@ -1,2 +1,3 @@
 pub mod Outcomes
 pub mod Agreeing
+pub mod Lent

@@ -67,10 +67,13 @@ fn lend(msg: &[u8], row: &mut [u32], room: usize) {
 
 // ---- the text
 
-// Lists a message as a line says.
-fn list_case(line: &[u8], msg: &[u8])
+// Lists the octets in hand as a line says.
+fn list_case(line: &[u8], octets: &[u8], used: usize)
     requires { ⌜ 2 ≤ length (now line) ⌝ }
 {
+    if octets.len() < used {
+        return;
+    }
     let room = vectors::word(line, 2);
     let name = room.next;
     io::write_all(1, &line[name..]);
@@ -78,12 +81,12 @@ fn list_case(line: &[u8], msg: &[u8])
     vectors::number(room.value);
     io::write_all(1, b":");
     let mut row = [7u32; 64];
-    lend(msg, &mut row, room.value as usize);
+    lend(&octets[0..used], &mut row, room.value as usize);
 }
 
 // Does what a line says, and answers how many octets are then in hand.
-fn act(line: &[u8], used: usize, octets: &mut [u8]) -> usize {
-    if line.len() < 2 || octets.len() < used {
+fn act(line: &[u8], used: usize, octets: &mut [u8; 64]) -> usize {
+    if line.len() < 2 {
         return used;
     }
     let letter = line[0];
@@ -91,7 +94,7 @@ fn act(line: &[u8], used: usize, octets: &mut [u8]) -> usize {
         return vectors::add_octets(line, 2, octets, used);
     }
     if letter == b'l' {
-        list_case(line, &octets[0..used]);
+        list_case(line, octets, used);
         return 0;
     }
     used
@@ -103,17 +106,13 @@ fn run(text: &[u8]) {
     let mut used = 0;
     let mut at = 0;
     while at < text.len() {
-        let end = vectors::line_end(text, at);
-        used = act(&text[at..end], used, &mut octets);
-        at = end + 1;
+        used = act(vectors::line(text, at), used, &mut octets);
+        at = vectors::next_line(text, at);
     }
 }
 
 fn main() {
     let mut text = [0u8; 8192];
-    let n = io::read_full(0, &mut text);
+    let n = vectors::read_text(&mut text);
     run(&text[..n]);
-    if n == text.len() {
-        io::write_all(1, b"there may be more cases than there is room for\n");
-    }
 }

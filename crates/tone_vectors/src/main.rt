@@ -122,24 +122,6 @@ fn lend_write(song: u32, unicode: bool, title: &[u8], table: &[u32], room: u32) 
 
 // ---- the text
 
-// Puts the cells of a line, from a place on, behind those in a table. It answers how many are then in it.
-fn add_cells(line: &[u8], from: usize, table: &mut [u32], used: usize) -> usize
-    requires { ⌜ from ≤ length (now line) ⌝ }
-{
-    let mut n = used;
-    let mut i = from;
-    while n < table.len() {
-        if line.len() <= i {
-            return n;
-        }
-        let w = vectors::word(line, i);
-        table[n] = vectors::cell(w.value);
-        i = w.next;
-        n += 1;
-    }
-    n
-}
-
 // Puts what a line gives, from a place on, behind what is in hand.
 fn add(
     line: &[u8],
@@ -158,7 +140,7 @@ fn add(
     }
     InHand {
         octets: hand.octets,
-        cells: add_cells(line, from, cells, hand.cells),
+        cells: vectors::add_cells(line, from, cells, hand.cells),
     }
 }
 
@@ -252,17 +234,13 @@ fn run(text: &[u8]) {
     };
     let mut at = 0;
     while at < text.len() {
-        let end = vectors::line_end(text, at);
-        hand = act(&text[at..end], hand, &mut octets, &mut cells);
-        at = end + 1;
+        hand = act(vectors::line(text, at), hand, &mut octets, &mut cells);
+        at = vectors::next_line(text, at);
     }
 }
 
 fn main() {
     let mut text = [0u8; 32768];
-    let n = io::read_full(0, &mut text);
+    let n = vectors::read_text(&mut text);
     run(&text[..n]);
-    if n == text.len() {
-        io::write_all(1, b"there may be more cases than there is room for\n");
-    }
 }

@@ -1,6 +1,8 @@
-// What programs share that run cases given as lines of text: printing numbers, octets and cells, and taking a line apart.
+// What the programs of vectors share: printing numbers, octets and cells, and taking apart the lines of text that give the
+// cases of most.
 ghost use Prim.Native.Nat.{_≤_, _<_};
 ghost use lib.ListN.{length};
+ghost use Rattle.io.specs.Counts.{Counts};
 
 // A number of the text, and where the next word starts.
 pub struct Parsed {
@@ -14,6 +16,19 @@ pub struct Parsed {
 pub fn number(n: u64) {
     io::write_all(1, b" ");
     io::print_decimal(1, n);
+}
+
+// Prints a change, which may be negative. No edit of one instruction changes more than two octets, so the cases are few,
+// and no signed number is converted. It answers as the call that writes does.
+pub fn signed(n: i32) -> bool {
+    match n {
+        -2 => io::write_all(1, b" -2"),
+        -1 => io::write_all(1, b" -1"),
+        0 => io::write_all(1, b" 0"),
+        1 => io::write_all(1, b" 1"),
+        2 => io::write_all(1, b" 2"),
+        _ => io::write_all(1, b" more"),
+    }
 }
 
 // An octet as a wider number, with its bound.
@@ -49,7 +64,7 @@ pub fn cells(s: &[u32]) {
 }
 
 // Octets as one number, to which each octet and its place matter.
-fn digest(s: &[u8]) -> u64 {
+pub fn digest(s: &[u8]) -> u64 {
     let mut d: u64 = 1;
     let mut i = 0;
     while i < s.len() {
@@ -87,6 +102,15 @@ pub fn show_cells(s: &[u32]) {
         return;
     }
     number(digest_cells(s));
+}
+
+// Prints a part of a buffer that was handed back: its octets counted, and the octets.
+pub fn show_part(s: &[u8]) {
+    io::write_all(1, b":");
+    number(s.len() as u64);
+    if s.len() != 0 {
+        show_octets(s);
+    }
 }
 
 // ---- the text
@@ -129,8 +153,19 @@ pub fn cell(value: u64) -> u32 {
     (value % 4294967296) as u32
 }
 
+// Takes the text of standard input into a buffer, and says so where it may be longer. It answers how many octets there are.
+pub fn read_text(buf: &mut [u8]) -> usize
+    ensures { λ r. ⌜ Counts r (now (buf .exit)) ⌝ }
+{
+    let n = io::read_full(0, buf);
+    if n == buf.len() {
+        io::write_all(1, b"there may be more cases than there is room for\n");
+    }
+    n
+}
+
 // Where the line that starts at a place ends.
-pub fn line_end(text: &[u8], at: usize) -> usize
+fn line_end(text: &[u8], at: usize) -> usize
     requires { ⌜ at ≤ length (now text) ⌝ }
     ensures { λ r. ⌜ (at ≤ r) × (r ≤ length (now (text .entry))) ⌝ }
 {
@@ -142,6 +177,22 @@ pub fn line_end(text: &[u8], at: usize) -> usize
         i += 1;
     }
     i
+}
+
+// The line that starts at a place, without its end.
+pub fn line(text: &[u8], at: usize) -> &[u8]
+    requires { ⌜ at ≤ length (now text) ⌝ }
+{
+    let end = line_end(text, at);
+    &text[at..end]
+}
+
+// Where the line behind that one starts.
+pub fn next_line(text: &[u8], at: usize) -> usize
+    requires { ⌜ at ≤ length (now text) ⌝ }
+    ensures { λ r. ⌜ at < r ⌝ }
+{
+    line_end(text, at) + 1
 }
 
 // The octet that two hexadecimal digits from a place on give; 0 where there is one digit only.
@@ -168,6 +219,30 @@ pub fn add_octets(line: &[u8], from: usize, buf: &mut [u8], used: usize) -> usiz
         i += 2;
     }
     n
+}
+
+// Puts the cells of a line, from a place on, behind those in a table. It answers how many are then in it.
+pub fn add_cells(line: &[u8], from: usize, table: &mut [u32], used: usize) -> usize {
+    let mut n = used;
+    let mut i = from;
+    while n < table.len() {
+        if line.len() <= i {
+            return n;
+        }
+        let w = word(line, i);
+        table[n] = cell(w.value);
+        i = w.next;
+        n += 1;
+    }
+    n
+}
+
+// The first octets of a buffer; all where it has no more.
+pub fn front(s: &[u8], octets: usize) -> &[u8] {
+    if s.len() < octets {
+        return s;
+    }
+    &s[0..octets]
 }
 
 // Prints the name of a case, which a line has from a place on.

@@ -12,45 +12,6 @@ Inv-loop kind msg₀ octets octet i₀ msg i = length msg ≡ length msg₀
 abbrev μ-loop : tie.MeasureT-loop
 μ-loop kind msg₀ octets octet i₀ msg i = length msg₀ - i
 
-loop-holds : tie.Need-loop-holds Inv-loop μ-loop
-loop-holds c = search needs
-
-same-length : tie.Need-same-length Inv-loop μ-loop
-same-length c = search needs
-
-returns : tie.Need-returns Inv-loop μ-loop
-returns c = search needs
-
-read-spoilt-at-requires : tie.Need-read-spoilt-at-requires Inv-loop μ-loop
-read-spoilt-at-requires c κs = search needs
-
-add-i : tie.Need-add-i Inv-loop μ-loop
-add-i c = search needs
-
-loop-less : tie.Need-loop-less Inv-loop μ-loop
-loop-less c = search needs
-
-loop-again : tie.Need-loop-again Inv-loop μ-loop
-loop-again c = search needs
-
-same-length-2 : tie.Need-same-length-2 Inv-loop μ-loop
-same-length-2 c = search needs
-
-returns-2 : tie.Need-returns-2 Inv-loop μ-loop
-returns-2 c = search needs
-
 pub read-spoilt-spec : {M : Type 1} → statement M
-read-spoilt-spec =
-    tie.close
-    (tie.spec
-    Inv-loop
-    μ-loop
-    loop-holds
-    same-length
-    returns
-    read-spoilt-at-requires
-    add-i
-    loop-less
-    loop-again
-    same-length-2
-    returns-2)
+read-spoilt-spec = tie.close (tie.spec Inv-loop μ-loop (search needs) (search needs) (search needs) (search needs) (search needs) (search needs) (search needs) (search needs)
+    (search needs))
