@@ -5,6 +5,7 @@ use mathlib.Core.List.{List, _++_}
 use lib.ListN.{length, take, drop}
 use denote.Ref.{RefT, ptr, now}
 use Rattle.bits.specs.Outcome.{Outcome, accepted, refused}
+use Rattle.bits.specs.Places.{place, octetCount}
 use Rattle.bitmap.specs.declared.Reading.{Reading}
 use Rattle.bitmap.specs.declared.Reading.the-variants.{Read, Refused}
 use Rattle.bitmap.specs.declared.Writing.{Writing}
@@ -25,7 +26,7 @@ pub record ReadNumbers : Type 0 where
 -- the answer that the rules ask for
 abbrev pub readAnswer : Outcome Bitmap → Reading
 readAnswer (accepted b) = Read (b .width) (b .height) (blackPixels (b .width) (b .height) (b .image))
-readAnswer (refused n p) = Refused n (record { 0 = p })
+readAnswer (refused n p) = Refused n (place p)
 
 -- the numbers that the rules ask for: on a refusal its number and place, all others 0
 abbrev pub readNumbers : Outcome Bitmap → ReadNumbers
@@ -70,8 +71,8 @@ pub record WriteNumbers : Type 0 where
 
 -- the answer that the rules ask for
 abbrev pub writeAnswer : Outcome (List ℕ) → Writing
-writeAnswer (accepted w) = Wrote (record { 0 = length w })
-writeAnswer (refused n p) = Unwritten n (record { 0 = p })
+writeAnswer (accepted w) = Wrote (octetCount (length w))
+writeAnswer (refused n p) = Unwritten n (place p)
 
 -- the numbers that the rules ask for: on a refusal its number and place, and 0 octets
 abbrev pub writeNumbers : Outcome (List ℕ) → WriteNumbers

@@ -5,6 +5,7 @@ use mathlib.Core.List.{List, []}
 use lib.ListN.{length}
 use denote.Ref.{RefT, ptr, now}
 use Rattle.bits.specs.Outcome.{Outcome, accepted, refused}
+use Rattle.bits.specs.Places.{place, octetCount}
 use Rattle.bitmap.specs.declared.Writing.{Writing}
 use Rattle.bitmap.specs.Image.{blackPixels}
 use Rattle.bitmap.specs.Promises.{writeAnswer, writeNumbers, numbersOfWriting, lentAfter}
@@ -43,7 +44,7 @@ fieldStart kind Image g = length (aheadOctets kind (g .ahead)) + 4
 
 -- so many octets from a place on
 abbrev pub stretch : ℕ → ℕ → Stretch
-stretch start octets = record { start = record { 0 = start }; length = record { 0 = octets } }
+stretch start octets = record { start = octetCount start; length = octetCount octets }
 
 -- the stretch that a field is
 abbrev pub stretchOf : Kind → Field → Graphic → Stretch
@@ -75,7 +76,7 @@ blackOf g = blackPixels (g .bitmap .width) (g .bitmap .height) (g .bitmap .image
 -- the answer that the rules ask for
 abbrev pub readAnswer : Kind → Outcome Graphic → Reading
 readAnswer kind (accepted g) = Read (fieldsOf kind g) (g .bitmap .width) (g .bitmap .height) (blackOf g)
-readAnswer kind (refused n p) = Refused n (record { 0 = p })
+readAnswer kind (refused n p) = Refused n (place p)
 
 -- the numbers that the rules ask for: on a refusal its number and place, all others 0
 abbrev pub readNumbers : Kind → Outcome Graphic → ReadNumbers

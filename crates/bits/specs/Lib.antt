@@ -1,6 +1,7 @@
-pub mod Choice
 pub mod Bits
-pub mod Outcome
+pub mod Choice
 pub mod Lent
-pub mod Window
+pub mod Outcome
+pub mod Places
 pub mod Sink
+pub mod Window

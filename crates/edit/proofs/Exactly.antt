@@ -6,7 +6,7 @@ use mathlib.Core.List.{List}
 use lib.ListN.{length, take}
 use lib.Dec.{leb}
 use borrow.Author.Tests.{leb-true, le-leb}
-use Rattle.bits.specs.Outcome.{Outcome, accepted, refused}
+use Rattle.bits.specs.Outcome.{Outcome, accepted, refused, andThen}
 use Rattle.bits.proofs.Choice.{pick-elim}
 use Rattle.tone.specs.Tone.{Tone}
 use Rattle.tone.specs.Writing.{toneLength, mostOctets}
@@ -17,7 +17,7 @@ use Rattle.list_rules.specs.Listing.{anyTooLong, fitsNumbers}
 use Rattle.list_rules.proofs.Bounds.{none-too-long}
 use Rattle.edit_change.specs.declared.Edit.{Edit}
 use Rattle.edit_change.specs.Change.{changed}
-use Rattle.edit.specs.Editing.{Edited, editTone, inBuffer, beside, withList, andThen, editMessage}
+use Rattle.edit.specs.Editing.{Edited, editTone, inBuffer, beside, withList, editMessage}
 use Rattle.edit.proofs.Demand3.{Grounds, edit-accepts, edit-grounds, edit-formed}
 
 -- one condition for each ground of an edit, t being the tone that the message reads as. The ground 19 has none: no duration is above 32 bits.

@@ -12,13 +12,14 @@ use borrow.Author.Tests.{le-leb, lt-leb}
 use Rattle.bits.specs.Choice.{pick}
 use Rattle.bits.specs.Bits.{bitsOf, octetsTo}
 use Rattle.bits.specs.Lent.{over}
-use Rattle.bits.specs.Outcome.{Outcome, accepted, refused}
+use Rattle.bits.specs.Outcome.{Outcome, accepted, refused, andThen}
 use Rattle.bits.specs.declared.BitPlace.{BitPlace}
+use Rattle.bits.specs.Places.{place, octetCount}
 use Rattle.tone.specs.Tone.{Pattern, Tone, frontOf, cells, noneKnown}
 use Rattle.tone.specs.Writing.{tableBits, frontBits, endBits, toneBits, toneLength, toneOctets, mostOctets, WellFormed}
 use Rattle.tone.specs.Reading.{got, patternsDue, readTone}
 use Rattle.tone.proofs.Demand2.{octets-are, one-tone, written-is-accepted, length-toneOctets}
-use Rattle.tone_elements.specs.Answers.{Within, place, octetCount}
+use Rattle.tone_elements.specs.Answers.{Within}
 use Rattle.list_rules.specs.Sounding.{atStart, numbers}
 use Rattle.list_rules.specs.Playing.{play, playingList}
 use Rattle.list_fill.specs.Filling.{patternsIn, endIn, PatternsAt}
@@ -38,7 +39,7 @@ use Rattle.edit.specs.declared.Outline.{Outline}
 use Rattle.edit.specs.declared.Layout.{Layout}
 use Rattle.edit.specs.declared.Plan.{Plan}
 use Rattle.edit.specs.declared.Plan.the-variants.{Halt, Go}
-use Rattle.edit.specs.Editing.{Edited, editTone, inBuffer, beside, withList, andThen, editMessage, cleared, bufferAfter, listAfter}
+use Rattle.edit.specs.Editing.{Edited, editTone, inBuffer, beside, withList, editMessage, cleared, bufferAfter, listAfter}
 use Rattle.edit.specs.Plan.{Written, joinedBy, endOf, Laid, SomeLaid, Going, Plans}
 use Rattle.edit.specs.Promise.{numbersOf, editNumbers, editAnswer, Leaves, EditPromise}
 use Rattle.edit.proofs.Changes.{cleared-over}

@@ -11,15 +11,15 @@ use borrow.Author.Tests.{not-true, not-false, le-ltb, lt-ltb, ltb-true, eq-eqb}
 use mir.Val.{Fits}
 use mir.Syntax.{w32}
 use Rattle.bits.specs.Choice.{pick}
-use Rattle.bits.specs.Outcome.{Outcome, accepted, refused}
+use Rattle.bits.specs.Outcome.{Outcome, accepted, refused, andThen}
 use Rattle.bits.specs.declared.BitPlace.{BitPlace}
 use Rattle.bits.specs.declared.OctetCount.{OctetCount}
 use Rattle.bits.proofs.Octets.{length-bitsOf}
+use Rattle.bits.specs.Places.{place}
 use Rattle.tone.specs.Tone.{Pattern, Tone, Front, frontOf, specifier, header, cells, noneKnown, Sound as SoundPart}
 use Rattle.tone.specs.Writing.{entryBits, tableBits, frontBits}
 use Rattle.tone.specs.Reading.{readTone}
 use Rattle.tone.proofs.Rows.{tableBits-append, header-small, header-wide}
-use Rattle.tone_elements.specs.Answers.{place}
 use Rattle.tone_judge.specs.declared.Wish.{Wish}
 use Rattle.tone_judge.specs.declared.Cut.{Cut}
 use Rattle.tone_judge.specs.declared.Total.{Total}
@@ -37,7 +37,7 @@ use Rattle.edit_change.proofs.Bodies.{Fits as FitsEdit, length-after, body-inst
 use Rattle.edit_change.proofs.Grounds.{no-ground}
 use Rattle.edit_build.specs.declared.Piece.{Piece}
 use Rattle.edit.specs.declared.Outline.{Outline}
-use Rattle.edit.specs.Editing.{bodyLength, editTone, andThen}
+use Rattle.edit.specs.Editing.{bodyLength, editTone}
 use Rattle.edit.specs.Plan.{groundFor, Going}
 use Rattle.edit.proofs.Rebuilt.{joined-is}
 

@@ -5,7 +5,7 @@ use lib.ListN.{length, take, drop, replicate}
 use lib.Dec.{leb}
 use Rattle.bits.specs.Choice.{pick}
 use Rattle.bits.specs.Lent.{over}
-use Rattle.bits.specs.Outcome.{Outcome, accepted, refused}
+use Rattle.bits.specs.Outcome.{Outcome, accepted, refused, andThen}
 use Rattle.tone.specs.Tone.{Tone}
 use Rattle.tone.specs.Writing.{toneLength, toneOctets, mostOctets}
 use Rattle.tone.specs.Reading.{readTone}
@@ -51,11 +51,6 @@ beside t (refused n p) = refused n p
 abbrev pub withList : ℕ → Outcome Tone → Outcome Edited
 withList cells (accepted t) = beside t (fitted (fitsNumbers cells) (playingList t))
 withList cells (refused n p) = refused n p
-
--- one step after another
-abbrev pub andThen : {A B : Type 0} → Outcome A → (A → Outcome B) → Outcome B
-andThen (accepted a) f = f a
-andThen (refused n p) f = refused n p
 
 -- the whole edit: the used length, the message's own refusals, the edit's grounds, the buffer, the list
 unfoldable pub editMessage : List ℕ → ℕ → Edit → ℕ → ℕ → ℕ → Outcome Edited

@@ -7,7 +7,7 @@ use lib.ListN.{length}
 use lib.Dec.{ltb}
 use Rattle.bits.specs.Choice.{pick}
 use Rattle.bits.specs.Bits.{bitsOf, placeAfter}
-use Rattle.bits.specs.Outcome.{accepted, refused}
+use Rattle.bits.specs.Outcome.{accepted, refused, andThen}
 use Rattle.tone.specs.Tone.{Tone, frontOf, specifier, Formed}
 use Rattle.tone.specs.Writing.{frontBits, songBits, toneOctets, mostOctets, WellFormed}
 use Rattle.tone.specs.Reading.{readTone}
@@ -22,7 +22,7 @@ use Rattle.edit.specs.declared.Outline.{Outline}
 use Rattle.edit.specs.declared.Layout.{Layout}
 use Rattle.edit.specs.declared.Plan.{Plan}
 use Rattle.edit.specs.declared.Plan.the-variants.{Halt, Go}
-use Rattle.edit.specs.Editing.{andThen, editTone}
+use Rattle.edit.specs.Editing.{editTone}
 
 -- the ground against an edit at instruction i of the pattern at k, of p, whose header is c: 6, 12, 13, 14, or 0 for none
 abbrev pub groundFor : Edit → ℕ → ℕ → ℕ → ℕ → ℕ

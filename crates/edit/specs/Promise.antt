@@ -5,8 +5,8 @@ use mathlib.Core.List.{List}
 use lib.ListN.{length}
 use lib.IntN.{ℤ, pos, _-ℤ_}
 use Rattle.bits.specs.Outcome.{Outcome, accepted, refused}
+use Rattle.bits.specs.Places.{place, octetCount}
 use Rattle.tone.specs.Writing.{toneLength}
-use Rattle.tone_elements.specs.Answers.{place, octetCount}
 use Rattle.edit_change.specs.declared.Edit.{Edit}
 use Rattle.edit.specs.declared.Answer.{Answer}
 use Rattle.edit.specs.declared.Answer.the-variants.{Edited as Made, Refused}

@@ -6,11 +6,11 @@ use lib.ListN.{length, take}
 use Rattle.bits.specs.Bits.{Octets}
 use Rattle.bits.specs.Lent.{over}
 use Rattle.bits.specs.Outcome.{accepted}
+use Rattle.bits.specs.Places.{octetCount}
 use Rattle.tone.specs.Tone.{Tone, cells}
 use Rattle.tone.specs.Writing.{toneLength, toneOctets}
 use Rattle.tone.specs.Reading.{readTone}
 use Rattle.tone.proofs.Demand2.{read-well-formed, length-toneOctets}
-use Rattle.tone_elements.specs.Answers.{octetCount}
 use Rattle.tone_write.specs.declared.Writing.{Writing}
 use Rattle.tone_write.specs.declared.Writing.the-variants.{Written}
 use Rattle.tone_write.specs.Promise.{WritePromise}

@@ -17,7 +17,8 @@ use Rattle.tone.specs.Tone.{perCharacter}
 use Rattle.label.specs.declared.Supplier.{Supplier}
 use Rattle.label.specs.declared.Supplier.the-variants.{Title, StandIn}
 use Rattle.label.specs.Label.{character, trimmed, leftOctets, odd, standsIn, labelOf}
-use Rattle.label.specs.Promises.{numbers, count, SuppliedPromise, LabelPromise}
+use Rattle.bits.specs.Places.{octetCount}
+use Rattle.label.specs.Promises.{numbers, SuppliedPromise, LabelPromise}
 
 -- no more characters are left than there are
 pub trimmed-most : (w : ℕ) (title : List ℕ) (n : ℕ) → trimmed w title n ≤ n
@@ -31,7 +32,7 @@ unfolding leftOctets
 left-inside w title = le-trans (mul-le-mul-left w (trimmed-most w title (length title / w))) (mul-div-le (length title) w)
 
 module _ (title : List ℕ) (unicode : Bool) (standIn : List ℕ) where
-  by-stand-in : standsIn unicode title ≡ true → SuppliedPromise title unicode standIn (StandIn (count (length standIn)))
+  by-stand-in : standsIn unicode title ≡ true → SuppliedPromise title unicode standIn (StandIn (octetCount (length standIn)))
   unfolding labelOf
   by-stand-in h = record { answer = rw h refl; said = rw h refl }
 
@@ -39,10 +40,10 @@ module _ (title : List ℕ) (unicode : Bool) (standIn : List ℕ) where
   unfolding labelOf
   by-title n e h =
       let l : leftOctets (perCharacter unicode) title ≡ length (take (leftOctets (perCharacter unicode) title) title) = sym (length-take-le (leftOctets (perCharacter unicode) title) title (left-inside (perCharacter unicode) title)) in
-      record { answer = rw h (ap (λ (x : ℕ). Title (count x)) e); said = rw h (ap (λ (x : ℕ). numbers (Title (count x))) (e ∙ l)) }
+      record { answer = rw h (ap (λ (x : ℕ). Title (octetCount x)) e); said = rw h (ap (λ (x : ℕ). numbers (Title (octetCount x))) (e ∙ l)) }
 
   module _ {o : Bool} (q : o ≡ odd unicode title) where
-    pub supplied-odd : o ≡ true → SuppliedPromise title unicode standIn (StandIn (count (length standIn)))
+    pub supplied-odd : o ≡ true → SuppliedPromise title unicode standIn (StandIn (octetCount (length standIn)))
     unfolding standsIn
     supplied-odd h = by-stand-in (rw (← q, h) refl)
 
@@ -50,7 +51,7 @@ module _ (title : List ℕ) (unicode : Bool) (standIn : List ℕ) where
     supplied-whole h = sym q ∙ h
 
     module _ {n : OctetCount} (h : o ≡ false) (e : n .0 ≡ leftOctets (perCharacter unicode) title) where
-      pub supplied-nothing : n .0 ≡ 0 → SuppliedPromise title unicode standIn (StandIn (count (length standIn)))
+      pub supplied-nothing : n .0 ≡ 0 → SuppliedPromise title unicode standIn (StandIn (octetCount (length standIn)))
       unfolding standsIn
       supplied-nothing z = by-stand-in (rw (← q, h, ← e, eq-eqb (n .0) 0 z) refl)
 
@@ -64,15 +65,15 @@ pub ruleset supplies = (supplied-odd, supplied-whole, supplied-nothing, supplied
 stood : {title : List ℕ} {unicode : Bool} {standIn : List ℕ} {s : Supplier} → SuppliedPromise title unicode standIn s → {n : OctetCount} → s ≡ StandIn n → standsIn unicode title ≡ true
 stood {title} {unicode} {standIn} {s} p {n} e = go (standsIn unicode title) (p .answer)
   where
-    go : (b : Bool) → s ≡ pick b (StandIn (count (length standIn))) (Title (count (leftOctets (perCharacter unicode) title))) → b ≡ true
+    go : (b : Bool) → s ≡ pick b (StandIn (octetCount (length standIn))) (Title (octetCount (leftOctets (perCharacter unicode) title))) → b ≡ true
     go true g = refl
     go false g = let z : _≡_ {A = ℕ} 0 1 = cc in absurd (omega arith)
 
 supplies-title : {title : List ℕ} {unicode : Bool} {standIn : List ℕ} {s : Supplier} → SuppliedPromise title unicode standIn s → {n : OctetCount} → s ≡ Title n
-    → (standsIn unicode title ≡ false) × (n ≡ count (leftOctets (perCharacter unicode) title))
+    → (standsIn unicode title ≡ false) × (n ≡ octetCount (leftOctets (perCharacter unicode) title))
 supplies-title {title} {unicode} {standIn} {s} p {n} e = go (standsIn unicode title) (p .answer)
   where
-    go : (b : Bool) → s ≡ pick b (StandIn (count (length standIn))) (Title (count (leftOctets (perCharacter unicode) title))) → (b ≡ false) × (n ≡ count (leftOctets (perCharacter unicode) title))
+    go : (b : Bool) → s ≡ pick b (StandIn (octetCount (length standIn))) (Title (octetCount (leftOctets (perCharacter unicode) title))) → (b ≡ false) × (n ≡ octetCount (leftOctets (perCharacter unicode) title))
     go true g = let z : _≡_ {A = ℕ} 0 1 = cc in absurd (omega arith)
     go false g = (refl, cc)
 

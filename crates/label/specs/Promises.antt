@@ -6,7 +6,7 @@ use mathlib.Core.List.{List}
 use lib.ListN.{length}
 use denote.Ref.{RefT, ptr, now}
 use Rattle.bits.specs.Choice.{pick}
-use Rattle.bits.specs.declared.OctetCount.{OctetCount}
+use Rattle.bits.specs.Places.{octetCount}
 use Rattle.tone.specs.Tone.{perCharacter}
 use Rattle.label.specs.declared.Supplier.{Supplier}
 use Rattle.label.specs.declared.Supplier.the-variants.{Title, StandIn}
@@ -24,14 +24,10 @@ abbrev pub numbers : Supplier → Numbers
 numbers (Title n) = record { buffer = 0; octets = n .0 }
 numbers (StandIn n) = record { buffer = 1; octets = n .0 }
 
--- a number as a count of octets
-abbrev pub count : ℕ → OctetCount
-count n = record { 0 = n }
-
 -- the answer that the rules ask for
 abbrev pub suppliedAnswer : Bool → List ℕ → List ℕ → Supplier
 suppliedAnswer unicode title standIn =
-    pick (standsIn unicode title) (StandIn (count (length standIn))) (Title (count (leftOctets (perCharacter unicode) title)))
+    pick (standsIn unicode title) (StandIn (octetCount (length standIn))) (Title (octetCount (leftOctets (perCharacter unicode) title)))
 
 -- the numbers that the rules ask for
 abbrev pub suppliedNumbers : Bool → List ℕ → List ℕ → Numbers

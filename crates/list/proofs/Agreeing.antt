@@ -10,6 +10,7 @@ use borrow.Author.Tests.{leb-true}
 use Rattle.bits.specs.Choice.{pick}
 use Rattle.bits.specs.Lent.{over}
 use Rattle.bits.specs.Outcome.{Outcome, accepted, refused}
+use Rattle.bits.proofs.Choice.{both}
 use Rattle.tone.specs.Tone.{Tone}
 use Rattle.tone.specs.Reading.{readTone}
 use Rattle.list_rules.specs.declared.Entry.{Entry}
@@ -20,7 +21,6 @@ use Rattle.list_rules.specs.Ranges.{Bounded, AllBounded}
 use Rattle.list_rules.specs.Playing.{Listing, playingList}
 use Rattle.list_rules.specs.Listing.{anyTooLong, listed, fitsNumbers, fitsBoth, listTone}
 use Rattle.list.specs.Promise.{numbersOf, listNumbers, entriesIn, listAnswer, cellsAfter, rowsAfter, ListPromise, RowsPromise}
-use Rattle.list_rules.proofs.Below.{both}
 use Rattle.list_rules.proofs.Bounds.{list-bounded}
 use Rattle.list_rules.proofs.Packing.{length-numbers, entries-numbers}
 use Rattle.list.proofs.Outcomes.{accepted-formed}

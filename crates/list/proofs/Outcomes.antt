@@ -15,12 +15,13 @@ use Rattle.bits.specs.Outcome.{Outcome, accepted, refused}
 use Rattle.bits.specs.declared.BitPlace.{BitPlace}
 use Rattle.bits.specs.declared.OctetCount.{OctetCount}
 use Rattle.bits.proofs.Octets.{length-bitsOf}
+use Rattle.bits.specs.Places.{place}
 use Rattle.tone.specs.Tone.{Pattern, Tone, Formed, frontOf, cells, noneKnown}
 use Rattle.tone.specs.Writing.{tableBits, frontBits, songBits, endBits, toneBits}
 use Rattle.tone.specs.Reading.{got, patternsDue, readTone}
 use Rattle.tone.proofs.Rows.{patterns-exact}
 use Rattle.tone.proofs.Demand2.{Says, read-says, core-reads}
-use Rattle.tone_elements.specs.Answers.{Within, place}
+use Rattle.tone_elements.specs.Answers.{Within}
 use Rattle.tone_judge.specs.declared.Total.{Total}
 use Rattle.tone_judge.specs.declared.Judged.{Judged}
 use Rattle.tone_judge.specs.declared.Judged.the-variants.{Sound, Faulty}

@@ -6,7 +6,7 @@ use mathlib.Core.List.{List}
 use lib.ListN.{length}
 use Rattle.bits.specs.Lent.{over}
 use Rattle.bits.specs.Outcome.{Outcome, accepted, refused}
-use Rattle.tone_elements.specs.Answers.{place}
+use Rattle.bits.specs.Places.{place}
 use Rattle.list_rules.specs.declared.Entry.{Entry}
 use Rattle.list.specs.declared.Listed.{Listed}
 use Rattle.list.specs.declared.Listed.the-variants.{Made, Refused}

@@ -14,13 +14,14 @@ use Rattle.bits.specs.Bits.{bitsOf}
 use Rattle.bits.specs.Lent.{over}
 use Rattle.bits.specs.declared.BitPlace.{BitPlace}
 use Rattle.bits.proofs.Octets.{length-bitsOf}
+use Rattle.bits.specs.Places.{place}
 use Rattle.tone.specs.Table.{kind, width, allowed, InTable}
 use Rattle.tone.specs.Tone.{Pattern, specifier, loopOf, partOf, pattern, learn}
 use Rattle.tone.specs.Writing.{entryBits, tableBits}
 use Rattle.tone.specs.Reading.{got, bad, onward, headerDue, bodyDue, patternsDue}
 use Rattle.tone.proofs.Exact.{Accepted}
 use Rattle.tone.proofs.Rows.{Header, Body, header-exact, body-exact}
-use Rattle.tone_elements.specs.Answers.{Within, place, notes, EntryAt, SomeEntry, Passed}
+use Rattle.tone_elements.specs.Answers.{Within, notes, EntryAt, SomeEntry, Passed}
 use Rattle.tone_elements.proofs.Steps.{onward-got, onward-made}
 use Rattle.list_rules.specs.declared.Settings.{Settings}
 use Rattle.list_rules.specs.declared.Entry.{Entry}

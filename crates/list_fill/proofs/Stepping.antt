@@ -12,11 +12,12 @@ use borrow.Author.Tests.{eq-eqb, ne-eqb, leb-true}
 use mir.Val.{Fits}
 use mir.Syntax.{w32}
 use Rattle.bits.specs.declared.BitPlace.{BitPlace}
-use Rattle.bits.proofs.Choice.{pick-elim}
+use Rattle.bits.proofs.Choice.{pick-elim, both}
+use Rattle.bits.specs.Places.{place}
 use Rattle.tone.specs.Table.{kind, payload, width, allowed, noteOf, durationOf, specifierOf, Instruction}
 use Rattle.tone.specs.Writing.{entryBits}
 use Rattle.tone.proofs.Rows.{length-entryBits}
-use Rattle.tone_elements.specs.Answers.{place, noteIn}
+use Rattle.tone_elements.specs.Answers.{noteIn}
 use Rattle.list_rules.specs.declared.Settings.{Settings}
 use Rattle.list_fill.specs.declared.Walk.{Walk}
 use Rattle.list_rules.specs.Duration.{beats, units, microseconds}
@@ -25,7 +26,6 @@ use Rattle.list_rules.specs.Ranges.{InRange}
 use Rattle.list_rules.specs.Playing.{step}
 use Rattle.list_rules.specs.Tempo.{lastsOf, baseOf}
 use Rattle.list_fill.specs.Filling.{entrySeen, Ready, Advanced}
-use Rattle.list_rules.proofs.Below.{both}
 use Rattle.list_rules.proofs.Bounds.{range-start, range-applied}
 use Rattle.list_rules.proofs.Durations.{lasts-exact}
 use Rattle.list_fill.proofs.Seeing.{seen-kind, seen-note, seen-entry, seen-small, width-some}

@@ -8,7 +8,7 @@ use mathlib.Core.List.{List, [], _∷_, _++_}
 use lib.ListN.{length}
 use lib.Dec.{eqb, leb}
 use borrow.Author.Tests.{eqb-true, leb-true, lt-leb}
-use Rattle.bits.proofs.Choice.{pick-elim}
+use Rattle.bits.proofs.Choice.{pick-elim, both}
 use Rattle.tone.specs.Table.{kind, payload, width, allowed, noteOf, durationOf, specifierOf, Instruction}
 use Rattle.tone.specs.Tone.{Pattern, Tone, Formed, header, learn, Instructions, Sound, Sequence, noneKnown}
 use Rattle.list_rules.specs.declared.Settings.{Settings}
@@ -21,7 +21,6 @@ use Rattle.tone_elements.specs.Answers.{notes}
 use Rattle.list_count.specs.Counting.{entryCount}
 use Rattle.list_count.proofs.Bodies.{Each, each-start, each-sounds, each-kept, Body, none-body, sound-body, notes-most, passes-most}
 use Rattle.list_rules.specs.Listing.{anyTooLong}
-use Rattle.list_rules.proofs.Below.{both}
 use Rattle.list_rules.proofs.Durations.{duration-most}
 use Rattle.list_rules.proofs.Counts.{list-count}
 

@@ -10,11 +10,11 @@ use borrow.Author.Tests.{leb-true}
 use Rattle.bits.specs.Choice.{pick}
 use Rattle.bits.specs.Outcome.{Outcome, accepted, refused}
 use Rattle.bits.specs.declared.BitPlace.{BitPlace}
+use Rattle.bits.specs.Places.{place}
 use Rattle.tone.specs.Tone.{Tone}
 use Rattle.tone.specs.Writing.{mostOctets}
 use Rattle.tone.specs.Reading.{readTone}
 use Rattle.tone.proofs.Refusals.{place-most}
-use Rattle.tone_elements.specs.Answers.{place}
 use Rattle.list.specs.declared.Listed.{Listed}
 use Rattle.list.specs.declared.Listed.the-variants.{Made, Refused}
 use Rattle.list_rules.specs.Playing.{Listing, playingList}

@@ -8,17 +8,16 @@ use mathlib.Core.List.{List}
 use lib.ListN.{length, take}
 use lib.Dec.{leb, eqb}
 use borrow.Author.Tests.{le-leb, leb-true, leb-false, ne-eqb, eqb-false}
-use Rattle.bits.specs.Outcome.{Outcome, accepted, refused}
+use Rattle.bits.specs.Outcome.{Outcome, accepted, refused, andThen, andThen as then}
 use Rattle.bits.proofs.Choice.{pick-elim}
-use Rattle.tone.specs.Tone.{Tone, Formed}
+use Rattle.tone.specs.Tone.{Tone, Formed, entries}
 use Rattle.tone.specs.Writing.{toneLength, mostOctets}
 use Rattle.tone.specs.Reading.{readTone}
 use Rattle.tone.proofs.Demand2.{read-well-formed}
 use Rattle.tone.proofs.Grounds.{read-number-most}
 use Rattle.tone.proofs.Largest.{title-most, entries-most}
-use Rattle.tone_elements.specs.Answers.{entries}
 use Rattle.tone_read.specs.Promise.{readNumbers, roomed, readInto}
-use Rattle.tone_table.specs.Weighing.{andThen, judgeTable}
+use Rattle.tone_table.specs.Judging.{judgeTable}
 use Rattle.tone_table.proofs.Grounds.{table-grounds}
 use Rattle.tone_write.specs.Judging.{songFine, titleFine, sized, toneOf, writeTone}
 use Rattle.tone_write.specs.Promise.{writeNumbers}
@@ -29,7 +28,7 @@ use Rattle.list_rules.proofs.Bounds.{list-most}
 use Rattle.list.specs.Promise.{listNumbers}
 use Rattle.edit_change.specs.declared.Edit.{Edit}
 use Rattle.edit_change.specs.Change.{carriesNew, isThere, empties, overfills}
-use Rattle.edit.specs.Editing.{bodyLength, editTone, inBuffer, beside, withList, andThen as then, editMessage}
+use Rattle.edit.specs.Editing.{bodyLength, editTone, inBuffer, beside, withList, editMessage}
 use Rattle.edit.specs.Promise.{editNumbers}
 use Rattle.edit.proofs.Demand3.{edit-grounds, edit-formed}
 use Rattle.bitmap.specs.Bitmap.{Bitmap, writingInto}

@@ -4,7 +4,7 @@ use Rattle.bits.specs.Bits.{field, bitsN}
 use Rattle.tone.specs.Table as table
 use Rattle.tone.specs.Writing as writing
 use Rattle.tone.specs.Reading as reading
-use Rattle.tone_table.specs.Weighing.{entryFine, entryJudged, entriesJudged, endJudged, judgeTable}
+use Rattle.tone_table.specs.Judging.{entryFine, entryJudged, entriesJudged, endJudged, judgeTable}
 use Rattle.tone_write.specs.Judging.{sized, writeTone}
 use Rattle.samples.specs.Table.{Readings, Writings}
 

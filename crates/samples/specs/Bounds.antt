@@ -8,7 +8,7 @@ use Rattle.bits.specs.Outcome.{accepted, refused}
 use Rattle.tone.specs.Tone.{Tone, Formed}
 use Rattle.tone.specs.Writing.{toneLength, toneOctets}
 use Rattle.tone.specs.Reading.{readTone}
-use Rattle.tone_table.specs.Weighing.{judgeTable}
+use Rattle.tone_table.specs.Judging.{judgeTable}
 use Rattle.tone_write.specs.Judging.{songFine, titleFine, toneOf, writeTone}
 use Rattle.edit.specs.Editing.{inBuffer}
 use Rattle.samples.specs.Samples.{message}

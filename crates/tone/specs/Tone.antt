@@ -60,6 +60,10 @@ abbrev pub cells : List Pattern → List ℕ
 cells [] = []
 cells (p ∷ ps) = header p ∷ (p .body ++ cells ps)
 
+-- how many entries the table has
+abbrev pub entries : List Pattern → ℕ
+entries ps = length (cells ps)
+
 -- instructions that stand under no header yet, and the patterns behind them
 pub record Gathered : Type 0 where
   pub loose : List ℕ

@@ -15,11 +15,12 @@ use Rattle.bits.specs.Bits.{bitsOf, field}
 use Rattle.bits.specs.Window.{Look}
 use Rattle.bits.proofs.Octets.{length-bitsOf}
 use Rattle.bits.proofs.Looking.{seen}
+use Rattle.bits.specs.Places.{place}
 use Rattle.tone_elements.specs.declared.Step.the-variants.{Good, Bad}
 use Rattle.tone.specs.Table.{width, allowed, isInstruction}
 use Rattle.tone.specs.Tone.{recallable}
 use Rattle.tone.specs.Reading.{got, element, headerDue, instructionDue}
-use Rattle.tone_elements.specs.Answers.{place, allKnown, stepOf}
+use Rattle.tone_elements.specs.Answers.{allKnown, stepOf}
 use Rattle.tone.proofs.Exact.{element-good, element-bad, element-cut}
 use Rattle.tone_elements.proofs.Headers.{any-recalled}
 

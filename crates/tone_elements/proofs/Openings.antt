@@ -19,6 +19,7 @@ use Rattle.bits.specs.Window.{Look, Sight}
 use Rattle.bits.proofs.Octets.{length-bitsOf}
 use Rattle.bits.proofs.Numbers.{field-drop}
 use Rattle.bits.proofs.Looking.{seen, length-left, sight-zero}
+use Rattle.bits.specs.Places.{place, octetCount}
 use Rattle.tone.specs.Tone.{perCharacter}
 use Rattle.tone.specs.Writing.{programming, unicodePart, sound}
 use Rattle.tone.specs.Reading.{Got, got, bad, onward, Reader, element, anyOf, part, fillerBit, filled, whetherUnicode, soundPart, parts, command, character, text, title, counted, titled, typed, front, ending}
@@ -32,7 +33,7 @@ use Rattle.tone_elements.specs.declared.Characters.{Characters}
 use Rattle.tone_elements.specs.declared.Characters.the-variants.{Present, Cut}
 use Rattle.tone_elements.specs.declared.Opening.{Opening}
 use Rattle.tone_elements.specs.declared.Opening.the-variants.{Opened, Closed}
-use Rattle.tone_elements.specs.Answers.{Within, place, octetCount, stepAs, stepOf, commandOf, charactersOf, openingOf}
+use Rattle.tone_elements.specs.Answers.{Within, stepAs, stepOf, commandOf, charactersOf, openingOf}
 use Rattle.tone_elements.proofs.Steps.{step-there, step-bad, step-cong, step-map, characters-as, characters-good, characters-cut}
 use Rattle.tone_elements.proofs.Walks.{stays}
 

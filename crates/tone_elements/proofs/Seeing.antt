@@ -16,10 +16,11 @@ use Rattle.bits.proofs.Choice.{pick-elim}
 use Rattle.bits.proofs.Numbers.{field-drop}
 use Rattle.bits.proofs.Octets.{length-bitsOf}
 use Rattle.bits.proofs.Looking.{length-left}
+use Rattle.bits.specs.Places.{place}
 use Rattle.tone_elements.specs.declared.Step.the-variants.{Good, Bad}
 use Rattle.tone.specs.Table.{entry, kind, noteOf, durationOf, width, allowed, isInstruction}
 use Rattle.tone.specs.Reading.{got, element, instructionDue}
-use Rattle.tone_elements.specs.Answers.{place, stepAs, noteIn, Seen}
+use Rattle.tone_elements.specs.Answers.{stepAs, noteIn, Seen}
 use Rattle.tone.proofs.Exact.{element-good, element-bad}
 use Rattle.tone_elements.proofs.Elements.{note-width}
 

@@ -6,12 +6,13 @@ use mathlib.Core.List.{List}
 use lib.ListN.{length}
 use Rattle.bits.specs.declared.BitPlace.{BitPlace}
 use Rattle.bits.specs.declared.OctetCount.{OctetCount}
+use Rattle.bits.specs.Places.{place, octetCount}
 use Rattle.tone_elements.specs.declared.Step.{Step}
 use Rattle.tone_elements.specs.declared.Step.the-variants.{Good, Bad}
 use Rattle.tone_elements.specs.declared.Characters.{Characters}
 use Rattle.tone_elements.specs.declared.Characters.the-variants.{Present, Cut}
 use Rattle.tone.specs.Reading.{Got, got, bad, onward}
-use Rattle.tone_elements.specs.Answers.{place, octetCount, stepAs, stepOf, charactersOf}
+use Rattle.tone_elements.specs.Answers.{stepAs, stepOf, charactersOf}
 
 -- a value was read there
 pub step-good : {A : Type 0} (f : A → ℕ) (x : Got A) {v : ℕ} {q : BitPlace} → Good v q ≡ stepAs f x → (a : A) × (x ≡ got a (q .0)) × (v ≡ f a)

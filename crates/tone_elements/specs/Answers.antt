@@ -10,6 +10,7 @@ use Rattle.bits.specs.Bits.{bitsOf, placeAfter}
 use Rattle.bits.specs.declared.BitPlace.{BitPlace}
 use Rattle.bits.specs.declared.OctetCount.{OctetCount}
 use Rattle.bits.specs.Window.{Sight}
+use Rattle.bits.specs.Places.{place, octetCount}
 use Rattle.tone_elements.specs.declared.Step.{Step}
 use Rattle.tone_elements.specs.declared.Step.the-variants.{Good, Bad}
 use Rattle.tone_elements.specs.declared.Command.{Command}
@@ -28,18 +29,6 @@ use Rattle.tone.specs.Reading.{Got, got, bad, instructionDue}
 pub record Within (m : List ℕ) (at : ℕ) : Type 0 where
   pub inside : at ≤ placeAfter (length m)
   pub counted : length m < 2 ^ 60
-
--- a number as a bit place
-abbrev pub place : ℕ → BitPlace
-place p = record { 0 = p }
-
--- a number as an octet count
-abbrev pub octetCount : ℕ → OctetCount
-octetCount n = record { 0 = n }
-
--- all four parts are known: then a header may recall any
-abbrev pub allKnown : List Bool
-allKnown = true ∷ true ∷ true ∷ true ∷ []
 
 -- what was read, as the number that f makes of it, or the refusal
 abbrev pub stepAs : {A : Type 0} → (A → ℕ) → Got A → Step
@@ -62,10 +51,6 @@ notes (e ∷ b) = noteIn e + notes b
 -- s is what is due of an instruction at a place, in every message that has 12 bits there, on top of x: none has more
 pub record Seen (at x : ℕ) (s : Step) : Type 0 where
   pub due : (m : List ℕ) (n : ℕ) → 12 ≤ n → Sight n (drop at (bitsOf m)) x → at + 12 ≤ placeAfter (length m) → s ≡ stepAs noteIn (instructionDue (bitsOf m) at)
-
--- how many entries patterns have in the tone table
-abbrev pub entries : List Pattern → ℕ
-entries ps = length (cells ps)
 
 -- whether UNICODE is announced, or the refusal
 abbrev pub commandOf : Got Bool → Command

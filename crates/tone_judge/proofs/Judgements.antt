@@ -14,6 +14,7 @@ use Rattle.bits.specs.Outcome.{Outcome, accepted, refused}
 use Rattle.bits.specs.declared.BitPlace.{BitPlace}
 use Rattle.bits.specs.declared.OctetCount.{OctetCount}
 use Rattle.bits.proofs.Octets.{length-bitsOf}
+use Rattle.bits.specs.Places.{place, octetCount}
 use Rattle.tone.specs.Tone.{Pattern, Tone, Front, frontOf, header, cells, noneKnown}
 use Rattle.tone.specs.Writing.{frontBits, tableBits, mostOctets}
 use Rattle.tone.specs.Reading.{Got, got, bad, front, patternsDue, ending, rest, wholeTone, nothingMore, readTone}
@@ -27,7 +28,7 @@ use Rattle.tone_judge.specs.declared.Whole.{Whole}
 use Rattle.tone_judge.specs.declared.Whole.the-variants.{Ended, Broken}
 use Rattle.tone_judge.specs.declared.Judged.{Judged}
 use Rattle.tone_judge.specs.declared.Judged.the-variants.{Sound, Faulty}
-use Rattle.tone_elements.specs.Answers.{Within, place, stepOf, openingOf, octetCount}
+use Rattle.tone_elements.specs.Answers.{Within, stepOf, openingOf}
 use Rattle.tone_judge.specs.declared.Tally.the-variants.{Counted, Stopped}
 use Rattle.tone_judge.specs.declared.Wish.{Wish}
 use Rattle.tone_judge.specs.declared.Total.{Total}

@@ -15,14 +15,15 @@ use Rattle.bits.specs.Bits.{bitsOf}
 use Rattle.bits.specs.declared.BitPlace.{BitPlace}
 use Rattle.bits.proofs.Choice.{pick-elim}
 use Rattle.bits.proofs.Octets.{length-bitsOf}
-use Rattle.tone.specs.Tone.{Pattern, cells, specifier, loopOf, partOf, header, pattern, noneKnown, recallable, learn}
+use Rattle.bits.specs.Places.{place}
+use Rattle.tone.specs.Tone.{Pattern, cells, specifier, loopOf, partOf, header, pattern, noneKnown, recallable, learn, entries}
 use Rattle.tone.specs.Writing.{entryBits, tableBits}
 use Rattle.tone.specs.Reading.{Got, got, bad, onward, headerDue, bodyDue, patternsDue}
 use Rattle.tone.proofs.Exact.{Accepted}
 use Rattle.tone.proofs.Rows.{Header, Body, header-exact, header-pattern, body-exact, header-wide, patterns-exact}
 use Rattle.tone_elements.specs.declared.Step.{Step}
 use Rattle.tone_elements.specs.declared.Step.the-variants.{Good, Bad}
-use Rattle.tone_elements.specs.Answers.{Within, place, allKnown, stepAs, stepOf, notes, entries}
+use Rattle.tone_elements.specs.Answers.{Within, allKnown, stepAs, stepOf, notes}
 use Rattle.tone_elements.proofs.Headers.{header-apart}
 use Rattle.tone_elements.proofs.Steps.{step-there, step-good, step-bad}
 use Rattle.tone_elements.proofs.Walks.{stays}

@@ -5,10 +5,11 @@ use mathlib.Core.List.{List}
 use lib.ListN.{length}
 use Rattle.bits.specs.Outcome.{Outcome, accepted, refused}
 use Rattle.bits.specs.declared.BitPlace.{BitPlace}
-use Rattle.tone.specs.Tone.{Pattern, Tone, frontOf, cells, specifier}
+use Rattle.bits.specs.Places.{place, octetCount}
+use Rattle.tone.specs.Tone.{Pattern, Tone, frontOf, cells, specifier, entries}
 use Rattle.tone.specs.Writing.{frontBits, tableBits}
 use Rattle.tone.specs.Reading.{Got, got, bad, onward, headerDue, bodyDue}
-use Rattle.tone_elements.specs.Answers.{place, octetCount, allKnown, notes, entries}
+use Rattle.tone_elements.specs.Answers.{allKnown, notes}
 use Rattle.tone_judge.specs.declared.Wish.{Wish}
 use Rattle.tone_judge.specs.declared.Cut.{Cut}
 use Rattle.tone_judge.specs.declared.Total.{Total}

@@ -6,9 +6,10 @@ use mathlib.Core.List.{List}
 use lib.ListN.{length, take, set}
 use lib.Dec.{eqb, ltb}
 use Rattle.bits.specs.Choice.{pick}
+use Rattle.bits.specs.Places.{place}
 use Rattle.tone.specs.Tone.{Pattern, header, cells}
 use Rattle.tone.specs.Writing.{tableBits}
-use Rattle.tone_elements.specs.Answers.{place, notes}
+use Rattle.tone_elements.specs.Answers.{notes}
 use Rattle.edit_change.specs.declared.Edit.the-variants.{Delete}
 use Rattle.edit_change.specs.Change.{removed, bodyAfter, withBody, patternAt}
 use Rattle.edit_change.specs.Answers.{groundOf}

@@ -6,10 +6,9 @@ use lib.ListN.{length}
 use lib.Dec.{leb}
 use borrow.Author.Tests.{le-leb, lt-leb}
 use Rattle.bits.specs.Outcome.{accepted, refused}
-use Rattle.tone.specs.Tone.{Tone}
+use Rattle.tone.specs.Tone.{Tone, entries}
 use Rattle.tone.specs.Reading.{readTone}
 use Rattle.tone.proofs.Rows.{and-false}
-use Rattle.tone_elements.specs.Answers.{entries}
 use Rattle.tone_read.specs.Promise.{readInto}
 
 module _ (m : List ℕ) (titleRoom tableRoom : ℕ) where

@@ -16,8 +16,9 @@ use Rattle.bits.specs.declared.BitPlace.{BitPlace}
 use Rattle.bits.specs.declared.OctetCount.{OctetCount}
 use Rattle.bits.proofs.Numbers.{length-bits}
 use Rattle.bits.proofs.Octets.{length-bitsOf}
+use Rattle.bits.specs.Places.{place, octetCount}
 use Rattle.tone.specs.Table.{kind, width, allowed, InTable}
-use Rattle.tone.specs.Tone.{Pattern, Tone, Front, frontOf, header, cells, characters, perCharacter, learn, Instructions, Sequence, Formed, FrontFormed}
+use Rattle.tone.specs.Tone.{Pattern, Tone, Front, frontOf, header, cells, characters, perCharacter, learn, Instructions, Sequence, Formed, FrontFormed, entries}
 use Rattle.tone.specs.Writing.{commandBits, titleBits, tableBits, frontBits, songBits, endBits, toneBits, mostOctets}
 use Rattle.tone.specs.Reading.{readTone}
 use Rattle.tone.proofs.Rows.{header-small}
@@ -27,7 +28,7 @@ use Rattle.tone_judge.specs.declared.Judged.{Judged}
 use Rattle.tone_judge.specs.declared.Judged.the-variants.{Sound, Faulty}
 use Rattle.tone_read.specs.declared.Reading.{Reading}
 use Rattle.tone_read.specs.declared.Reading.the-variants.{Read, Refused}
-use Rattle.tone_elements.specs.Answers.{Within, place, entries, octetCount}
+use Rattle.tone_elements.specs.Answers.{Within}
 use Rattle.tone_judge.specs.Answers.{plainly, judgedOf}
 use Rattle.tone_read.specs.Judging.{Entries, TableAt, OctetsAt, tableOf, titleOf}
 use Rattle.tone_read.specs.Promise.{readInto, numbers, readNumbers, readAnswer, tableAfter, titleAfter, ReadPromise}

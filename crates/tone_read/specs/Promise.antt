@@ -8,11 +8,11 @@ use lib.Dec.{leb}
 use Rattle.bits.specs.Choice.{pick}
 use Rattle.bits.specs.Lent.{over}
 use Rattle.bits.specs.Outcome.{Outcome, accepted, refused}
-use Rattle.tone.specs.Tone.{Tone, cells, characters}
+use Rattle.bits.specs.Places.{place}
+use Rattle.tone.specs.Tone.{Tone, cells, characters, entries}
 use Rattle.tone.specs.Reading.{readTone}
 use Rattle.tone_read.specs.declared.Reading.{Reading}
 use Rattle.tone_read.specs.declared.Reading.the-variants.{Read, Refused}
-use Rattle.tone_elements.specs.Answers.{place, entries}
 
 -- 11 where the title or the table does not fit
 abbrev pub roomed : ℕ → ℕ → Outcome Tone → Outcome Tone

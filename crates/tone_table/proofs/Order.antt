@@ -5,10 +5,10 @@ use mathlib.Core.Path.{_≡_, refl}
 use mathlib.Core.Bool.{true, false}
 use mathlib.Core.List.{List, [], _∷_, _++_}
 use borrow.Author.Tests.{le-leb, lt-leb, ne-eqb}
-use Rattle.bits.specs.Outcome.{Outcome, accepted, refused}
+use Rattle.bits.specs.Outcome.{Outcome, accepted, refused, andThen}
 use Rattle.tone.specs.Table.{kind}
 use Rattle.tone.specs.Tone.{recallable}
-use Rattle.tone_table.specs.Weighing.{andThen, Stage, start, entryFine, entryJudged, entriesJudged, endJudged, judgeTable}
+use Rattle.tone_table.specs.Judging.{Stage, start, entryFine, entryJudged, entriesJudged, endJudged, judgeTable}
 
 -- what follows is judged from where the entries ahead of it led
 in-turn : (s : Stage) (t more : List ℕ) → entriesJudged s (t ++ more) ≡ andThen (entriesJudged s t) (λ s′. entriesJudged s′ more)

@@ -1,2 +1,2 @@
-pub mod Weighing
+pub mod Judging
 pub mod Answers

@@ -3,7 +3,7 @@ ghost use Prim.Native.Nat.{_+_, _^_, _≤_};
 ghost use lib.ListN.{length, drop};
 ghost use lib.Dec.{ltb};
 ghost use Rattle.bits.specs.Choice.{pick};
-ghost use Rattle.tone_table.specs.Weighing.{entryFine, judgeTable};
+ghost use Rattle.tone_table.specs.Judging.{entryFine, judgeTable};
 ghost use Rattle.tone_table.specs.Answers.{entryLength, headerLength, instructionLength, bodyLength, weighedOf, judgedOf, atMost};
 
 // Entries that were judged: how many bits they take, or the refusal's number.

@@ -9,13 +9,13 @@ use lib.ListN.{length}
 use lib.Dec.{leb, eqb}
 use borrow.Author.Tests.{le-leb, eq-eqb, eqb-true, eqb-false, leb-true}
 use Rattle.bits.specs.Bits.{Octets}
-use Rattle.bits.specs.Outcome.{Outcome, accepted, refused}
+use Rattle.bits.specs.Outcome.{Outcome, accepted, refused, andThen}
 use Rattle.tone.specs.Tone.{Tone, frontOf, cells, patternsOf, perCharacter, characters, Titled, FrontFormed}
 use Rattle.tone.specs.Writing.{toneLength, mostOctets, WellFormed}
 use Rattle.tone.proofs.Fronts.{or-true, one-or-two, song-fine}
 use Rattle.tone.proofs.Rows.{and-true, and-is}
 use Rattle.tone.proofs.Tables.{patterns-of-cells}
-use Rattle.tone_table.specs.Weighing.{andThen, demand, judgeTable}
+use Rattle.tone_table.specs.Judging.{demand, judgeTable}
 use Rattle.tone_table.proofs.Walks.{not-refused}
 use Rattle.tone_table.proofs.Places.{none, then-zero, demand-zero, table-zero, place-zero}
 use Rattle.tone_table.proofs.GoodTables.{GoodTable, judged-is-good, good-is-judged}

@@ -14,13 +14,13 @@ use Rattle.bits.specs.Bits.{Octets}
 use Rattle.bits.specs.Lent.{over}
 use Rattle.bits.specs.Outcome.{Outcome, accepted, refused}
 use Rattle.bits.specs.declared.OctetCount.{OctetCount}
-use Rattle.tone.specs.Tone.{Tone, cells, patternsOf, characters, perCharacter}
+use Rattle.bits.specs.Places.{octetCount}
+use Rattle.tone.specs.Tone.{Tone, cells, patternsOf, characters, perCharacter, entries}
 use Rattle.tone.specs.Writing.{toneLength, toneOctets, WellFormed}
 use Rattle.tone.specs.Reading.{readTone}
 use Rattle.tone.proofs.Rows.{and-true}
 use Rattle.tone.proofs.Tables.{patterns-of-cells}
 use Rattle.tone.proofs.Demand2.{accepted-is-written, written-is-accepted, length-toneOctets}
-use Rattle.tone_elements.specs.Answers.{octetCount, entries}
 use Rattle.tone_read.specs.declared.Reading.{Reading}
 use Rattle.tone_read.specs.declared.Reading.the-variants.{Read}
 use Rattle.tone_read.specs.Promise.{roomed, readInto, readAnswer, ReadPromise}

@@ -22,7 +22,7 @@ use Rattle.tone.proofs.Rows.{and-true}
 use Rattle.tone.proofs.Demand2.{length-toneOctets, octets-are}
 use Rattle.tone_read.specs.Judging.{Entries}
 use Rattle.tone_read.proofs.Told.{cells-entries}
-use Rattle.tone_table.specs.Weighing.{judgeTable}
+use Rattle.tone_table.specs.Judging.{judgeTable}
 use Rattle.tone_table.proofs.GoodTables.{GoodTable, judged-is-good}
 use Rattle.tone_write.specs.Judging.{toneOf, writeTone}
 use Rattle.tone_write.specs.Appending.{frontWith, frontLength}

@@ -6,7 +6,7 @@ use mathlib.Core.List.{List}
 use borrow.Author.Tests.{le-leb, lt-leb}
 use Rattle.bits.specs.Outcome.{accepted, refused}
 use Rattle.tone.specs.Writing.{toneLength, mostOctets}
-use Rattle.tone_table.specs.Weighing.{judgeTable}
+use Rattle.tone_table.specs.Judging.{judgeTable}
 use Rattle.tone_write.specs.Judging.{songFine, titleFine, sized, toneOf, writeTone}
 
 module _ (song : ℕ) (unicode : Bool) (title table : List ℕ) (room : ℕ) where

@@ -14,14 +14,14 @@ use Rattle.bits.specs.Bits.{placeAfter, octetsTo}
 use Rattle.bits.specs.Lent.{over}
 use Rattle.bits.specs.declared.OctetCount.{OctetCount}
 use Rattle.bits.specs.Outcome.{Outcome, accepted, refused}
+use Rattle.bits.specs.Places.{place, octetCount}
 use Rattle.tone.specs.Tone.{Tone, frontOf, cells, patternsOf, perCharacter, characters}
 use Rattle.tone.specs.Writing.{tableBits, frontBits, songBits, toneLength, toneOctets, mostOctets}
 use Rattle.tone.proofs.Rows.{and-true as conj, and-false}
 use Rattle.tone.proofs.Fronts.{song-fine}
-use Rattle.tone_elements.specs.Answers.{place, octetCount}
 use Rattle.tone_table.specs.declared.Judged.{Judged}
 use Rattle.tone_table.specs.declared.Judged.the-variants.{Sound, Faulty}
-use Rattle.tone_table.specs.Weighing.{judgeTable}
+use Rattle.tone_table.specs.Judging.{judgeTable}
 use Rattle.tone_table.specs.Answers.{atMost, judgedOf}
 use Rattle.tone_table.proofs.Places.{table-place}
 use Rattle.tone_table.proofs.GoodTables.{judged-is-good}

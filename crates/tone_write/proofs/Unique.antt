@@ -7,8 +7,8 @@ use mathlib.Core.List.{List}
 use lib.ListN.{length}
 use Rattle.bits.specs.Outcome.{Outcome, accepted, refused}
 use Rattle.bits.specs.declared.BitPlace.{BitPlace}
+use Rattle.bits.specs.Places.{place}
 use Rattle.tone.specs.Tone.{Tone}
-use Rattle.tone_elements.specs.Answers.{place}
 use Rattle.tone_write.specs.declared.Writing.{Writing}
 use Rattle.tone_write.specs.declared.Writing.the-variants.{Refused}
 use Rattle.tone_write.specs.Judging.{writeTone}

@@ -6,9 +6,9 @@ use mathlib.Core.List.{List}
 use lib.ListN.{length}
 use Rattle.bits.specs.Lent.{over}
 use Rattle.bits.specs.Outcome.{Outcome, accepted, refused}
+use Rattle.bits.specs.Places.{place, octetCount}
 use Rattle.tone.specs.Tone.{Tone}
 use Rattle.tone.specs.Writing.{toneLength, toneOctets}
-use Rattle.tone_elements.specs.Answers.{place, octetCount}
 use Rattle.tone_write.specs.declared.Writing.{Writing}
 use Rattle.tone_write.specs.declared.Writing.the-variants.{Written, Refused}
 use Rattle.tone_write.specs.Judging.{writeTone}

@@ -12,7 +12,7 @@ ghost use Rattle.tone.specs.Table.{InTable};
 ghost use Rattle.tone.specs.Tone.{characters};
 ghost use Rattle.tone.specs.Writing.{commandBits, titleBits, frontBits, entryBits, tableBits, toneLength, toneOctets};
 ghost use Rattle.tone_read.specs.Judging.{Entries};
-ghost use Rattle.tone_table.specs.Weighing.{judgeTable};
+ghost use Rattle.tone_table.specs.Judging.{judgeTable};
 ghost use Rattle.tone_write.specs.Judging.{songFine, titleFine, toneOf, writeTone};
 ghost use Rattle.tone_write.specs.Appending.{reached, Appended, Begun, frontWith, frontLength};
 ghost use Rattle.tone_write.specs.Promise.{WritePromise};

@@ -36,7 +36,7 @@ use denote.Triple.Walked.{says, Stays, stay-none-slice, walkOf, goes-none-slice,
 use denote.Exit.{yes}
 use Rattle.bits.proofs.BitPlace as P
 use Rattle.bits.proofs.BitPlace.Laws as P′
-use Rattle.tone_elements.specs.Answers.{place}
+use Rattle.bits.specs.Places.{place}
 use Rattle.tone_judge.specs.declared.Reader.{Reader}
 use Rattle.tone_judge.proofs.Reader as T
 use Rattle.tone_judge.proofs.Reader.Laws as T′

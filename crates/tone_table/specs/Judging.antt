@@ -4,14 +4,9 @@ use mathlib.Core.Bool.{Bool, _&&_}
 use mathlib.Core.List.{List, [], _∷_}
 use lib.Dec.{leb, ltb, eqb}
 use Rattle.bits.specs.Choice.{pick}
-use Rattle.bits.specs.Outcome.{Outcome, accepted, refused}
+use Rattle.bits.specs.Outcome.{Outcome, accepted, refused, andThen}
 use Rattle.tone.specs.Table.{kind, payload, width, allowed}
 use Rattle.tone.specs.Tone.{specifier, noneKnown, recallable, learn}
-
--- what was accepted goes to the next rule
-abbrev pub andThen : {A B : Type 0} → Outcome A → (A → Outcome B) → Outcome B
-andThen (accepted a) f = f a
-andThen (refused n p) f = refused n p
 
 -- a rule that must hold, the refusal where it does not, and what follows
 abbrev pub demand : {A : Type 0} → Bool → ℕ → Outcome A → Outcome A
