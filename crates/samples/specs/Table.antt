@@ -4,7 +4,7 @@ use mathlib.Core.Path.{_≡_}
 use mathlib.Core.Bool.{Bool, true, false}
 use mathlib.Core.List.{List, [], _∷_, _++_, map}
 use lib.ListN.{set, replicate}
-use Rattle.bits.specs.Outcome.{Outcome, accepted, refused}
+use Rattle.bits.specs.Outcome.{Outcome, refused}
 use Rattle.tone.specs.Tone.{Tone}
 use Rattle.tone_read.specs.Promise.{readInto, readNumbers, tableAfter, titleAfter}
 use Rattle.tone_write.specs.Judging.{writeTone}
