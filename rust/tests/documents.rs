@@ -213,8 +213,9 @@ fn no_definition_is_left_out() {
 }
 
 /// Files of the table that no promise cites, and why they are read.
-const READ_BESIDE: [(&str, &str); 3] = [
+const READ_BESIDE: [(&str, &str); 4] = [
     ("/Samples.antt", "to hold the rules against"),
+    ("crates/samples/", "the same"),
     (
         "/Room.antt",
         "how much to lend, which the theorems are about",
@@ -229,7 +230,7 @@ fn the_table_has_what_the_promises_stand_on() {
     let promises = specs().into_iter().filter(|file| file.contains("/Promise"));
     let cited = files_cited(promises.collect());
     assert!(cited.len() > 9, "{cited:?}");
-    let beside = |file: &str| READ_BESIDE.iter().any(|(end, _)| file.ends_with(end));
+    let beside = |file: &str| READ_BESIDE.iter().any(|(part, _)| file.contains(part));
     let left_out = cited
         .difference(&counted)
         .map(|file| format!("{file} is cited by a promise"));

@@ -7,8 +7,6 @@ use lib.ListN.{length, drop}
 use lib.Dec.{eqb}
 use Rattle.bits.specs.Choice.{pick}
 use Rattle.bits.specs.Bits.{bitsOf, placeAfter}
-use Rattle.bits.specs.declared.BitPlace.{BitPlace}
-use Rattle.bits.specs.declared.OctetCount.{OctetCount}
 use Rattle.bits.specs.Window.{Sight}
 use Rattle.bits.specs.Places.{place, octetCount}
 use Rattle.tone_elements.specs.declared.Step.{Step}
@@ -19,9 +17,8 @@ use Rattle.tone_elements.specs.declared.Characters.{Characters}
 use Rattle.tone_elements.specs.declared.Characters.the-variants.{Present, Cut}
 use Rattle.tone_elements.specs.declared.Opening.{Opening}
 use Rattle.tone_elements.specs.declared.Opening.the-variants.{Opened, Closed}
-use Rattle.tone.specs.Table.{kind}
-use Rattle.tone.specs.Table.{InTable}
-use Rattle.tone.specs.Tone.{Pattern, Front, cells}
+use Rattle.tone.specs.Table.{kind, InTable}
+use Rattle.tone.specs.Tone.{Front}
 use Rattle.tone.specs.Writing.{entryBits}
 use Rattle.tone.specs.Reading.{Got, got, bad, instructionDue}
 
@@ -29,6 +26,10 @@ use Rattle.tone.specs.Reading.{Got, got, bad, instructionDue}
 pub record Within (m : List ℕ) (at : ℕ) : Type 0 where
   pub inside : at ≤ placeAfter (length m)
   pub counted : length m < 2 ^ 60
+
+-- all four parts are known: then a header may recall any
+abbrev pub allKnown : List Bool
+allKnown = true ∷ true ∷ true ∷ true ∷ []
 
 -- what was read, as the number that f makes of it, or the refusal
 abbrev pub stepAs : {A : Type 0} → (A → ℕ) → Got A → Step
