@@ -45,8 +45,8 @@ use Rattle.tone_judge.specs.Wishes.{wished, leftAt, noCut, cutOf, cutIn,
 use Rattle.tone_judge.specs.Answers.{singleOf, totalTo, totalOf, tallyAs}
 use Rattle.list_count.proofs.Bodies.{isKnown, knownOf, remember-length, body-sounding, learn-read, Each, each-start, each-sounds, each-kept, Brief, none-brief, notes-most}
 use Rattle.list_count.proofs.Counts.{counted-most, Unmarked, counted-unmarked}
-use Rattle.list_count.proofs.Parts.{AllFor, parts-length, part-at, parts-kept, known-sounding}
-use Rattle.tone_judge.proofs.Parts.{Noted, noted-unknown, noted-known, Replaced, replaced, replaced-is}
+use Rattle.list_count.proofs.Parts.{AllFor, Replaced, parts-kept, part-sounds, known-sounding}
+use Rattle.tone_judge.proofs.Parts.{Noted, noted-unknown, noted-known}
 use Rattle.tone_judge.proofs.Wishing.{granted-length, behindPart, part-bits, bodyWished, wishedFrom, cutPast, cutFrom, wished-is, cut-is}
 
 -- ---- what is counted, resumed
@@ -314,7 +314,7 @@ module _ {w : Wish} {named : ℕ} {m : List ℕ} {n at : ℕ} {parts : List Part
         noted = single .noted ∙ (rw reads refl);
       }
 
-      module _ {o : Own} (u : Owned (eqb left named) w p v (bodyIn m (p + 17) (specifier v)) k o) {now : List Part} (e : Replaced parts v (o .notes) now) where
+      module _ {o : Own} (u : Owned (eqb left named) w p v (bodyIn m (p + 17) (specifier v)) k o) {now : List Part} (e : Replaced parts v (Known (o .notes)) now) where
         wish : List ℕ
         wish = bodyWished w named left b
 
@@ -338,11 +338,11 @@ module _ {w : Wish} {named : ℕ} {m : List ℕ} {n at : ℕ} {parts : List Part
 
         noted-after : AllFor Noted now after
         unfolding after
-        noted-after = subst (λ (l : List Part). AllFor Noted l after) (sym (replaced-is parts v (o .notes) e ∙ ap (replaced parts v) (own-is .0))) (parts-kept Noted Unknown parts (y .bodies) v wish (Known (notes wish)) (y .noted) (wish-length .0) refl)
+        noted-after = parts-kept Noted parts (y .bodies) v wish (Known (o .notes)) (y .noted) (wish-length .0) (ap Known (own-is .0)) e
 
         sounding : Noted (getD now (partOf v) Unknown) (getD after (partOf v) unknown)
         unfolding after
-        sounding = part-at Noted Unknown now after noted-after (partOf v) (omega (arith, parts-length Noted now after noted-after, remember-length (y .bodies) (pattern v wish), y .four))
+        sounding = part-sounds Noted Unknown now after noted-after (remember-length (y .bodies) (pattern v wish) ∙ y .four) v
 
         -- what sounds is known exactly where the header may recall it
         allowed : isKnown (getD after (partOf v) unknown) ≡ recallable (knownOf (y .bodies)) v

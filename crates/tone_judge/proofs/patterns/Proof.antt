@@ -61,13 +61,17 @@ add-t36 : tie.Need-add-t36 Inv-loop μ-loop
 add-t36 c = search (tallies, needs)
 
 returns-2 : tie.Need-returns-2 Inv-loop μ-loop
-returns-2 c = search (tallies, ⊎-elim (λ w. inl (beside (w .0 .taken) (w .1))) (λ w. inr (beside (w .0 .left) (w .1))) (c .before .before .before .before .if1 .came), needs)
+returns-2 c =
+    let told = ⊎-elim (λ w. inl (beside (w .0 .taken) (w .1))) (λ w. inr (beside (w .0 .left) (w .1))) (c .before .before .before .before .if1 .came) in
+    search (tallies, told, needs)
 
 enum-known-part : tie.Need-enum-known-part Inv-loop μ-loop
 enum-known-part c = search (tallies, needs)
 
 with-requires : tie.Need-with-requires Inv-loop μ-loop
-with-requires c κs = (search (tally-counts, needs), search (tally-notes, ⊎-elim (λ w. inl (beside (w .0 .taken) (w .1))) (λ w. inr (beside (w .0 .left) (w .1))) (c .before .before .before .before .if1 .came), needs), search needs)
+with-requires c κs =
+    let told = ⊎-elim (λ w. inl (beside (w .0 .taken) (w .1))) (λ w. inr (beside (w .0 .left) (w .1))) (c .before .before .before .before .if1 .came) in
+    (search (tally-counts, needs), search (tally-notes, told, needs), search needs)
 
 add-table : tie.Need-add-table Inv-loop μ-loop
 add-table c = search (tallies, needs)
@@ -82,7 +86,9 @@ loop-less : tie.Need-loop-less Inv-loop μ-loop
 loop-less c = search (tallies, needs)
 
 loop-again : tie.Need-loop-again Inv-loop μ-loop
-loop-again c = search (tallies, ⊎-elim (λ w. inl (beside (w .0 .taken) (w .1))) (λ w. inr (beside (w .0 .left) (w .1))) (c .before .before .before .before .before .before .if1 .came), needs)
+loop-again c =
+    let told = ⊎-elim (λ w. inl (beside (w .0 .taken) (w .1))) (λ w. inr (beside (w .0 .left) (w .1))) (c .before .before .before .before .before .before .if1 .came) in
+    search (tallies, told, needs)
 
 up-to-requires : tie.Need-up-to-requires Inv-loop μ-loop
 up-to-requires c κs = search (tallies, needs)
