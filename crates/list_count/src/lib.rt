@@ -2,12 +2,20 @@ ghost use mathlib.Core.Path.{_≡_};
 ghost use Prim.Native.Nat.{_≤_};
 ghost use Rattle.list_count.specs.Bodies.{passesOf};
 ghost use Rattle.list_count.specs.Counting.{markOf, noCount, counted as countedOf};
+ghost use Rattle.list_count.specs.Parts.{soundingPart};
+ghost use Rattle.list_count.specs.declared.Part.the-variants.{Known};
 
 // What is counted so far of a playing list: the entries, the return mark, and whether a loop 15 has ended the list.
 pub struct Count {
     pub entries: u32,
     pub mark: u32,
     pub ended: bool,
+}
+
+// A part's body, as it is counted: not yet defined, or the number of its notes.
+pub enum Part {
+    Unknown,
+    Known { notes: u32 },
 }
 
 // The return mark where there is none.
@@ -62,4 +70,14 @@ impl Count {
             ended: false,
         }
     }
+}
+
+// The part that a header sounds, whose own instructions have so many notes: a definition replaces the part of its id.
+pub fn part_after(part: Part, header: u32, own: u32) -> Part
+    ensures { λ r. ⌜ r ≡ soundingPart part header (Known own) ⌝ }
+{
+    if header % 256 == 0 {
+        return part;
+    }
+    Part::Known { notes: own }
 }

@@ -5,10 +5,10 @@ use native.Mathlib.Nat.{zero-add}
 use mathlib.Core.Path.{_≡_, refl, sym, ap, ap₂, subst, _∙_}
 use mathlib.Core.Bool.{Bool, true, false}
 use mathlib.Core.List.{List, [], _∷_, _++_, append-assoc, append-nil}
-use lib.ListN.{length, getD, drop, replicate, length-append}
+use lib.ListN.{length, getD, set, drop, replicate, length-append}
 use lib.Seq.{sets, sets-eq}
 use lib.Dec.{eqb}
-use borrow.Author.Tests.{eqb-true, eqb-false}
+use borrow.Author.Tests.{eqb-true}
 use Rattle.bits.specs.Choice.{pick}
 use Rattle.bits.specs.Bits.{bitsOf}
 use Rattle.bits.specs.Lent.{over}
@@ -32,11 +32,11 @@ use Rattle.list_rules.specs.Sounding.{atStart, numbers}
 use Rattle.list_rules.specs.Playing.{Played, ahead, Listing, passes, patternPlayed, play}
 use Rattle.list_count.specs.Bodies.{Remembered, unknown, known, recalled, noBodies, passesOf, bodyOf, remember}
 use Rattle.list_count.specs.Counting.{entryCount}
-use Rattle.list_fill.specs.Filling.{PatternsAt, behindPattern, Ready, Advanced}
+use Rattle.list_fill.specs.Filling.{PatternsAt, partAfter, behindPattern, Ready, Advanced}
 use Rattle.tone_elements.specs.Standing.{BodyAt, behindOr, bodyIn, behindIn}
 use Rattle.list_rules.proofs.Counts.{list-count}
 use Rattle.list_count.proofs.Bodies.{isKnown, knownOf, remember-length, body-sounding, learn-read}
-use Rattle.list_count.proofs.Parts.{AllFor, Replaced, replaced-own, parts-length, parts-kept, part-sounds, known-sounding}
+use Rattle.list_count.proofs.Parts.{AllFor, parts-kept, part-sounds, known-sounding}
 use Rattle.list_rules.proofs.Joining.{play-one, play-last}
 use Rattle.list_rules.proofs.Packing.{length-numbers}
 use Rattle.list_fill.proofs.Stepping.{ready-four}
@@ -196,23 +196,24 @@ module _ {m : List ℕ} {ps : List Pattern} {old new lasts : List ℕ} {parts : 
       size : length (head .body) ≡ specifier cell
       size = read .good .size
 
-      module _ {now : List Part} (e : Replaced parts cell (Known next (specifier cell)) now) where
-        places : AllFor (PartAt m) now (remember (v .bodies) one)
+      module _ {part : Part} (e : part ≡ partAfter (getD parts (partOf cell) Unknown) cell next) where
+        places : AllFor (PartAt m) (set parts (partOf cell) part) (remember (v .bodies) one)
         unfolding one
-        places = parts-kept (PartAt m) parts (v .bodies) cell (head .body) (Known next (specifier cell)) (v .places) (ap (λ (x : ℕ). eqb x 0) size) (head .behind, stands) e
+        places = rw e (parts-kept (PartAt m) Unknown parts (v .bodies) cell (head .body) (Known next (specifier cell)) (v .places) (ap (λ (x : ℕ). eqb x 0) size) (head .behind, stands))
 
-        sounding : PartAt m (getD now (partOf cell) Unknown) (getD (remember (v .bodies) one) (partOf cell) unknown)
-        sounding = part-sounds (PartAt m) Unknown now (remember (v .bodies) one) places (remember-length (v .bodies) one ∙ v .four) cell
+        sounding : PartAt m part (getD (remember (v .bodies) one) (partOf cell) unknown)
+        unfolding one
+        sounding = rw e (part-sounds (PartAt m) Unknown parts (v .bodies) cell (head .body) (Known next (specifier cell)) (v .places) (ap (λ (x : ℕ). eqb x 0) size) (head .behind, stands) (v .four))
 
-        pub list-unknown : getD now (partOf cell) Unknown ≡ Unknown → ⊥
+        pub list-unknown : part ≡ Unknown → ⊥
         unfolding one
         list-unknown z =
-            unknown-there m (getD now (partOf cell) Unknown) (getD (remember (v .bodies) one) (partOf cell) unknown) sounding z
+            unknown-there m part (getD (remember (v .bodies) one) (partOf cell) unknown) sounding z
             (known-sounding (v .bodies) cell (head .body) (v .four) (ap (λ (x : ℕ). eqb x 0) size) ∙ (rw (← same) (taken .good .recall)))
 
-        module _ {from : BitPlace} {n : ℕ} (g : getD now (partOf cell) Unknown ≡ Known from n) where
+        module _ {from : BitPlace} {n : ℕ} (g : part ≡ Known from n) where
           body : (q : ℕ) × BodyAt m (from .0) n (recalled (getD (remember (v .bodies) one) (partOf cell) unknown)) q
-          body = known-there m (getD now (partOf cell) Unknown) (getD (remember (v .bodies) one) (partOf cell) unknown) sounding g
+          body = known-there m part (getD (remember (v .bodies) one) (partOf cell) unknown) sounding g
 
           body-is : bodyIn m (from .0) n ≡ bodyOf (v .bodies) one
           unfolding one
@@ -263,13 +264,12 @@ module _ {m : List ℕ} {ps : List Pattern} {old new lasts : List ℕ} {parts : 
                       let r : got [] (next .0) ≡ got (head .body) (head .behind) = subst (λ (u : ℕ). bodyDue u (bitsOf m) (next .0) ≡ got (head .body) (head .behind)) (eqb-true (specifier cell) 0 y) reads in
                       cc
                   go false y =
-                      let four : length parts ≡ 4 = parts-length (PartAt m) parts (v .bodies) (v .places) ∙ v .four in
-                      let r : Known next (specifier cell) ≡ Known from n = sym (replaced-own Unknown parts cell (Known next (specifier cell)) four e (eqb-false (specifier cell) 0 y)) ∙ g in
+                      let r : Known next (specifier cell) ≡ Known from n = ap (λ (t : Bool). pick t (getD parts (partOf cell) Unknown) (Known next (specifier cell))) (sym y) ∙ sym e ∙ g in
                       let e₁ : next ≡ from = cc in
                       let e₂ : specifier cell ≡ n = cc in
                       a .place ∙ ap₂ (λ (u : BitPlace) (c : ℕ). behindIn m (u .0) c) (sym e₁) (sym e₂) ∙ ap behindOr reads
 
-              pub list-on : {place′ : BitPlace} → (loopOf cell ≡ 15 → ⊥) → place′ ≡ behindPattern cell next (w′ .at) → ListWalk m ps old new′ lasts′ now (place′ .0) w′ (left - 1)
+              pub list-on : {place′ : BitPlace} → (loopOf cell ≡ 15 → ⊥) → place′ ≡ behindPattern cell next (w′ .at) → ListWalk m ps old new′ lasts′ (set parts (partOf cell) part) (place′ .0) w′ (left - 1)
               unfolding d one
               list-on {place′} other z =
                   let q = behind-is z in

@@ -13,7 +13,10 @@ use Rattle.tone.specs.Tone.{Pattern, specifier, noneKnown}
 use Rattle.tone.specs.Reading.{got, patternsDue}
 use Rattle.tone_elements.specs.Answers.{Within}
 use Rattle.tone_elements.specs.Standing.{valueOr, behindOr}
+use Rattle.list_fill.specs.declared.Part.{Part}
+use Rattle.list_fill.specs.declared.Part.the-variants.{Known}
 use Rattle.list_fill.specs.declared.Walk.{Walk}
+use Rattle.list_count.specs.Parts.{soundingPart}
 use Rattle.list_rules.specs.Duration.{beats}
 use Rattle.list_rules.specs.Tempo.{lastsOf, baseOf}
 use Rattle.list_rules.specs.Sounding.{numbers}
@@ -34,6 +37,10 @@ endIn m at n = behindOr (patternsDue n noneKnown (bitsOf m) at)
 pub record PatternsAt (m : List ℕ) (at n : ℕ) (ps : List Pattern) (q : ℕ) : Type 0 where
   pub within : Within m at
   pub reads : patternsDue n noneKnown (bitsOf m) at ≡ got ps q
+
+-- the part that a header sounds, whose own instructions stand at next: a definition replaces the part of its id
+abbrev pub partAfter : Part → ℕ → BitPlace → Part
+partAfter part h next = soundingPart part h (Known next (specifier h))
 
 -- where the next header stands: a recall has no instructions of its own
 abbrev pub behindPattern : ℕ → BitPlace → BitPlace → BitPlace

@@ -9,7 +9,7 @@ ghost use Rattle.list_rules.specs.Sounding.{atStart, numbers};
 ghost use Rattle.list_rules.specs.Playing.{step, pass, passes, play};
 ghost use Rattle.list_count.specs.Bodies.{noBodies};
 ghost use Rattle.list_count.specs.Counting.{entryCount};
-ghost use Rattle.list_fill.specs.Filling.{patternsIn, endIn, PatternsAt, behindPattern, entrySeen, Ready, Advanced};
+ghost use Rattle.list_fill.specs.Filling.{patternsIn, endIn, PatternsAt, partAfter, behindPattern, entrySeen, Ready, Advanced};
 ghost use Rattle.tone_elements.specs.Standing.{bodyIn, behindIn, BodyAt};
 use bits::BitPlace;
 use list_rules::Settings;
@@ -149,6 +149,19 @@ fn fill_passes(
     walk
 }
 
+// The part that a header sounds, whose own instructions stand at `next`: a definition replaces the part of its id.
+fn part_after(part: Part, header: u32, next: BitPlace) -> Part
+    ensures { λ r. ⌜ r ≡ partAfter part header next ⌝ }
+{
+    if header % 256 == 0 {
+        return part;
+    }
+    Part::Known {
+        at: next,
+        count: header % 256,
+    }
+}
+
 // Where the next header stands: a recall has no instructions of its own.
 fn behind_pattern(header: u32, next: BitPlace, reached: BitPlace) -> BitPlace
     ensures { λ r. ⌜ r ≡ behindPattern header next reached ⌝ }
@@ -170,13 +183,9 @@ pub fn fill_list(msg: &[u8], at: BitPlace, n: u32, list: &mut [u32])
     while 0 < left {
         let head = tone_elements::entry_at(msg, place);
         let header = head.cell;
-        let next = head.next;
         let id = (header / 4096 % 4) as usize;
-        let count = header % 256;
-        if count != 0 {
-            parts[id] = Part::Known { at: next, count };
-        }
-        let part = parts[id];
+        let part = part_after(parts[id], header, head.next);
+        parts[id] = part;
         let value = header / 256 % 16;
         match part {
             Part::Unknown => {
@@ -197,7 +206,7 @@ pub fn fill_list(msg: &[u8], at: BitPlace, n: u32, list: &mut [u32])
         if value == 15 {
             return;
         }
-        place = behind_pattern(header, next, walk.at);
+        place = behind_pattern(header, head.next, walk.at);
         left -= 1;
     }
 }

@@ -5,4 +5,3 @@ pub mod Cuts
 pub mod Wishing
 pub mod Tallies
 pub mod Judgements
-pub mod Parts

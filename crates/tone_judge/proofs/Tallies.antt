@@ -3,13 +3,15 @@ use Prim.Native.Nat.{ℕ, suc, _+_, _-_, _*_, _≤_, _<_}
 use native.Mathlib.Omega.{arith}
 use native.Mathlib.Nat.{add-zero, zero-add, add-assoc, le-trans}
 use mathlib.Core.Path.{_≡_, refl, sym, ap, ap₂, subst, _∙_}
+use mathlib.Core.Logic.{_⊎_, ⊎-elim}
 use mathlib.Core.Bool.{Bool, true, false}
 use mathlib.Core.List.{List, [], _∷_}
-use lib.ListN.{length, getD, replicate, length-append}
+use lib.ListN.{length, getD, set, replicate, length-append}
+use lib.Seq.{set-getD}
 use lib.Dec.{eqb}
 use mir.Val.{Fits}
 use mir.Syntax.{w32}
-use borrow.Author.Tests.{eqb-true}
+use borrow.Author.Tests.{eq-eqb, eqb-true}
 use Rattle.bits.specs.Choice.{pick}
 use Rattle.bits.specs.Bits.{bitsOf}
 use Rattle.bits.specs.declared.BitPlace.{BitPlace}
@@ -29,24 +31,24 @@ use Rattle.tone_elements.proofs.Steps.{step-there, step-good, step-bad}
 use Rattle.tone_elements.proofs.Walks.{stays}
 use Rattle.edit_change.specs.Change.{withBody}
 use Rattle.list_count.specs.declared.Count.{Count}
+use Rattle.list_count.specs.declared.Part.{Part}
+use Rattle.list_count.specs.declared.Part.the-variants.{Unknown, Known}
 use Rattle.tone_judge.specs.declared.Wish.{Wish}
 use Rattle.tone_judge.specs.declared.Cut.{Cut}
 use Rattle.tone_judge.specs.declared.Own.{Own}
 use Rattle.tone_judge.specs.declared.Total.{Total}
-use Rattle.tone_judge.specs.declared.Part.{Part}
-use Rattle.tone_judge.specs.declared.Part.the-variants.{Unknown, Known}
 use Rattle.tone_judge.specs.declared.Single.{Single}
 use Rattle.tone_judge.specs.declared.Single.the-variants.{Fine, Fault}
 use Rattle.tone_judge.specs.declared.Tally.the-variants.{Counted, Stopped}
 use Rattle.list_count.specs.Bodies.{Remembered, unknown, recalled, noBodies, passesOf, bodyOf, remember}
 use Rattle.list_count.specs.Counting.{entryCount, markOf, markFrom, noCount, counted}
+use Rattle.list_count.specs.Parts.{soundingPart}
 use Rattle.tone_elements.specs.Standing.{bodyIn, PartAt}
 use Rattle.tone_judge.specs.Wishes.{wished, leftAt, noCut, cutOf, cutIn, Owned}
 use Rattle.tone_judge.specs.Answers.{singleOf, totalTo, totalOf, tallyAs}
 use Rattle.list_count.proofs.Bodies.{isKnown, knownOf, remember-length, body-sounding, learn-read, Each, each-start, each-sounds, each-kept, Brief, none-brief, notes-most}
 use Rattle.list_count.proofs.Counts.{counted-most, Unmarked, counted-unmarked}
-use Rattle.list_count.proofs.Parts.{AllFor, Replaced, parts-kept, part-sounds, known-sounding}
-use Rattle.tone_judge.proofs.Parts.{Noted, noted-unknown, noted-known}
+use Rattle.list_count.proofs.Parts.{AllFor, parts-kept, part-sounds, known-sounding, Noted, noted-unknown, noted-known}
 use Rattle.tone_judge.proofs.Wishing.{granted-length, behindPart, part-bits, bodyWished, wishedFrom, cutPast, cutFrom, wished-is, cut-is}
 
 -- ---- what is counted, resumed
@@ -219,6 +221,17 @@ module _ (m : List ℕ) (p : ℕ) {s : Step} (q : s ≡ stepOf (headerDue allKno
 
 pub ruleset singles = (pattern-unheaded, pattern-inside, pattern-bad, pattern-good)
 
+-- ---- the four parts
+
+-- the part that sounds behind a header was put in its place by a definition; a recall has changed none
+abbrev Kept : List Part → ℕ → Part → List Part → Type 0
+Kept parts v part now = ((specifier v ≡ 0 → ⊥) × (now ≡ set parts (partOf v) part)) ⊎ ((specifier v ≡ 0) × (now ≡ parts))
+
+-- it stands there in either case
+kept-is : (parts : List Part) (v : ℕ) (own : Part) {part : Part} {now : List Part} → part ≡ soundingPart (getD parts (partOf v) Unknown) v own → Kept parts v part now → now ≡ set parts (partOf v) part
+kept-is parts v own {part} {now} e told =
+    ⊎-elim (λ w. w .1) (λ w. w .1 ∙ sym (set-getD parts (partOf v) Unknown) ∙ ap (set parts (partOf v)) (sym (e ∙ (rw (eq-eqb (specifier v) 0 (w .0)) refl)))) told
+
 -- ---- the loop
 
 -- with `left` patterns to come at p, from the bodies that the parts stand for, the entries of the table, what is counted and where the wish has cut
@@ -314,7 +327,7 @@ module _ {w : Wish} {named : ℕ} {m : List ℕ} {n at : ℕ} {parts : List Part
         noted = single .noted ∙ (rw reads refl);
       }
 
-      module _ {o : Own} (u : Owned (eqb left named) w p v (bodyIn m (p + 17) (specifier v)) k o) {now : List Part} (e : Replaced parts v (Known (o .notes)) now) where
+      module _ {o : Own} (u : Owned (eqb left named) w p v (bodyIn m (p + 17) (specifier v)) k o) {part : Part} (e : part ≡ soundingPart (getD parts (partOf v) Unknown) v (Known (o .notes))) where
         wish : List ℕ
         wish = bodyWished w named left b
 
@@ -336,23 +349,26 @@ module _ {w : Wish} {named : ℕ} {m : List ℕ} {n at : ℕ} {parts : List Part
         after : List Remembered
         after = remember (y .bodies) (pattern v wish)
 
-        noted-after : AllFor Noted now after
-        unfolding after
-        noted-after = parts-kept Noted parts (y .bodies) v wish (Known (o .notes)) (y .noted) (wish-length .0) (ap Known (own-is .0)) e
+        part-is : part ≡ soundingPart (getD parts (partOf v) Unknown) v (Known (notes wish))
+        part-is = e ∙ ap (λ (x : ℕ). soundingPart (getD parts (partOf v) Unknown) v (Known x)) (own-is .0)
 
-        sounding : Noted (getD now (partOf v) Unknown) (getD after (partOf v) unknown)
+        noted-after : AllFor Noted (set parts (partOf v) part) after
         unfolding after
-        sounding = part-sounds Noted Unknown now after noted-after (remember-length (y .bodies) (pattern v wish) ∙ y .four) v
+        noted-after = subst (λ (x : Part). AllFor Noted (set parts (partOf v) x) after) (sym part-is) (parts-kept Noted Unknown parts (y .bodies) v wish (Known (notes wish)) (y .noted) (wish-length .0) refl)
+
+        sounding : Noted part (getD after (partOf v) unknown)
+        unfolding after
+        sounding = part-is ∙ part-sounds Noted Unknown parts (y .bodies) v wish (Known (notes wish)) (y .noted) (wish-length .0) refl (y .four)
 
         -- what sounds is known exactly where the header may recall it
         allowed : isKnown (getD after (partOf v) unknown) ≡ recallable (knownOf (y .bodies)) v
         unfolding after
         allowed = known-sounding (y .bodies) v wish (y .four) (wish-length .0)
 
-        pub tally-unknown : getD now (partOf v) Unknown ≡ Unknown → Stopped (place (p + 3)) 7 ≡ tallyAs (totalOf w at) (patternsDue n noneKnown (bitsOf m) at)
+        pub tally-unknown : part ≡ Unknown → Stopped (place (p + 3)) 7 ≡ tallyAs (totalOf w at) (patternsDue n noneKnown (bitsOf m) at)
         tally-unknown z = stopped (single-unknown (summed w named left p k t c (y .bodies)) (left - 1) (knownOf (y .bodies)) (bitsOf m) p (single .header) (sym allowed ∙ noted-unknown (getD after (partOf v) unknown) sounding z))
 
-        module _ {heard : ℕ} (i : getD now (partOf v) Unknown ≡ Known heard) where
+        module _ {heard : ℕ} (i : part ≡ Known heard) where
           known-part : (isKnown (getD after (partOf v) unknown) ≡ true) × (heard ≡ notes (recalled (getD after (partOf v) unknown)))
           known-part = noted-known (getD after (partOf v) unknown) sounding i
 
@@ -369,10 +385,10 @@ module _ {w : Wish} {named : ℕ} {m : List ℕ} {n at : ℕ} {parts : List Part
               let z : header (pattern v b) ≡ v = header-pattern v b (header-is .good .small) size in
               omega (arith, ap (λ (x : ℕ). length (entryBits x)) z, header-is .end, body-is .end)
 
-          pub tally-on : {c′ : Count} → c′ ≡ counted c heard (loopOf v)
+          pub tally-on : {c′ : Count} {now : List Part} → c′ ≡ counted c heard (loopOf v) → Kept parts v part now
               → TallyWalk w named m n at now (f′ .0) (left - 1) (t + (1 + specifier v)) c′ (o .cut)
           unfolding after wish
-          tally-on {c′} j =
+          tally-on {c′} j told =
               let l : learn (knownOf (y .bodies)) v ≡ knownOf after = learn-read (y .bodies) v wish (wish-length .0) in
               let d : headerDue (knownOf (y .bodies)) (bitsOf m) p ≡ got v f = single-header (knownOf (y .bodies)) (bitsOf m) p (single .header) (sym allowed ∙ known-part .0) in
               let j′ : c′ ≡ counted c (notes (bodyOf (y .bodies) (pattern v wish))) (loopOf v) = j ∙ ap (λ (x : ℕ). counted c x (loopOf v)) sounds in
@@ -386,12 +402,16 @@ module _ {w : Wish} {named : ℕ} {m : List ℕ} {n at : ℕ} {parts : List Part
                 four = remember-length (y .bodies) (pattern v wish) ∙ y .four;
                 brief = each-kept Brief (y .bodies) (y .brief) (pattern v wish) (wish-length .1);
                 unmarked = rw j (counted-unmarked c heard (loopOf v) (y .unmarked));
-                noted = noted-after;
+                noted = rw (kept-is parts v (Known (o .notes)) e told) noted-after;
                 goes = y .goes
                     ∙ tally-step w named p k t c (y .bodies) (knownOf (y .bodies)) (bitsOf m) one-less d (single .reads)
                     ∙ ap₂ (λ (x : ℕ) (z : Cut). tallyAs (summed w named (left - 1) x z (t + (1 + length b)) (counted c (notes (bodyOf (y .bodies) (pattern v wish))) (loopOf v)) after) (patternsDue (left - 1) (learn (knownOf (y .bodies)) v) (bitsOf m) (f′ .0))) behind-part (sym (own-is .1))
                     ∙ ap (λ (x : ℕ). tallyAs (summed w named (left - 1) (f′ .0) (o .cut) (t + (1 + x)) (counted c (notes (bodyOf (y .bodies) (pattern v wish))) (loopOf v)) after) (patternsDue (left - 1) (learn (knownOf (y .bodies)) v) (bitsOf m) (f′ .0))) size
                     ∙ ap₂ (λ (x : Count) (z : List Bool). tallyAs (summed w named (left - 1) (f′ .0) (o .cut) (t + (1 + specifier v)) x after) (patternsDue (left - 1) z (bitsOf m) (f′ .0))) (sym j′) l;
               }
+
+-- one fact beside another, as each way out of a test has them
+pub beside : {A B : Type 0} → A → B → A × B
+beside a b = (a, b)
 
 pub ruleset tallies = (tally-begins, tally-done, tally-within, tally-counts, tally-fits, tally-bad, tally-part, tally-unknown, tally-notes, tally-on)

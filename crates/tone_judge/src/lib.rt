@@ -11,6 +11,7 @@ use bits::BitPlace;
 use bits::OctetCount;
 use edit_change::Edit;
 use list_count::Count;
+use list_count::Part;
 use tone_elements::Opening;
 use tone_elements::Step;
 
@@ -44,12 +45,6 @@ pub struct Total {
     pub mark: u32,
     pub end: BitPlace,
     pub cut: Cut,
-}
-
-// A part's body, as it is counted: not yet defined, or the number of its notes.
-pub enum Part {
-    Unknown,
-    Known { notes: u32 },
 }
 
 // A pattern that was judged by itself: its header, the place behind it, and the notes of its own instructions; or the
@@ -265,12 +260,10 @@ fn patterns(msg: &[u8], at: BitPlace, n: u32, wish: Wish) -> Tally
             Single::Fine { cell, next, own } => {
                 let wished = own_part(msg, left == named, place, cell, own, wish, cut);
                 let id = (cell / 4096 % 4) as usize;
+                let part = list_count::part_after(parts[id], cell, wished.notes);
                 if cell % 256 != 0 {
-                    parts[id] = Part::Known {
-                        notes: wished.notes,
-                    };
+                    parts[id] = part;
                 }
-                let part = parts[id];
                 match part {
                     Part::Unknown => {
                         return Tally::Stopped {

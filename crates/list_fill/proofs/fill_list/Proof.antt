@@ -1,10 +1,9 @@
 -- `list_fill::fill_list` meets its contract. What is left to play falls with each turn.
 use Rattle.list_fill.proofs.fill_list.Statement.{statement}
 use Rattle.list_fill.proofs.fill_list.Tie as tie
-use mathlib.Core.Logic.{inl, inr, ⊎-elim}
 use borrow.Author.Needs.{needs}
 use Rattle.list_fill.specs.Filling.{patternsIn}
-use Rattle.list_fill.proofs.Fillings.{ListWalk, list-begins, list-body, list-fits, list-four, list-unknown, list-ends, list-on, listings}
+use Rattle.list_fill.proofs.Fillings.{ListWalk, list-begins, list-body, list-fits, list-four, list-on, listings}
 
 abbrev Inv-loop : tie.InvT-loop
 Inv-loop msg n list₀ lasts₀ parts₀ place₀ walk₀ left₀ list lasts parts place walk left = ListWalk msg (patternsIn msg (place₀ .0) n) list₀ list lasts parts (place .0) walk left
@@ -27,17 +26,20 @@ entry-at-requires c κs = search (listings, needs)
 cast-id : tie.Need-cast-id Inv-loop μ-loop
 cast-id c = search (listings, needs)
 
+mul-part-after : tie.Need-mul-part-after Inv-loop μ-loop
+mul-part-after c = search (listings, needs)
+
+array-copy-out-part-after : tie.Need-array-copy-out-part-after Inv-loop μ-loop
+array-copy-out-part-after c = search (listings, needs)
+
+part-after-requires : tie.Need-part-after-requires Inv-loop μ-loop
+part-after-requires c κs = search (listings, needs)
+
 mul-parts : tie.Need-mul-parts Inv-loop μ-loop
 mul-parts c = search (listings, needs)
 
 array-set-from-parts : tie.Need-array-set-from-parts Inv-loop μ-loop
 array-set-from-parts c = search (listings, needs)
-
-mul-part : tie.Need-mul-part Inv-loop μ-loop
-mul-part c = search (listings, needs)
-
-array-copy-out-part : tie.Need-array-copy-out-part Inv-loop μ-loop
-array-copy-out-part c = search (listings, needs)
 
 enum-told : tie.Need-enum-told Inv-loop μ-loop
 enum-told c = search (listings, needs)
@@ -46,10 +48,7 @@ same-length : tie.Need-same-length Inv-loop μ-loop
 same-length c = search (listings, needs)
 
 returns : tie.Need-returns Inv-loop μ-loop
-returns c =
-    let joined = c .before .before .before in
-    let turn = joined .before .before in
-    absurd (list-unknown (turn .before .before .loop .inv) (search needs) (turn .entry-at .ensures) (⊎-elim (λ w. inl (w .0 .taken, w .1)) (λ w. inr (w .0 .left, w .1)) (joined .if1 .came)) (search needs))
+returns c = search (listings, needs)
 
 enum-known-part : tie.Need-enum-known-part Inv-loop μ-loop
 enum-known-part c = search (listings, needs)
@@ -61,19 +60,13 @@ slice-aggregate-fill-passes : tie.Need-slice-aggregate-fill-passes Inv-loop μ-l
 slice-aggregate-fill-passes c = search (list-four, needs)
 
 fill-passes-requires : tie.Need-fill-passes-requires Inv-loop μ-loop
-fill-passes-requires c κs =
-    let joined = c .before .before .before .before .before .before .before in
-    let turn = joined .before .before in
-    (search needs, (list-body (turn .before .before .loop .inv) (search needs) (turn .entry-at .ensures) (⊎-elim (λ w. inl (w .0 .taken, w .1)) (λ w. inr (w .0 .left, w .1)) (joined .if1 .came)) (search needs), (search needs, search needs, list-fits (turn .before .before .loop .inv) (search needs) (turn .entry-at .ensures) (⊎-elim (λ w. inl (w .0 .taken, w .1)) (λ w. inr (w .0 .left, w .1)) (joined .if1 .came)) (search needs) (c .before .before .passes-of .ensures))))
+fill-passes-requires c κs = (search needs, (search (list-body, needs), (search needs, search needs, search (list-fits, needs))))
 
 same-length-2 : tie.Need-same-length-2 Inv-loop μ-loop
 same-length-2 c = search (listings, needs)
 
 returns-2 : tie.Need-returns-2 Inv-loop μ-loop
-returns-2 c =
-    let joined = c .before .before .before .before .before .before .before .before .before .before .before .before in
-    let turn = joined .before .before in
-    list-ends (turn .before .before .loop .inv) (search needs) (turn .entry-at .ensures) (⊎-elim (λ w. inl (w .0 .taken, w .1)) (λ w. inr (w .0 .left, w .1)) (joined .if1 .came)) (c .before .before .before .before .before .before .before .before .before .part2 .given .1) (c .before .before .before .before .before .before .before .passes-of .ensures) (c .before .before .before .before .fill-passes .ensures) (search needs)
+returns-2 c = search (listings, needs)
 
 behind-pattern-requires : tie.Need-behind-pattern-requires Inv-loop μ-loop
 behind-pattern-requires c κs = search (listings, needs)
@@ -86,9 +79,9 @@ loop-less c = search (listings, needs)
 
 loop-again : tie.Need-loop-again Inv-loop μ-loop
 loop-again c =
-    let joined = c .before .before .before .before .before .before .before .before .before .before .before .before .before in
-    let turn = joined .before .before in
-    list-on (turn .before .before .loop .inv) (search needs) (turn .entry-at .ensures) (⊎-elim (λ w. inl (w .0 .taken, w .1)) (λ w. inr (w .0 .left, w .1)) (joined .if1 .came)) (c .before .before .before .before .before .before .before .before .before .before .part2 .given .1) (c .before .before .before .before .before .before .before .before .passes-of .ensures) (c .before .before .before .before .before .fill-passes .ensures) (search needs) (c .behind-pattern .ensures)
+    let filled = c .before .before .before .before .before in
+    let turn = filled .before .before .before .before .before .before .before in
+    list-on (turn .before .before .before .before .loop .inv) (search needs) (turn .before .before .entry-at .ensures) (turn .part-after .ensures) (search needs) (filled .before .before .before .passes-of .ensures) (filled .fill-passes .ensures) (search needs) (c .behind-pattern .ensures)
 
 same-length-3 : tie.Need-same-length-3 Inv-loop μ-loop
 same-length-3 c = search (listings, needs)
@@ -107,10 +100,11 @@ fill-list-spec =
     loop-holds
     entry-at-requires
     cast-id
+    mul-part-after
+    array-copy-out-part-after
+    part-after-requires
     mul-parts
     array-set-from-parts
-    mul-part
-    array-copy-out-part
     enum-told
     same-length
     returns

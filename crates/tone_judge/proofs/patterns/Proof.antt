@@ -1,9 +1,8 @@
 -- `tone_judge::patterns` meets its contract. Each turn judges one pattern.
 use Rattle.tone_judge.proofs.patterns.Statement.{statement}
 use Rattle.tone_judge.proofs.patterns.Tie as tie
-use Rattle.tone_judge.proofs.Tallies.{TallyWalk, tally-counts, tally-fits, tally-notes, tallies}
+use Rattle.tone_judge.proofs.Tallies.{beside, TallyWalk, tally-counts, tally-fits, tally-notes, tallies}
 use mathlib.Core.Logic.{inl, inr, ⊎-elim}
-use Rattle.tone_judge.proofs.Parts.{beside}
 use borrow.Author.Needs.{needs}
 
 abbrev Inv-loop : tie.InvT-loop
@@ -42,36 +41,35 @@ own-part-requires c κs = search (tallies, needs)
 cast-id : tie.Need-cast-id Inv-loop μ-loop
 cast-id c = search (tallies, needs)
 
+mul-part-after : tie.Need-mul-part-after Inv-loop μ-loop
+mul-part-after c = search (tallies, needs)
+
+array-copy-out-part-after : tie.Need-array-copy-out-part-after Inv-loop μ-loop
+array-copy-out-part-after c = search (tallies, needs)
+
+part-after-requires : tie.Need-part-after-requires Inv-loop μ-loop
+part-after-requires c κs = search (tallies, needs)
+
 mul-parts : tie.Need-mul-parts Inv-loop μ-loop
 mul-parts c = search (tallies, needs)
 
 array-set-from-parts : tie.Need-array-set-from-parts Inv-loop μ-loop
 array-set-from-parts c = search (tallies, needs)
 
-mul-part : tie.Need-mul-part Inv-loop μ-loop
-mul-part c = search (tallies, needs)
-
-array-copy-out-part : tie.Need-array-copy-out-part Inv-loop μ-loop
-array-copy-out-part c = search (tallies, needs)
-
 enum-told : tie.Need-enum-told Inv-loop μ-loop
 enum-told c = search (tallies, needs)
 
-add-t36 : tie.Need-add-t36 Inv-loop μ-loop
-add-t36 c = search (tallies, needs)
+add-t35 : tie.Need-add-t35 Inv-loop μ-loop
+add-t35 c = search (tallies, needs)
 
 returns-2 : tie.Need-returns-2 Inv-loop μ-loop
-returns-2 c =
-    let told = ⊎-elim (λ w. inl (beside (w .0 .taken) (w .1))) (λ w. inr (beside (w .0 .left) (w .1))) (c .before .before .before .before .if1 .came) in
-    search (tallies, told, needs)
+returns-2 c = search (tallies, needs)
 
 enum-known-part : tie.Need-enum-known-part Inv-loop μ-loop
 enum-known-part c = search (tallies, needs)
 
 with-requires : tie.Need-with-requires Inv-loop μ-loop
-with-requires c κs =
-    let told = ⊎-elim (λ w. inl (beside (w .0 .taken) (w .1))) (λ w. inr (beside (w .0 .left) (w .1))) (c .before .before .before .before .if1 .came) in
-    (search (tally-counts, needs), search (tally-notes, told, needs), search needs)
+with-requires c κs = (search (tally-counts, needs), search (tally-notes, needs), search needs)
 
 add-table : tie.Need-add-table Inv-loop μ-loop
 add-table c = search (tallies, needs)
@@ -87,7 +85,7 @@ loop-less c = search (tallies, needs)
 
 loop-again : tie.Need-loop-again Inv-loop μ-loop
 loop-again c =
-    let told = ⊎-elim (λ w. inl (beside (w .0 .taken) (w .1))) (λ w. inr (beside (w .0 .left) (w .1))) (c .before .before .before .before .before .before .if1 .came) in
+    let told = ⊎-elim (λ w. inl (beside (w .0 .taken) (w .1))) (λ w. inr (beside (w .0 .left) (w .1))) (c .before .before .before .before .before .if1 .came) in
     search (tallies, told, needs)
 
 up-to-requires : tie.Need-up-to-requires Inv-loop μ-loop
@@ -112,12 +110,13 @@ patterns-spec =
     enum-known-cell
     own-part-requires
     cast-id
+    mul-part-after
+    array-copy-out-part-after
+    part-after-requires
     mul-parts
     array-set-from-parts
-    mul-part
-    array-copy-out-part
     enum-told
-    add-t36
+    add-t35
     returns-2
     enum-known-part
     with-requires
