@@ -55,7 +55,6 @@ use Rattle.list.specs.Promise.{entriesIn, ListPromise, RowsPromise}
 use Rattle.list.proofs.Agreeing.{rows-fit, cells-kept, rows-made}
 use Rattle.list.proofs.Lent.{cell, msgTy, listTy, rowsTy, cellRefTy, cellsTy, recordRefTy, recordsTy, sliceAt}
 use Rattle.list_rules.proofs.Entry as E
-use Rattle.list_rules.proofs.Entry.Laws as E′
 use Rattle.list.proofs.Listed as L
 use Rattle.list.proofs.Listed.Laws as L′
 use Rattle.list.proofs.list_within as list-within
