@@ -89,7 +89,8 @@ fn fault_of_name(code: &Code, block: &Block, named: &Named) -> Option<String> {
         return Some(format!("nothing is called {unknown}"));
     }
     let path = resolved(named.path.as_ref()?, &block.crate_name)?;
-    fault_of_place(code, name, &path).filter(|_| !is_beside(&code.places(name)))
+    let in_code = path.contains("/src/") || path.ends_with(".h");
+    fault_of_place(code, name, &path).filter(|_| in_code || !is_beside(&code.places(name)))
 }
 
 fn fault_of_place(code: &Code, name: &str, place: &str) -> Option<String> {
@@ -100,7 +101,7 @@ fn fault_of_place(code: &Code, name: &str, place: &str) -> Option<String> {
 }
 
 /// Whether a name is a crate's, or of the code alone. Such a name may stand
-/// beside those that a path is given for.
+/// beside those that a path of definitions or theorems is given for.
 fn is_beside(places: &BTreeSet<String>) -> bool {
     let is_crate = |place: &String| place.matches('/').count() == 1;
     let is_code = |place: &String| place.contains("/src/") || place.ends_with(".h");
@@ -113,7 +114,8 @@ fn is_known(code: &Code, name: &str) -> bool {
     }
     let other = OTHER_WORDS.iter().any(|(_, words)| words.contains(&name));
     let command = name.split(' ').next().unwrap_or_default();
-    let is_command = COMMANDS.contains(&command) || root(command).exists();
+    let is_own = root(command).exists() && (command == name || command.contains('/'));
+    let is_command = COMMANDS.contains(&command) || is_own;
     let built = name.starts_with("target/");
     other || is_command || built || name.split("::").all(|part| code.has(part))
 }

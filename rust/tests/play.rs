@@ -206,21 +206,22 @@ fn endless_input_is_refused() {
 /// The stack that the program is said to run with, in KiB. Its arrays take 260.1
 /// and a row that it writes by takes 4. The system puts the program's words and
 /// up to 8 KiB of nothing ahead of it.
+#[cfg(target_arch = "x86_64")]
 const STACK: usize = 288;
 
 /// The emulator has a stack of its own, so this is for x86-64 alone.
+#[cfg(target_arch = "x86_64")]
 #[test]
 fn it_runs_with_288_kib_of_stack() {
-    if cfg!(target_arch = "x86_64") {
-        let longest = tone_of_entries(ROOM);
-        for message in [&longest[..], &longest[1..], &[2; LARGEST_TONE + 1]] {
-            let printed = printed_within(STACK, message);
-            assert_eq!(printed, expected(message));
-        }
+    let longest = tone_of_entries(ROOM);
+    for message in [&longest[..], &longest[1..], &[2; LARGEST_TONE + 1]] {
+        let printed = printed_within(STACK, message);
+        assert_eq!(printed, expected(message));
     }
 }
 
 /// What the program prints where its stack is limited.
+#[cfg(target_arch = "x86_64")]
 fn printed_within(kibibytes: usize, message: &[u8]) -> String {
     let limited = format!("ulimit -s {kibibytes} && exec \"$0\"");
     let mut command = Command::new("sh");

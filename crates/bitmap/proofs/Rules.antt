@@ -109,7 +109,8 @@ writing-is room width height image = put room width height image (judged-is widt
 
 -- ---- reading and writing undo each other
 
-refused-not : {A B : Type 0} {n p : ℕ} {x : A} → refused n p ≡ accepted x → B
+-- what is refused is not accepted
+pub refused-not : {A B : Type 0} {n p : ℕ} {x : A} → refused n p ≡ accepted x → B
 refused-not e = let z : _≡_ {A = ℕ} 0 1 = cc in let n : ⊥ = omega arith in absurd n
 
 -- a message with a header within the rules is what its sizes and its image spell

@@ -13,7 +13,7 @@ use Rattle.bits.specs.Outcome.{Outcome, accepted, refused}
 use Rattle.bits.specs.Bits.{Octets}
 use Rattle.bits.proofs.Octets.{octets-drop}
 use Rattle.bitmap.specs.Bitmap.{Bitmap, writing as bitmapOctets, reading as bitmapReading}
-use Rattle.bitmap.proofs.Rules.{read-written as bitmap-read-written, write-read as bitmap-write-read, read-well-formed as bitmap-well-formed}
+use Rattle.bitmap.proofs.Rules.{read-written as bitmap-read-written, write-read as bitmap-write-read, read-well-formed as bitmap-well-formed, refused-not}
 use Rattle.bitmap_ahead.specs.declared.Kind.{Kind}
 use Rattle.bitmap_ahead.specs.Ahead.{Ahead, WellFormed as WellFormedAhead, aheadOctets, startOf, aheadIn, stands}
 use Rattle.bitmap_ahead.proofs.Rules.{written-found, found-formed, found-written}
@@ -66,9 +66,6 @@ pub record Accepted (kind : Kind) (m : List ℕ) (g : Graphic) : Type 0 where
   pub stand : stands kind m ≡ true
   pub said : aheadIn kind m ≡ g .ahead
   pub reads : bitmapReading (drop (startOf kind m) m) ≡ accepted (g .bitmap)
-
-refused-not : {A B : Type 0} {n p : ℕ} {x : A} → refused n p ≡ accepted x → B
-refused-not e = let z : _≡_ {A = ℕ} 0 1 = cc in let n : ⊥ = omega arith in absurd n
 
 by-bitmap : (kind : Kind) (m : List ℕ) (g : Graphic) → startOf kind m + 4 ≤ length m → stands kind m ≡ true → (o : Outcome Bitmap)
     → bitmapReading (drop (startOf kind m) m) ≡ o → withAhead (aheadIn kind m) o ≡ accepted g → Accepted kind m g

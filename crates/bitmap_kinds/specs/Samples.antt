@@ -73,6 +73,7 @@ p11 = 0x00 ∷ 0x08 ∷ 0x02 ∷ 0x01 ∷ 0xFF ∷ 0x01 ∷ []
 
 -- ---- the samples
 
+-- icons and logos, each read or written as the rules say
 pub record KindSamples : Type 0 where
   -- an icon: the version, then the bitmap
   pub icon : Reads Icon (v0 ++ p11) (nine 5)

@@ -155,6 +155,7 @@ module _ (buf : List ℕ) (used : ℕ) (ed : Edit) (k i : ℕ) (list buf′ list
     length-is : newLength r ≡ toneLength (changed ed k i t)
     length-is = ap (λ (x : Numbers). x .length) edit-numbers
 
+    -- the change is the new length minus the old
     pub edit-change : numbersOf r .change ≡ pos (newLength r) -ℤ pos used
     edit-change = ap (λ (x : Numbers). x .change) edit-numbers ∙ ap (λ (x : ℕ). pos x -ℤ pos used) (sym length-is)
 

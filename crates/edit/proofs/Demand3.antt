@@ -10,13 +10,13 @@ use lib.Dec.{leb, ltb}
 use borrow.Author.Tests.{ltb-true, leb-true, eqb-false, le-leb, lt-ltb, ne-eqb}
 use Rattle.bits.specs.Bits.{bitsN}
 use Rattle.bits.specs.Outcome.{Outcome, accepted, refused}
-use Rattle.bits.proofs.Choice.{pick-elim}
+use Rattle.bits.proofs.Choice.{pick-elim, both}
 use Rattle.bits.proofs.Numbers.{length-bits, bits-append}
 use Rattle.tone.specs.Table.{kind, payload, width, Instruction}
 use Rattle.tone.specs.Tone.{Pattern, Tone, frontOf, header, cells, noneKnown, Instructions, Sound, Formed}
 use Rattle.tone.specs.Writing.{entryBits, tableBits, frontBits, songBits, endBits, toneBits, toneLength, toneOctets, mostOctets}
 use Rattle.tone.specs.Reading.{readTone}
-use Rattle.tone.proofs.Rows.{and-true, tableBits-append}
+use Rattle.tone.proofs.Rows.{tableBits-append}
 use Rattle.tone.proofs.Demand2.{written-is-accepted}
 use Rattle.edit_change.specs.declared.Edit.{Edit}
 use Rattle.edit_change.specs.declared.Edit.the-variants.{Replace, Insert, Delete}
@@ -234,8 +234,8 @@ met ed k i t =
     pick-elim (Met ed k i t) (isThere ed k i (t .patterns)) (λ h₂.
     pick-elim (Met ed k i t) (empties ed (bodyLength k t)) (λ _. tt) (λ h₃.
     pick-elim (Met ed k i t) (overfills ed (bodyLength k t)) (λ _. tt) (λ h₄.
-    let a = and-true (ltb k (length (t .patterns))) (leb 1 (bodyLength k t) && inBody ed i (bodyLength k t)) h₂ in
-    let b = and-true (leb 1 (bodyLength k t)) (inBody ed i (bodyLength k t)) (a .1) in (
+    let a = both (ltb k (length (t .patterns))) (leb 1 (bodyLength k t) && inBody ed i (bodyLength k t)) h₂ in
+    let b = both (leb 1 (bodyLength k t)) (inBody ed i (bodyLength k t)) (a .1) in (
       record {
         new = carried-instructions ed h₁;
         pattern = ltb-true k (length (t .patterns)) (a .0);

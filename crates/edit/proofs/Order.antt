@@ -1,4 +1,4 @@
--- Where two grounds against an edit meet, which of them is given: the used length, the message, 6, 12, 13, 14, 1, 11 for the buffer, 11 for the list.
+-- Where two grounds against an edit meet, which of them is given: the used length, the message, 6, 12, 13, 14, 1, 11 for the buffer, 11 for the list; 19 cannot occur.
 use Prim.Native.Nat.{ℕ, _*_, _≤_, _<_}
 use mathlib.Core.Path.{_≡_, refl, sym, subst}
 use mathlib.Core.Bool.{true, false}
@@ -14,6 +14,7 @@ use Rattle.list_rules.specs.Playing.{playingList}
 use Rattle.list_rules.proofs.Bounds.{none-too-long}
 use Rattle.edit_change.specs.declared.Edit.{Edit}
 use Rattle.edit_change.specs.Change.{carriesNew, isThere, empties, overfills}
+use Rattle.edit_change.proofs.Grounds.{full-keeps}
 use Rattle.edit.specs.Editing.{bodyLength, editTone, inBuffer, editMessage}
 use Rattle.edit.proofs.Demand3.{edit-grounds, edit-formed}
 
@@ -44,13 +45,15 @@ module _ (buf : List ℕ) (used : ℕ) (ed : Edit) (k i cells : ℕ) where
         pub place-second : isThere ed k i (t .patterns) ≡ false → editMessage buf used ed k i cells ≡ refused 12 0
         place-second s = ground-third (rw (c, s) refl)
 
-        -- then 13 and 14, for a position that is there
+        -- then, for a position that is there
         module _ (s : isThere ed k i (t .patterns) ≡ true) where
+          -- 13 for the only instruction
           pub only-third : empties ed (bodyLength k t) ≡ true → editMessage buf used ed k i cells ≡ refused 13 0
           only-third e = ground-third (rw (c, s, e) refl)
 
-          pub full-fourth : empties ed (bodyLength k t) ≡ false → overfills ed (bodyLength k t) ≡ true → editMessage buf used ed k i cells ≡ refused 14 0
-          full-fourth e f = ground-third (rw (c, s, e, f) refl)
+          -- 14 for a part of 255
+          pub full-fourth : overfills ed (bodyLength k t) ≡ true → editMessage buf used ed k i cells ≡ refused 14 0
+          full-fourth f = ground-third (rw (c, s, full-keeps ed (bodyLength k t) f, f) refl)
 
       module _ {t′ : Tone} (a : editTone ed k i t ≡ accepted t′) where
         -- the ground for the grown message and the buffer, whatever the list is

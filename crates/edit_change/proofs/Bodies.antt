@@ -10,7 +10,8 @@ use lib.Dec.{ltb}
 use borrow.Author.Tests.{ltb-true, leb-true, eqb-false, ne-eqb}
 use Rattle.tone.specs.Table.{kind, payload, width, allowed, isInstruction, Instruction}
 use Rattle.tone.specs.Tone.{Pattern, Tone, frontOf, specifier, partOf, header, cells, recallable, learn, noneKnown, Instructions, Sound, Sequence, Formed}
-use Rattle.tone.proofs.Rows.{and-true, is-instruction}
+use Rattle.tone.proofs.Rows.{is-instruction}
+use Rattle.bits.proofs.Choice.{both}
 use Rattle.edit_change.specs.declared.Edit.{Edit}
 use Rattle.edit_change.specs.declared.Edit.the-variants.{Replace, Insert, Delete}
 use Rattle.edit_change.specs.Change.{carried, removed, bodyAfter, withBody, patternAt, changed, isNew, carriesNew, inBody, empties, overfills}
@@ -19,8 +20,8 @@ use Rattle.edit_change.specs.Change.{carried, removed, bodyAfter, withBo
 
 pub new-instruction : (e : ℕ) → isNew e ≡ true → Instruction e
 new-instruction e h =
-    let a = and-true (isInstruction (kind e)) (ltb (payload e) (2 ^ width (kind e)) && allowed (kind e) (payload e)) h in
-    let b = and-true (ltb (payload e) (2 ^ width (kind e))) (allowed (kind e) (payload e)) (a .1) in
+    let a = both (isInstruction (kind e)) (ltb (payload e) (2 ^ width (kind e)) && allowed (kind e) (payload e)) h in
+    let b = both (ltb (payload e) (2 ^ width (kind e))) (allowed (kind e) (payload e)) (a .1) in
     let k = is-instruction (kind e) (a .0) in
     record { inTable = record { known = k .1; fits = ltb-true (payload e) (2 ^ width (kind e)) (b .0); code = b .1 }; some = k .0 }
 

@@ -8,8 +8,9 @@ use lib.ListN.{length}
 use lib.Dec.{leb, ltb}
 use borrow.Author.Tests.{lt-leb, le-leb, leb-true, eq-eqb, ne-eqb}
 use Rattle.bits.specs.Choice.{pick}
+use Rattle.bits.proofs.Choice.{both}
 use Rattle.tone.specs.Tone.{Pattern}
-use Rattle.tone.proofs.Rows.{and-true, and-false}
+use Rattle.tone.proofs.Rows.{and-false}
 use Rattle.edit_change.specs.declared.Edit.{Edit}
 use Rattle.edit_change.specs.declared.Edit.the-variants.{Replace, Insert, Delete}
 use Rattle.edit_change.specs.Change.{patternAt, inBody, isThere, empties, overfills}
@@ -62,7 +63,7 @@ pub ruleset grounds = (ground-recall, ground-there, ground-none)
 pub no-ground : (ed : Edit) (i n : ℕ) → n ≤ 255 → groundOf ed i n ≡ 0 → (1 ≤ n) × Fits ed i n
 no-ground ed i n h e =
     let g = go (leb 1 n && inBody ed i n) (empties ed n) (overfills ed n) e in
-    let a = and-true (leb 1 n) (inBody ed i n) (g .0) in
+    let a = both (leb 1 n) (inBody ed i n) (g .0) in
     let some = leb-true 1 n (a .0) in
     (some, fits ed i n some h (a .1) (g .1) (g .2))
   where
@@ -71,6 +72,12 @@ no-ground ed i n h e =
     go true false true q = let z : ⊥ = omega arith in absurd z
     go true false false q = (refl, refl, refl)
     go false b c q = let z : ⊥ = omega arith in absurd z
+
+-- an edit that overfills a part does not empty it
+pub full-keeps : (ed : Edit) (n : ℕ) → overfills ed n ≡ true → empties ed n ≡ false
+full-keeps (Replace e) n h = refl
+full-keeps (Insert e) n h = refl
+full-keeps Delete n h = let z : _≡_ {A = ℕ} 0 1 = cc in absurd (omega arith)
 
 -- a recall has no instruction of its own: no position is there, not even 0 for an insert
 pub recall-has-none : (ed : Edit) (k i : ℕ) (ps : List Pattern) → patternAt ps k .body ≡ [] → isThere ed k i ps ≡ false

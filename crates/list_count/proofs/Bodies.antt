@@ -1,6 +1,6 @@
 -- The four bodies: what reading knows of them, and their bounds.
 use native.Mathlib.Omega.{arith}
-use Prim.Native.Nat.{ℕ, zero, suc, _+_, _≤_, _<_}
+use Prim.Native.Nat.{ℕ, zero, suc, _≤_, _<_}
 use mathlib.Core.Path.{_≡_, refl, ap}
 use mathlib.Core.Bool.{Bool, true, false}
 use mathlib.Core.List.{List, [], _∷_, map}
@@ -10,9 +10,7 @@ use lib.Dec.{eqb}
 use borrow.Author.Tests.{eqb-false}
 use Rattle.bits.specs.Choice.{pick}
 use Rattle.bits.proofs.Choice.{pick-elim}
-use Rattle.tone.specs.Table.{kind}
 use Rattle.tone.specs.Tone.{Pattern, specifier, partOf, pattern, learn, Instructions, Sound}
-use Rattle.tone_elements.specs.Answers.{notes}
 use Rattle.list_count.specs.Bodies.{Remembered, unknown, known, recalled, noBodies, isRecall, passesOf, bodyOf, remember}
 
 -- ---- what is remembered
@@ -105,11 +103,6 @@ none-body = (tt, none-brief)
 
 pub sound-body : (p : Pattern) → Sound p → Body (p .body)
 sound-body p s = (s .each, s .long)
-
--- a body has no more notes than instructions
-pub notes-most : (b : List ℕ) → notes b ≤ length b
-notes-most [] = omega arith
-notes-most (e ∷ b) = let h = notes-most b in pick-elim (λ (n : ℕ). n + notes b ≤ suc (length b)) (eqb (kind e) 1) (λ _. omega arith) (λ _. omega arith)
 
 -- fifteen passes at most
 pub passes-most : (loop : ℕ) → loop < 16 → passesOf loop ≤ 15

@@ -14,13 +14,12 @@ use Rattle.bits.specs.Bits.{bitsOf}
 use Rattle.bits.specs.Lent.{over}
 use Rattle.bits.specs.declared.BitPlace.{BitPlace}
 use Rattle.bits.proofs.Octets.{length-bitsOf}
-use Rattle.bits.specs.Places.{place}
-use Rattle.tone.specs.Table.{kind, width, allowed, InTable}
 use Rattle.tone.specs.Tone.{Pattern, specifier, loopOf, partOf, pattern, learn}
 use Rattle.tone.specs.Writing.{entryBits, tableBits}
 use Rattle.tone.specs.Reading.{got, bad, onward, headerDue, bodyDue, patternsDue}
 use Rattle.tone.proofs.Exact.{Accepted}
 use Rattle.tone.proofs.Rows.{Header, Body, header-exact, body-exact}
+use Rattle.tone.proofs.Instructions.{header-in-table}
 use Rattle.tone_elements.specs.Answers.{Within, notes, EntryAt, SomeEntry, Passed}
 use Rattle.tone_elements.proofs.Steps.{onward-got, onward-made}
 use Rattle.list_rules.specs.declared.Settings.{Settings}
@@ -73,11 +72,6 @@ head-of m seen p left {ps} {q} h e =
     let j = onward-got (bodyDue (specifier (i .0)) l (i .1)) (λ b r. onward (patternsDue k (learn seen (i .0)) l r) (λ t s. got (pattern (i .0) b ∷ t) s) bad) (i .3) in
     let o = onward-made (patternsDue k (learn seen (i .0)) l (j .1)) (λ t. pattern (i .0) (j .0) ∷ t) (j .3) in
     record { header = i .0; next = i .1; body = j .0; behind = j .1; others = o .0; patterns = o .2; first = i .2; second = j .2; more = o .1 }
-
--- a header that was read is an entry of the table
-header-entry : (h : ℕ) → h < 16384 → InTable h
-unfolding width allowed
-header-entry h k = let e : kind h ≡ 0 = omega arith in record { known = omega arith; fits = rw e (omega arith); code = rw e refl }
 
 -- ---- the part that sounds
 
@@ -159,7 +153,7 @@ module _ {m : List ℕ} {ps : List Pattern} {old new lasts : List ℕ} {parts : 
     taken = header-exact (knownOf (v .bodies)) .sound (bitsOf m) p (rw (length-bitsOf m) (v .within .inside)) (head .first)
 
     entry : EntryAt m p (head .header) (drop (head .next) (bitsOf m))
-    entry = record { inTable = header-entry (head .header) (taken .good .small); here = taken .here }
+    entry = record { inTable = header-in-table (head .header) (taken .good .small); here = taken .here }
 
     pub list-entry : SomeEntry m p
     list-entry = record { entry = head .header; behind = drop (head .next) (bitsOf m); stands = entry }

@@ -18,8 +18,9 @@ use Rattle.list_rules.specs.Ranges.{InRange, Bounded, AllBounded}
 use Rattle.list_rules.specs.Playing.{Played, step, pass, passes, Listing, patternPlayed, play, playingList}
 use Rattle.list_count.specs.Bodies.{passesOf, Remembered, noBodies, bodyOf, remember}
 use Rattle.tone_elements.specs.Answers.{notes}
+use Rattle.tone_elements.proofs.Walks.{notes-most}
 use Rattle.list_count.specs.Counting.{entryCount}
-use Rattle.list_count.proofs.Bodies.{Each, each-start, each-sounds, each-kept, Body, none-body, sound-body, notes-most, passes-most}
+use Rattle.list_count.proofs.Bodies.{Each, each-start, each-sounds, each-kept, Body, none-body, sound-body, passes-most}
 use Rattle.list_rules.specs.Listing.{anyTooLong}
 use Rattle.list_rules.proofs.Durations.{duration-most}
 use Rattle.list_rules.proofs.Counts.{list-count}

@@ -1,4 +1,4 @@
--- Where two grounds against a list meet, which of them is given: those of reading, then 11.
+-- Where two grounds against a list meet, which of them is given: those of reading, then 11; 19 cannot occur.
 use Prim.Native.Nat.{ℕ, _*_, _≤_, _<_}
 use mathlib.Core.Path.{_≡_, refl}
 use mathlib.Core.Bool.{Bool, true, false}
@@ -34,19 +34,24 @@ module _ (m : List ℕ) where
 
     -- the list in two numbers an entry
     module _ (cells : ℕ) where
+      -- 11 where the cells are too few
       pub cells-short : cells < 2 * length (playingList t .entries) → listTone m (fitsNumbers cells) ≡ refused 11 0
       cells-short h = room-last (fitsNumbers cells) (lt-leb (2 * length (playingList t .entries)) cells h)
 
+      -- else it is made
       pub cells-enough : 2 * length (playingList t .entries) ≤ cells → listTone m (fitsNumbers cells) ≡ accepted (playingList t)
       cells-enough h = list-made (fitsNumbers cells) (le-leb (2 * length (playingList t .entries)) cells h)
 
     -- both forms: 11 where either is too small
     module _ (cells rows : ℕ) where
+      -- the cells are
       pub first-short : cells < 2 * length (playingList t .entries) → listTone m (fitsBoth cells rows) ≡ refused 11 0
       first-short h = room-last (fitsBoth cells rows) (rw (lt-leb (2 * length (playingList t .entries)) cells h) refl)
 
+      -- the rows are
       pub rows-short : rows < length (playingList t .entries) → listTone m (fitsBoth cells rows) ≡ refused 11 0
       rows-short h = room-last (fitsBoth cells rows) (rw (lt-leb (length (playingList t .entries)) rows h) (and-false (leb (2 * length (playingList t .entries)) cells)))
 
+      -- neither is, and it is made
       pub both-enough : 2 * length (playingList t .entries) ≤ cells → length (playingList t .entries) ≤ rows → listTone m (fitsBoth cells rows) ≡ accepted (playingList t)
       both-enough h g = list-made (fitsBoth cells rows) (rw (le-leb (2 * length (playingList t .entries)) cells h, le-leb (length (playingList t .entries)) rows g) refl)

@@ -8,7 +8,7 @@ use mathlib.Core.List.{List}
 use lib.ListN.{length, take}
 use lib.Dec.{leb, eqb}
 use borrow.Author.Tests.{le-leb, leb-true, leb-false, ne-eqb, eqb-false}
-use Rattle.bits.specs.Outcome.{Outcome, accepted, refused, andThen, andThen as then}
+use Rattle.bits.specs.Outcome.{Outcome, accepted, refused, andThen}
 use Rattle.bits.proofs.Choice.{pick-elim}
 use Rattle.tone.specs.Tone.{Tone, Formed, entries}
 use Rattle.tone.specs.Writing.{toneLength, mostOctets}
@@ -174,10 +174,10 @@ module _ (room cells : ℕ) (h : toneRoom ≤ room) (l : listRoom ≤ cells) whe
       (λ b. let z : ⊥ = omega (arith, leb-true n mostOctets a, leb-false n room b) in absurd z))
       (λ _. other 1 refl)
 
-  grounded-spared : (ed : Edit) (k i : ℕ) (t : Tone) → Formed t → Spared (withList cells (then (editTone ed k i t) (inBuffer room)))
+  grounded-spared : (ed : Edit) (k i : ℕ) (t : Tone) → Formed t → Spared (withList cells (andThen (editTone ed k i t) (inBuffer room)))
   grounded-spared ed k i t f = go (editTone ed k i t) refl (grounds-spared ed k i t)
     where
-      go : (o : Outcome Tone) → editTone ed k i t ≡ o → Spared o → Spared (withList cells (then o (inBuffer room)))
+      go : (o : Outcome Tone) → editTone ed k i t ≡ o → Spared o → Spared (withList cells (andThen o (inBuffer room)))
       go (accepted t′) e s =
           let g = edit-grounds ed k i t t′ e in
           changed-spared t′ (subst Formed (sym (g .1)) (edit-formed ed k i t f (g .0)))
@@ -188,7 +188,7 @@ unfolding editMessage
 edit-spared ed buf used k i cells h l =
     pick-elim Spared (leb used (length buf)) (λ _. go (readTone (take used buf)) refl) (λ _. other 1 refl)
   where
-    go : (o : Outcome Tone) → readTone (take used buf) ≡ o → Spared (then o (λ t. withList cells (then (editTone ed k i t) (inBuffer (length buf)))))
+    go : (o : Outcome Tone) → readTone (take used buf) ≡ o → Spared (andThen o (λ t. withList cells (andThen (editTone ed k i t) (inBuffer (length buf)))))
     go (accepted t) e = grounded-spared (length buf) cells h l ed k i t (read-well-formed (take used buf) t e .formed)
     go (refused n p) e = unread (take used buf) e
 

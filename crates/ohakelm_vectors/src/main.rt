@@ -24,7 +24,7 @@
 // What is in hand stays until something else is put there; a letter alone puts none. Ahead of a call all octets lent are
 // 77, all cells 7, and each record is 101 to 105. A line of output has the name, the numbers of the answer, and each buffer
 // that was lent, whole. Of each call there is a case whose answer has no number twice, refusal and place aside, and one that
-// is refused, so that two numbers cannot change places unseen.
+// is refused where the call can refuse, so that two numbers cannot change places unseen.
 ghost use Prim.Native.Nat.{_≤_};
 ghost use lib.ListN.{length};
 use bitmap_answers::BitmapAnswer;

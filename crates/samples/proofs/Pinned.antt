@@ -1,7 +1,7 @@
 -- Every sample beside P1 to P12 holds of the rules.
 use Rattle.bitmap.proofs.Samples.{bitmap-samples}
 use Rattle.bitmap_kinds.proofs.Samples.{kind-samples}
-use Rattle.list_rules.proofs.Samples as sounding
+use Rattle.list_rules.proofs.Samples as lengths
 use Rattle.samples.specs.Pinned.{Pinned}
 use Rattle.samples.proofs.Message.{messages}
 use Rattle.samples.proofs.Table.{readings, writings}
@@ -18,7 +18,7 @@ pinned = record {
   writings = writings;
   labels = labels;
   lists = lists;
-  durations = sounding.durations;
+  durations = lengths.durations;
   edits = edits;
   bounds = bounds;
   bitmaps = bitmap-samples;

@@ -24,10 +24,11 @@ ofP1 ed k i = editMessage (message ++ (0xEE ∷ [])) 10 ed k i 2
 abbrev pub ofTwo : Edit → ℕ → ℕ → Outcome Edited
 ofTwo ed k i = editMessage (twoParts ++ (0xEE ∷ [])) 15 ed k i 8
 
--- what it leaves in that buffer, and in that list
+-- what it leaves in that buffer
 abbrev pub octetsLeft : Outcome Edited → List ℕ
 octetsLeft o = bufferAfter o 15 (twoParts ++ (0xEE ∷ []))
 
+-- what it leaves in that list
 abbrev pub numbersLeft : Outcome Edited → List ℕ
 numbersLeft o = listAfter o (replicate 8 77)
 

@@ -19,10 +19,11 @@ use Rattle.samples.specs.Samples.{message, oneNote}
 abbrev pub part : ℕ → ℕ → List ℕ → Pattern
 part id loop body = record { id = id; loop = loop; body = body }
 
--- C and D as quarters
+-- C as a quarter
 abbrev pub c : ℕ
 c = 65576
 
+-- D as a quarter
 abbrev pub d : ℕ
 d = 65640
 
@@ -30,14 +31,16 @@ d = 65640
 abbrev pub listOf : List Pattern → Listing
 listOf ps = playingList (record { song = 2; unicode = false; title = []; patterns = ps })
 
--- the notes that sound, and the mark
+-- the notes of entries
 abbrev pub notesOf : List Entry → List ℕ
 notesOf [] = []
 notesOf (r ∷ rs) = r .note ∷ notesOf rs
 
+-- the notes that sound
 abbrev pub heard : List Pattern → List ℕ
 heard ps = notesOf (listOf ps .entries)
 
+-- the return mark
 abbrev pub markOf : List Pattern → ℕ
 markOf ps = listOf ps .mark
 

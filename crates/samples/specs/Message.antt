@@ -64,7 +64,7 @@ all n number place = replicate n (refused number place)
 
 -- what reading makes of them: the elements in their order, and then what is accepted
 pub record Messages : Type 0 where
-  -- where each element of P1 begins: length, programming, sound, song type, pattern count, header, two instructions, end
+  -- where the elements of P1 begin that are cut: length, programming, sound, song type, pattern count, the rest of the header and of two instructions, end
   pub cut : cuts message 10 ≡ cutAt (0 ∷ 8 ∷ 16 ∷ 23 ∷ 26 ∷ 37 ∷ 37 ∷ 54 ∷ 62 ∷ 72 ∷ [])
   -- with a title: each character is an element, and here the ids of the header and of the note are cut
   pub cutTitle : cuts titled 12 ≡ cutAt (0 ∷ 8 ∷ 16 ∷ 23 ∷ 30 ∷ 38 ∷ 46 ∷ 54 ∷ 57 ∷ 71 ∷ 74 ∷ 88 ∷ [])

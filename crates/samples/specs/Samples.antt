@@ -19,6 +19,7 @@ use Rattle.bitmap.specs.Samples.{P11, P12}
 abbrev pub message : List ℕ
 message = 0x02 ∷ 0x4A ∷ 0x3A ∷ 0x80 ∷ 0x40 ∷ 0x00 ∷ 0x51 ∷ 0xC6 ∷ 0x90 ∷ 0x00 ∷ []
 
+-- the tone that it is
 abbrev pub tone : Tone
 tone = record { song = 2; unicode = false; title = []; patterns = record { id = 0; loop = 0; body = 262158 ∷ 65864 ∷ [] } ∷ [] }
 

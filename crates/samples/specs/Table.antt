@@ -64,7 +64,7 @@ pub record Writings : Type 0 where
   pub wideTitles : map (λ n. refusalOf (basic true n)) (0 ∷ 1 ∷ 2 ∷ 29 ∷ 30 ∷ 31 ∷ 32 ∷ []) ≡ 0 ∷ 17 ∷ 0 ∷ 17 ∷ 0 ∷ 17 ∷ 17 ∷ []
   -- a title in a temporary song
   pub temporaryTitle : writeTone 2 false (0x41 ∷ []) (1 ∷ 65864 ∷ []) 99 ≡ refused 17 0
-  -- 6: kind 6, and the first payload that each kind does not have: header, note, scale, style, tempo, volume
+  -- 6: kind 6, and the first payload that does not fit the bits of its kind, or is none of a style: header, note, scale, style, tempo, volume
   pub kindSix : temporary (393216 ∷ []) ≡ refused 6 0
   pub payloads : map (λ t. refusalOf (temporary t)) ((16384 ∷ []) ∷ alone 66048 ∷ alone 131076 ∷ alone 196611 ∷ alone 262176 ∷ alone 327696 ∷ []) ≡ replicate 6 6
   -- and the last that it has: D with loop 15 and 255 instructions, which are not there, then the others

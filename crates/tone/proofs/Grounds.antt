@@ -19,7 +19,7 @@ use Rattle.tone.specs.Reading.{Got, got, bad, Reader, onward, _>>=_, ret
 
 -- ---- the elements of a message
 
--- each element that document 01 names; the rest of a header by the ids that are known, the rest of an instruction by its kind
+-- each element that document 01 names; the rest of a header by some ids that are known, the rest of an instruction by some kind
 pub data Element : Type 0 where
   lengthOctet : Element
   programmingDue : Element
@@ -99,11 +99,12 @@ pub record AtFault (l : List Bool) (n p e : ℕ) : Type 0 where
 
 -- ---- every refusal of reading is of such an element
 
+-- what was read, or a refusal of such an element
 abbrev Blamed : {A : Type 0} → List Bool → Got A → Type 0
 Blamed l (got a p) = Unit {0}
 Blamed l (bad n p e) = AtFault l n p e
 
--- a reader that gives no other
+-- a reader whose every refusal is of an element
 record Blames {A : Type 0} (r : Reader A) : Type 0 where
   one : (l : List Bool) (at : ℕ) → Blamed l (r l at)
 

@@ -9,9 +9,9 @@ use lib.Dec.{leb}
 use borrow.Author.Tests.{le-leb, leb-true, ne-eqb}
 use Rattle.bits.specs.Bits.{bitsN}
 use Rattle.bits.proofs.Numbers.{bits-append}
-use Rattle.tone.specs.Table.{entry, kind, payload, width, noteOf, durationOf, allowed}
+use Rattle.bits.proofs.Choice.{both}
+use Rattle.tone.specs.Table.{entry, kind, payload, width, noteOf, durationOf, allowed, InTable}
 use Rattle.tone.specs.Writing.{entryBits}
-use Rattle.tone.proofs.Rows.{and-true}
 
 -- an entry of kind k with payload p, below 65,536, is its id and that kind's bits
 pub entry-bits : (k p w : ℕ) → width k ≡ w → p < 65536 → entryBits (entry k p) ≡ bitsN 3 k ++ bitsN w p
@@ -62,7 +62,7 @@ unfolding allowed
 note-allowed n d s hd hs =
     let a : noteOf (n * 32 + d * 4 + s) ≡ n = omega arith in
     let b : durationOf (n * 32 + d * 4 + s) ≡ d = omega arith in (
-      λ h. let k = and-true (leb (noteOf (n * 32 + d * 4 + s)) 12) (leb (durationOf (n * 32 + d * 4 + s)) 5) h in
+      λ h. let k = both (leb (noteOf (n * 32 + d * 4 + s)) 12) (leb (durationOf (n * 32 + d * 4 + s)) 5) h in
           (rw a at (leb-true (noteOf (n * 32 + d * 4 + s)) 12 (k .0)), rw b at (leb-true (durationOf (n * 32 + d * 4 + s)) 5 (k .1))),
       λ h. rw (a, b, le-leb n 12 (h .0), le-leb d 5 (h .1)) refl,
     )
@@ -76,3 +76,10 @@ style-allowed v = (λ h. leb-true v 2 h, λ h. le-leb v 2 h)
 pub others-allowed : (k v : ℕ) → (k ≡ 1 → ⊥) → (k ≡ 3 → ⊥) → allowed k v ≡ true
 unfolding allowed
 others-allowed k v h l = rw (ne-eqb k 1 h, ne-eqb k 3 l) refl
+
+-- every header of 14 bits is an entry of the table
+pub header-in-table : (h : ℕ) → h < 16384 → InTable h
+unfolding width allowed
+header-in-table h k =
+    let z : kind h ≡ 0 = omega arith in
+    record { known = omega arith; fits = rw z (omega arith); code = rw z refl }

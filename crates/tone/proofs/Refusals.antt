@@ -74,6 +74,7 @@ pub record Faulty (m : List ℕ) (n p : ℕ) : Type 0 where
   pub whole : faultEnd m ≤ length (bitsOf m)
   pub alike : (m′ : List ℕ) → length m′ ≤ mostOctets → faultEnd m ≤ length (bitsOf m′) → take (faultEnd m) (bitsOf m′) ≡ take (faultEnd m) (bitsOf m) → readTone m′ ≡ refused n p
 
+-- so it is
 pub refused-alike : (m : List ℕ) (n p : ℕ) → 3 ≤ n → n ≤ 9 → readTone m ≡ refused n p → Faulty m n p
 unfolding readTone
 refused-alike m n p h k q =
@@ -172,6 +173,7 @@ pub record Ahead (m : List ℕ) (p : ℕ) : Type 0 where
   pub rest : List Bool
   pub begins : toneBits tone ≡ take p (bitsOf m) ++ rest
 
+-- so they do
 pub ahead-begins : (m : List ℕ) (n p : ℕ) → readTone m ≡ refused n p → Ahead m p
 ahead-begins m n p q =
     ⊎-elim (λ w. any (w .1)) (λ w. ⊎-elim cut followed w) (refusal-says m q)

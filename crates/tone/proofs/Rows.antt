@@ -10,7 +10,7 @@ use lib.Dec.{leb, eqb, lit<}
 use lib.Pow.{pow-pos, pow-mono}
 use borrow.Author.Tests.{eqb-true, leb-true, le-leb}
 use Rattle.bits.specs.Bits.{bitsN, fillerTo}
-use Rattle.bits.proofs.Choice.{pick-elim}
+use Rattle.bits.proofs.Choice.{pick-elim, both}
 use Rattle.bits.proofs.Numbers.{length-bits, zero-bits}
 use Rattle.tone.specs.Table.{entry, kind, payload, width, allowed, isInstruction, Instruction}
 use Rattle.tone.specs.Tone.{Pattern, Tone, Front, frontOf, specifier, loopOf, partOf, header, pattern, cells, noneKnown, recallable, learn, Instructions, Sound, Sequence, Formed}
@@ -19,10 +19,7 @@ use Rattle.tone.specs.Reading.{Reader, _>>_, return, element, headerDue,
 use Rattle.tone.proofs.Exact.{Exact, exact-as, return-exact, element-exact, then-exact, then-assoc, fixed-exact}
 use Rattle.tone.proofs.Fronts.{front-exact}
 
-pub and-true : (a b : Bool) → (a && b) ≡ true → (a ≡ true) × (b ≡ true)
-and-true true b h = (refl, h)
-and-true false b h = let z : _≡_ {A = ℕ} 0 1 = cc in absurd (omega arith)
-
+-- nothing holds beside what does not
 pub and-false : (a : Bool) → (a && false) ≡ false
 and-false true = refl
 and-false false = refl
@@ -59,7 +56,7 @@ unfolding allowed
 zero-allowed k = pick-elim (λ (b : Bool). b ≡ true) (eqb k 1) (λ _. refl) (λ _. pick-elim (λ (b : Bool). b ≡ true) (eqb k 3) (λ _. refl) (λ _. refl))
 
 pub is-instruction : (k : ℕ) → isInstruction k ≡ true → (1 ≤ k) × (k ≤ 5)
-is-instruction k h = let a = and-true (leb 1 k) (leb k 5) h in (leb-true 1 k (a .0), leb-true k 5 (a .1))
+is-instruction k h = let a = both (leb 1 k) (leb k 5) h in (leb-true 1 k (a .0), leb-true k 5 (a .1))
 
 pub instruction-exact : Exact instructionDue Instruction (λ _ e. entryBits e)
 unfolding instructionDue entryBits
@@ -97,13 +94,14 @@ body-head : (b : List ℕ) {n : ℕ} → Body (suc n) b → Instruction (head b)
 body-head [] h = let z : ⊥ = omega (arith, h .size) in absurd z
 body-head (e ∷ b) h = (h .each .0, record { each = h .each .1; size = omega (arith, h .size) }, refl)
 
-no-body : (b : List ℕ) → length b ≡ 0 → b ≡ []
-no-body [] h = refl
-no-body (e ∷ b) h = let z : ⊥ = omega arith in absurd z
+-- what has the length 0 is empty
+pub length-none : (b : List ℕ) → length b ≡ 0 → b ≡ []
+length-none [] h = refl
+length-none (e ∷ b) h = let z : ⊥ = omega arith in absurd z
 
 pub body-exact : (n : ℕ) → Exact (bodyDue n) (Body n) (λ _ b. tableBits b)
 unfolding bodyDue
-body-exact zero = exact-as (return-exact []) (λ b e. rw e (record { each = tt; size = refl })) (λ b k. no-body b (k .size)) (λ at b e. rw e refl)
+body-exact zero = exact-as (return-exact []) (λ b e. rw e (record { each = tt; size = refl })) (λ b k. length-none b (k .size)) (λ at b e. rw e refl)
 body-exact (suc n) =
     exact-as
     (then-exact head {GC = Body (suc n)} instruction-exact

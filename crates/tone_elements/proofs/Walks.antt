@@ -31,7 +31,8 @@ pub stays : {A : Type 0} {r : List Bool → ℕ → Got A} {G : A → Type 0} {b
     → (m : List ℕ) (at : ℕ) {a : A} {p : ℕ} → at ≤ 8 * length m → r (bitsOf m) at ≡ got a p → p ≤ 8 * length m
 stays x m at h q = rw (← length-bitsOf m) (x .sound (bitsOf m) at (rw (length-bitsOf m) h) q .inside)
 
-one-less : (n : ℕ) → 0 < n → n ≡ suc (n - 1)
+-- a number that is not 0 is one more than the one before it
+pub one-less : (n : ℕ) → 0 < n → n ≡ suc (n - 1)
 one-less n h = omega arith
 
 -- ---- the instructions of a body
@@ -215,10 +216,10 @@ pub notes-more : (a b : List ℕ) → notes (a ++ b) ≡ notes a + notes b
 notes-more [] b = sym (zero-add (notes b))
 notes-more (e ∷ a) b = rw (notes-more a b) (sym (add-assoc (noteIn e) (notes a) (notes b)))
 
--- no more notes than instructions
-notes-few : (b : List ℕ) → notes b ≤ length b
-notes-few [] = omega arith
-notes-few (e ∷ b) = omega (arith, note-one e, notes-few b)
+-- a body has no more notes than instructions
+pub notes-most : (b : List ℕ) → notes b ≤ length b
+notes-most [] = omega arith
+notes-most (e ∷ b) = omega (arith, note-one e, notes-most b)
 
 -- so many instructions at once
 body-steps : (j k c : ℕ) (l : List Bool) (p : ℕ) {b : List ℕ} {q : ℕ} → bodyDue j l p ≡ got b q → stepAs (λ r. c + notes r) (bodyDue (j + k) l p) ≡ stepAs (λ r. c + notes b + notes r) (bodyDue k l q)
@@ -244,7 +245,7 @@ module _ {m : List ℕ} {due : Step} {p left c k : ℕ} {s : Step} (w : BodyWalk
     none-more : v ≤ k
     none-more =
         let size = body-exact k .sound (bitsOf m) p (rw (length-bitsOf m) (w .inside)) (turned .1) .good .size in
-        omega (arith, turned .2, notes-few (turned .0), size)
+        omega (arith, turned .2, notes-most (turned .0), size)
 
     pub turn-fits : Fits w32 (c + v)
     turn-fits = record { fits = omega (arith, none-more, l .1, w .fewer) }

@@ -11,7 +11,7 @@ use Rattle.bits.specs.declared.BitPlace.{BitPlace}
 use Rattle.tone.specs.Writing.{tableBits}
 use Rattle.tone.proofs.Rows.{tableBits-append}
 use Rattle.tone_elements.specs.Answers.{notes}
-use Rattle.tone_elements.proofs.Walks.{notes-more}
+use Rattle.tone_elements.proofs.Walks.{notes-more, notes-most}
 use Rattle.edit_change.specs.Change.{carried, removed, bodyAfter}
 use Rattle.edit_change.specs.Answers.{groundOf}
 use Rattle.edit_change.proofs.Bodies.{Fits}
@@ -22,7 +22,6 @@ use Rattle.tone_judge.specs.declared.Own.{Own}
 use Rattle.tone_judge.specs.declared.Gone.{Gone}
 use Rattle.tone_elements.specs.Standing.{bodyIn, behindIn, BodyAt, PartAt}
 use Rattle.tone_judge.specs.Wishes.{grants, placeIn, OwnOf, Owned}
-use Rattle.list_count.proofs.Bodies.{notes-most}
 use Rattle.tone_judge.proofs.Overs.{Standing, known-of, drop-stands, may-go, went-to, went-notes, notes-cut}
 
 -- ---- cutting a part

@@ -28,7 +28,7 @@ use Rattle.tone_elements.specs.declared.Step.the-variants.{Good, Bad}
 use Rattle.tone_elements.specs.Answers.{Within, allKnown, stepAs, stepOf, notes}
 use Rattle.tone_elements.proofs.Headers.{header-apart}
 use Rattle.tone_elements.proofs.Steps.{step-there, step-good, step-bad}
-use Rattle.tone_elements.proofs.Walks.{stays}
+use Rattle.tone_elements.proofs.Walks.{stays, notes-most}
 use Rattle.edit_change.specs.Change.{withBody}
 use Rattle.list_count.specs.declared.Count.{Count}
 use Rattle.list_count.specs.declared.Part.{Part}
@@ -46,7 +46,7 @@ use Rattle.list_count.specs.Parts.{soundingPart}
 use Rattle.tone_elements.specs.Standing.{bodyIn, PartAt}
 use Rattle.tone_judge.specs.Wishes.{wished, leftAt, noCut, cutOf, cutIn, Owned}
 use Rattle.tone_judge.specs.Answers.{singleOf, totalTo, totalOf, tallyAs}
-use Rattle.list_count.proofs.Bodies.{isKnown, knownOf, remember-length, body-sounding, learn-read, Each, each-start, each-sounds, each-kept, Brief, none-brief, notes-most}
+use Rattle.list_count.proofs.Bodies.{isKnown, knownOf, remember-length, body-sounding, learn-read, Each, each-start, each-sounds, each-kept, Brief, none-brief}
 use Rattle.list_count.proofs.Counts.{counted-most, Unmarked, counted-unmarked}
 use Rattle.list_count.proofs.Parts.{AllFor, parts-kept, part-sounds, known-sounding, Noted, noted-unknown, noted-known}
 use Rattle.tone_judge.proofs.Wishing.{granted-length, behindPart, part-bits, bodyWished, wishedFrom, cutPast, cutFrom, wished-is, cut-is}

@@ -261,6 +261,7 @@ fn patterns(msg: &[u8], at: BitPlace, n: u32, wish: Wish) -> Tally
                 let wished = own_part(msg, left == named, place, cell, own, wish, cut);
                 let id = (cell / 4096 % 4) as usize;
                 let part = list_count::part_after(parts[id], cell, wished.notes);
+                // A recall's part stays as it is: a store that is not needed makes the next read of it wait.
                 if cell % 256 != 0 {
                     parts[id] = part;
                 }

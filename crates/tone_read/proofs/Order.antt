@@ -17,10 +17,11 @@ module _ (m : List ℕ) (titleRoom tableRoom : ℕ) where
   message-first q = rw q refl
 
   module _ {t : Tone} (q : readTone m ≡ accepted t) where
-    -- then 11 for a title that does not fit, and for a table that does not
+    -- then 11 for a title that does not fit
     pub title-short : titleRoom < length (t .title) → readInto m titleRoom tableRoom ≡ refused 11 0
     title-short h = rw (q, lt-leb (length (t .title)) titleRoom h) refl
 
+    -- and 11 for a table that does not
     pub table-short : tableRoom < entries (t .patterns) → readInto m titleRoom tableRoom ≡ refused 11 0
     table-short h = rw (q, lt-leb (entries (t .patterns)) tableRoom h, and-false (leb (length (t .title)) titleRoom)) refl
 

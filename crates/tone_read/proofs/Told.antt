@@ -17,12 +17,12 @@ use Rattle.bits.specs.declared.OctetCount.{OctetCount}
 use Rattle.bits.proofs.Numbers.{length-bits}
 use Rattle.bits.proofs.Octets.{length-bitsOf}
 use Rattle.bits.specs.Places.{place, octetCount}
-use Rattle.tone.specs.Table.{kind, width, allowed, InTable}
 use Rattle.tone.specs.Tone.{Pattern, Tone, Front, frontOf, header, cells, characters, perCharacter, learn, Instructions, Sequence, Formed, FrontFormed, entries}
 use Rattle.tone.specs.Writing.{commandBits, titleBits, tableBits, frontBits, songBits, endBits, toneBits, mostOctets}
 use Rattle.tone.specs.Reading.{readTone}
 use Rattle.tone.proofs.Rows.{header-small}
 use Rattle.tone.proofs.Demand2.{Says, read-says, core-reads}
+use Rattle.tone.proofs.Instructions.{header-in-table}
 use Rattle.tone_judge.specs.declared.Total.{Total}
 use Rattle.tone_judge.specs.declared.Judged.{Judged}
 use Rattle.tone_judge.specs.declared.Judged.the-variants.{Sound, Faulty}
@@ -44,16 +44,10 @@ instructions-entries : (b : List ℕ) → Instructions b → Entries b
 instructions-entries [] h = tt
 instructions-entries (e ∷ b) h = (h .0 .inTable, instructions-entries b (h .1))
 
-header-entry : (h : ℕ) → h < 16384 → InTable h
-unfolding width allowed
-header-entry h k =
-    let z : kind h ≡ 0 = omega arith in
-    record { known = omega arith; fits = rw z (omega arith); code = rw z refl }
-
 pub cells-entries : (known : List Bool) (ps : List Pattern) → Sequence known ps → Entries (cells ps)
 cells-entries known [] h = tt
 cells-entries known (p ∷ ps) h = (
-  header-entry (header p) (header-small p (h .0) .0),
+  header-in-table (header p) (header-small p (h .0) .0),
   entries-append (p .body) (cells ps) (instructions-entries (p .body) (h .0 .each)) (cells-entries (learn known (header p)) ps (h .2)),
 )
 

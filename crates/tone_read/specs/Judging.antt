@@ -11,18 +11,21 @@ use Rattle.tone.specs.Tone.{Tone, cells}
 use Rattle.tone.specs.Writing.{tableBits}
 use Rattle.tone.specs.Reading.{readTone}
 
--- the table and the title of a message that is accepted
+-- the table of a tone that is accepted
 abbrev pub tableIn : Outcome Tone → List ℕ
 tableIn (accepted t) = cells (t .patterns)
 tableIn (refused n p) = []
 
+-- its title
 abbrev pub titleIn : Outcome Tone → List ℕ
 titleIn (accepted t) = t .title
 titleIn (refused n p) = []
 
+-- the table of a message
 abbrev pub tableOf : List ℕ → List ℕ
 tableOf m = tableIn (readTone m)
 
+-- the title of a message
 abbrev pub titleOf : List ℕ → List ℕ
 titleOf m = titleIn (readTone m)
 

@@ -43,7 +43,7 @@ fn fill_table(msg: &[u8], at: BitPlace, n: usize, table: &mut [u32])
 
 // Writes so many octets that stand at a place to the title. Another octet, the pattern count, stands behind them.
 fn fill_title(msg: &[u8], at: BitPlace, octets: OctetCount, title: &mut [u8])
-    requires { ⌜ Within (now msg) (at .0) × (at .0 + 8 * octets .0 + 8 ≤ placeAfter (length (now msg))) ⌝ }
+    requires { ⌜ Within (now msg) (at .0) × (at .0 + placeAfter (octets .0) + 8 ≤ placeAfter (length (now msg))) ⌝ }
     requires { ⌜ (octets .0 ≤ length (now title)) × (octets .0 ≡ length (titleOf (now msg))) × OctetsAt (now msg) (at .0) (titleOf (now msg)) ⌝ }
     ensures { λ _. ⌜ now (title .exit) ≡ over (titleOf (now (msg .entry))) (now (title .entry)) ⌝ }
 {
@@ -59,8 +59,8 @@ fn fill_title(msg: &[u8], at: BitPlace, octets: OctetCount, title: &mut [u8])
 
 // Where a title of so many octets starts, in a front that ends at a place: it stands ahead of the pattern count.
 fn title_place(end: BitPlace, octets: OctetCount) -> BitPlace
-    requires { ⌜ (8 + 8 * octets .0 ≤ end .0) × (octets .0 < 2 ^ 32) ⌝ }
-    ensures { λ r. ⌜ r .0 + 8 * octets .0 + 8 ≡ end .0 ⌝ }
+    requires { ⌜ (8 + placeAfter (octets .0) ≤ end .0) × (octets .0 < 2 ^ 32) ⌝ }
+    ensures { λ r. ⌜ r .0 + placeAfter (octets .0) + 8 ≡ end .0 ⌝ }
 {
     BitPlace(end.0 - 8 - bits::place_after(octets).0)
 }

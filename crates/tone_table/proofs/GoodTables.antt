@@ -15,9 +15,10 @@ use Rattle.tone.specs.Table.{kind, Instruction}
 use Rattle.tone.specs.Tone.{Pattern, specifier, header, pattern, cells, patternsOf, noneKnown, recallable, learn, Instructions, Sequence}
 use Rattle.tone.proofs.Rows.{header-small, header-pattern}
 use Rattle.tone.proofs.Tables.{patterns-of-cells}
+use Rattle.tone.proofs.Instructions.{header-in-table}
 use Rattle.tone_table.specs.Judging.{demand, entriesJudged, endJudged, judgeTable}
 use Rattle.tone_table.specs.Answers.{entryLength, headerLength, instructionLength, bodyLength}
-use Rattle.tone_table.proofs.Weights.{in-table-fine, header-in-table}
+use Rattle.tone_table.proofs.Weights.{in-table-fine}
 use Rattle.tone_table.proofs.Walks.{stage, fromStage, at-header, at-body, not-refused, header-told, body-told, BodyTold}
 
 -- the patterns behind a table that is judged good

@@ -12,9 +12,12 @@ use lib.Dec.{leb, ltb}
 use borrow.Author.Tests.{le-leb, lt-leb, lt-ltb, eq-eqb, ne-eqb, leb-true, ltb-true}
 use Rattle.bits.specs.Choice.{pick}
 use Rattle.bits.specs.Outcome.{Outcome, accepted, refused, andThen}
+use Rattle.bits.proofs.Choice.{both}
 use Rattle.tone.specs.Table.{kind, payload, width, allowed, InTable}
 use Rattle.tone.specs.Tone.{specifier, partOf, recallable}
-use Rattle.tone.proofs.Rows.{and-true, width-most}
+use Rattle.tone.proofs.Rows.{width-most}
+use Rattle.tone.proofs.Instructions.{header-in-table}
+use Rattle.tone_elements.proofs.Walks.{one-less}
 use mir.Val.{Fits}
 use mir.Syntax.{w32}
 use Rattle.tone_table.specs.declared.Weighed.{Weighed}
@@ -28,8 +31,8 @@ use Rattle.tone_table.specs.Answers.{entryLength, headerLength, instruct
 pub fine-in-table : (e : ℕ) → entryFine e ≡ true → InTable e
 unfolding entryFine
 fine-in-table e h =
-    let a = and-true (leb (kind e) 5) (ltb (payload e) (2 ^ width (kind e)) && allowed (kind e) (payload e)) h in
-    let b = and-true (ltb (payload e) (2 ^ width (kind e))) (allowed (kind e) (payload e)) (a .1) in
+    let a = both (leb (kind e) 5) (ltb (payload e) (2 ^ width (kind e)) && allowed (kind e) (payload e)) h in
+    let b = both (ltb (payload e) (2 ^ width (kind e))) (allowed (kind e) (payload e)) (a .1) in
     record { known = leb-true (kind e) 5 (a .0); fits = ltb-true (payload e) (2 ^ width (kind e)) (b .0); code = b .1 }
 
 pub in-table-fine : (e : ℕ) → InTable e → entryFine e ≡ true
@@ -57,7 +60,7 @@ module _ (e : ℕ) where
     pub weight-note : a ≡ true → Weight 12
     unfolding entryFine allowed width
     weight-note t =
-        let l = leb-true (payload e / 32) 12 (and-true (leb (payload e / 32) 12) (leb (payload e / 4 % 8) 5) (sym ea ∙ t) .0) in
+        let l = leb-true (payload e / 32) 12 (both (leb (payload e / 32) 12) (leb (payload e / 4 % 8) 5) (sym ea ∙ t) .0) in
         let s : payload e < 512 = omega arith in
         rw (note, ← ea, t, lt-ltb (payload e) 512 s)
 
@@ -117,13 +120,7 @@ pub ruleset instructions = (instruction-six, instruction-header, instruction-fin
 
 -- ---- a header
 
--- every header of 14 bits is in the table, and no other entry of kind 0
-pub header-in-table : (e : ℕ) → e < 16384 → InTable e
-unfolding width allowed
-header-in-table e h =
-    let z : kind e ≡ 0 = omega arith in
-    record { known = omega arith; fits = rw z (omega arith); code = rw z refl }
-
+-- an entry of kind 0 in the table has 14 bits
 pub header-bound : (e : ℕ) → InTable e → kind e ≡ 0 → e < 16384
 unfolding width
 header-bound e h z = let k : payload e < 2 ^ 14 = rw z at (h .fits) in omega arith
@@ -200,9 +197,6 @@ pub record BodyWalk (table : List ℕ) (at n i left bits : ℕ) : Type 0 where
 
 pub body-begins : (table : List ℕ) (at n : ℕ) → at ≤ length table → BodyWalk table at n at n 0
 body-begins table at n h = record { inside = h; fewer = omega arith; goes = sym (plus-zero (bodyLength n (drop at table))) }
-
-one-less : (n : ℕ) → 0 < n → n ≡ suc (n - 1)
-one-less n h = omega arith
 
 module _ {table : List ℕ} {at n i left bits : ℕ} (w : BodyWalk table at n i left bits) where
   pub body-done : left ≤ 0 → Bits bits ≡ weighedOf (bodyLength n (drop at table))

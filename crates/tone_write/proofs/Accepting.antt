@@ -10,10 +10,11 @@ use lib.Dec.{leb, eqb}
 use borrow.Author.Tests.{le-leb, eq-eqb, eqb-true, eqb-false, leb-true}
 use Rattle.bits.specs.Bits.{Octets}
 use Rattle.bits.specs.Outcome.{Outcome, accepted, refused, andThen}
+use Rattle.bits.proofs.Choice.{both}
 use Rattle.tone.specs.Tone.{Tone, frontOf, cells, patternsOf, perCharacter, characters, Titled, FrontFormed}
 use Rattle.tone.specs.Writing.{toneLength, mostOctets, WellFormed}
 use Rattle.tone.proofs.Fronts.{or-true, one-or-two, song-fine}
-use Rattle.tone.proofs.Rows.{and-true, and-is}
+use Rattle.tone.proofs.Rows.{and-is, length-none}
 use Rattle.tone.proofs.Tables.{patterns-of-cells}
 use Rattle.tone_table.specs.Judging.{demand, judgeTable}
 use Rattle.tone_table.proofs.Walks.{not-refused}
@@ -30,10 +31,6 @@ or-is {a} {b} h = ⊎-elim (λ p. rw p refl) (λ p. rw p (go a)) h
     go true = refl
     go false = refl
 
-no-octets : (l : List ℕ) → length l ≡ 0 → l ≡ []
-no-octets [] h = refl
-no-octets (x ∷ l) h = let z : ⊥ = omega arith in absurd z
-
 whole-characters : (unicode : Bool) (title : List ℕ) → (length title % perCharacter unicode ≡ 0) ↔ (perCharacter unicode * characters unicode title ≡ length title)
 whole-characters true title = (λ h. omega arith, λ h. omega arith)
 whole-characters false title = (λ h. omega arith, λ h. omega arith)
@@ -41,13 +38,13 @@ whole-characters false title = (λ h. omega arith, λ h. omega arith)
 module _ (song : ℕ) (unicode : Bool) (title : List ℕ) where
   pub fine-is-titled : Octets title → titleFine song unicode title ≡ true → Titled song unicode title
   fine-is-titled o h =
-      let a = and-true (leb (characters unicode title) 15) _ h in
-      let b = and-true (eqb (length title % perCharacter unicode) 0) _ (a .1) in
+      let a = both (leb (characters unicode title) 15) _ h in
+      let b = both (eqb (length title % perCharacter unicode) 0) _ (a .1) in
       record {
         octets = o;
         whole = whole-characters unicode title .0 (eqb-true (length title % perCharacter unicode) 0 (b .0));
         short = leb-true (characters unicode title) 15 (a .0);
-        none = λ t. ⊎-elim (λ p. let e = eqb-true song 1 p in let z : ⊥ = omega arith in absurd z) (λ p. no-octets title (eqb-true (length title) 0 p)) (or-true (eqb song 1) (eqb (length title) 0) (b .1));
+        none = λ t. ⊎-elim (λ p. let e = eqb-true song 1 p in let z : ⊥ = omega arith in absurd z) (λ p. length-none title (eqb-true (length title) 0 p)) (or-true (eqb song 1) (eqb (length title) 0) (b .1));
       }
 
   pub titled-is-fine : (1 ≤ song) × (song ≤ 2) → Titled song unicode title → titleFine song unicode title ≡ true

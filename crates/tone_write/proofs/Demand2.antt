@@ -15,10 +15,10 @@ use Rattle.bits.specs.Lent.{over}
 use Rattle.bits.specs.Outcome.{Outcome, accepted, refused}
 use Rattle.bits.specs.declared.OctetCount.{OctetCount}
 use Rattle.bits.specs.Places.{octetCount}
+use Rattle.bits.proofs.Choice.{both}
 use Rattle.tone.specs.Tone.{Tone, cells, patternsOf, characters, perCharacter, entries}
 use Rattle.tone.specs.Writing.{toneLength, toneOctets, WellFormed}
 use Rattle.tone.specs.Reading.{readTone}
-use Rattle.tone.proofs.Rows.{and-true}
 use Rattle.tone.proofs.Tables.{patterns-of-cells}
 use Rattle.tone.proofs.Demand2.{accepted-is-written, written-is-accepted, length-toneOctets}
 use Rattle.tone_read.specs.declared.Reading.{Reading}
@@ -58,7 +58,7 @@ module _ (m table title : List ℕ) where
           → pick b (accepted x) (refused 11 0) ≡ accepted t → Readable m table title t
       roomy x e true f r =
           let s : x ≡ t = cc in
-          let a = and-true (leb (length (x .title)) (length title)) (leb (entries (x .patterns)) (length table)) f in
+          let a = both (leb (length (x .title)) (length title)) (leb (entries (x .patterns)) (length table)) f in
           let w = accepted-is-written m x o e in
           rw (← s) (record { wellFormed = w .0; writing = w .1; titleRoom = leb-true (length (x .title)) (length title) (a .0); tableRoom = leb-true (entries (x .patterns)) (length table) (a .1) })
       roomy x e false f r = absurd (not-refused r)

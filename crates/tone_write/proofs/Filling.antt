@@ -16,9 +16,9 @@ use Rattle.bits.specs.Sink.{written, Put, Sealed}
 use Rattle.bits.proofs.Numbers.{length-bits}
 use Rattle.bits.proofs.Octets.{octets-of, octets-take}
 use Rattle.bits.proofs.Putting.{nothing, drop-further, put-then}
-use Rattle.tone.specs.Tone.{Tone, cells, patternsOf, characters}
+use Rattle.bits.proofs.Choice.{both}
+use Rattle.tone.specs.Tone.{Tone, patternsOf, characters}
 use Rattle.tone.specs.Writing.{commandBits, titleBits, tableBits, frontBits, songBits, toneBits, toneLength, toneOctets}
-use Rattle.tone.proofs.Rows.{and-true}
 use Rattle.tone.proofs.Demand2.{length-toneOctets, octets-are}
 use Rattle.tone_read.specs.Judging.{Entries}
 use Rattle.tone_read.proofs.Told.{cells-entries}
@@ -100,7 +100,7 @@ module _ (song : ℕ) (u : Bool) (title table out : List ℕ) {count : ℕ} (h :
   fill-song = omega (arith, fine .basicOrTemporary .1)
 
   pub fill-short : characters u title ≤ 15
-  fill-short = leb-true (characters u title) 15 (and-true (leb (characters u title) 15) _ (fine .titleGood) .0)
+  fill-short = leb-true (characters u title) 15 (both (leb (characters u title) 15) _ (fine .titleGood) .0)
 
   pub fill-count : count < 256
   fill-count = omega (arith, good .most)

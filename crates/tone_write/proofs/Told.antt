@@ -15,9 +15,10 @@ use Rattle.bits.specs.Lent.{over}
 use Rattle.bits.specs.declared.OctetCount.{OctetCount}
 use Rattle.bits.specs.Outcome.{Outcome, accepted, refused}
 use Rattle.bits.specs.Places.{place, octetCount}
+use Rattle.bits.proofs.Choice.{both}
 use Rattle.tone.specs.Tone.{Tone, frontOf, cells, patternsOf, perCharacter, characters}
 use Rattle.tone.specs.Writing.{tableBits, frontBits, songBits, toneLength, toneOctets, mostOctets}
-use Rattle.tone.proofs.Rows.{and-true as conj, and-false}
+use Rattle.tone.proofs.Rows.{and-false}
 use Rattle.tone.proofs.Fronts.{song-fine}
 use Rattle.tone_table.specs.declared.Judged.{Judged}
 use Rattle.tone_table.specs.declared.Judged.the-variants.{Sound, Faulty}
@@ -144,7 +145,7 @@ module _ (song : ℕ) (u : Bool) (title table out : List ℕ) {j : Judged} (s : 
       promised song u title table out out (Refused m (place 0)) (refused m 0) (rw (s, t, z)) refl refl
 
   small : length title ≤ 31
-  small = go u (leb-true (characters u title) 15 (conj (leb (characters u title) 15) _ t .0))
+  small = go u (leb-true (characters u title) 15 (both (leb (characters u title) 15) _ t .0))
     where
       go : (u : Bool) → characters u title ≤ 15 → length title ≤ 31
       go true h = omega arith
