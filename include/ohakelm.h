@@ -77,8 +77,8 @@ extern "C" {
  * refusal or a rule is new or another; CHANGELOG.md says what a caller must
  * change then. The third is raised where none is. A header goes with an archive
  * of the same first two numbers. */
-#define OHAKELM_VERSION_STRING "0.3.1"
-#define OHAKELM_VERSION 301 /* first * 10000 + second * 100 + third */
+#define OHAKELM_VERSION_STRING "0.4.0"
+#define OHAKELM_VERSION 400 /* first * 10000 + second * 100 + third */
 
 /* Answers the OHAKELM_VERSION of the archive that is linked. */
 uint32_t ohakelm_version(void);
@@ -113,13 +113,13 @@ uint32_t ohakelm_version(void);
     ITEM(18, OHAKELM_TABLE_SHAPE,                                              \
          "table shape: a header where an instruction is due or the "           \
          "reverse, a body cut short, more than 255 patterns")                  \
-    ITEM(19, OHAKELM_DURATION, "a duration above 32 bits")                     \
     ITEM(20, OHAKELM_AHEAD,                                                    \
          "an octet ahead of a bitmap that its kind does not have there: "      \
          "version, network code digit, date, line feed")
 
-/* OHAKELM_TOO_LONG is 1, and so on. OHAKELM_DURATION has its place in the order
- * of refusals, but no duration is that long: it is never given. */
+/* OHAKELM_TOO_LONG is 1, and so on. 19 is no longer given, nor to anything else:
+ * it stood for a duration above 32 bits, and it is proved that no duration
+ * exceeds 16,800,000 microseconds. */
 enum ohakelm_refusal {
 #define OHAKELM_ITEM(number, name, words) name = number,
     OHAKELM_REFUSALS(OHAKELM_ITEM)
@@ -316,7 +316,7 @@ struct ohakelm_label_stretch ohakelm_label(const uint8_t *title,
 /* Makes the playing list of a tone message. Fills the front of `list`, two
  * numbers an entry. `list_len` counts numbers and not entries: twelve have room
  * for six entries. Answers how many entries there are and where an endless part
- * returns to. Refuses 1 to 10, 19 and 11. */
+ * returns to. Refuses 1 to 11. */
 struct ohakelm_listed ohakelm_list(const uint8_t *msg, size_t msg_len,
                                    uint32_t *list, size_t list_len);
 
@@ -337,7 +337,7 @@ struct ohakelm_listed ohakelm_rows(const uint8_t *msg, size_t msg_len,
  * front of `list` with the new list. `buf_len` is the whole buffer's, so that
  * the message can grow; `list_len` counts numbers and not entries. Answers the
  * new length, the list's entries and mark, and the change in octets. Refuses 1
- * to 12 and 19. */
+ * to 12. */
 struct ohakelm_edited ohakelm_replace(uint8_t *buf, size_t buf_len, size_t used,
                                       size_t pattern, size_t instruction,
                                       uint32_t entry, uint32_t *list,

@@ -5,7 +5,8 @@ use core::fmt;
 /// Why a call refused, by the number that the rules give it, and where.
 #[derive(Clone, Copy, Debug, PartialEq, Eq)]
 pub struct Refusal {
-    /// 1 to 20, as in the rules' table.
+    /// 1 to 20, as in the rules' table. 19 is no longer given: it stood for a
+    /// duration above 32 bits, and no duration exceeds 16,800,000 microseconds.
     pub number: u32,
     /// The bit of the tone message where the faulty element begins, for the
     /// numbers 2 to 10 met in a tone message. Else 0.
@@ -42,9 +43,9 @@ impl fmt::Display for Refusal {
 impl core::error::Error for Refusal {}
 
 /// Makes `Kind` of its lines, each a number, a name and words. The words are the
-/// documentation too, and what stands ahead of a line is added to it.
+/// documentation too.
 macro_rules! kinds {
-    ($($(#[$more:meta])* $number:literal $name:ident $words:literal)*) => {
+    ($($number:literal $name:ident $words:literal)*) => {
         /// What a refusal's number means.
         ///
         /// A later version may have more of them.
@@ -60,7 +61,6 @@ macro_rules! kinds {
         pub enum Kind {
             $(
                 #[doc = concat!($number, ": ", $words, ".")]
-                $(#[$more])*
                 $name,
             )*
             /// A number that this version does not have. The archive of the same
@@ -120,8 +120,6 @@ kinds! {
         temporary song"
     18 TableShape "table shape: a header where an instruction is due or the reverse, a body \
         cut short, more than 255 patterns"
-    /// No duration is that long: it is never given.
-    19 Duration "a duration above 32 bits"
     20 Ahead "an octet ahead of a bitmap that its kind does not have there: version, \
         network code digit, date, line feed"
 }

@@ -118,7 +118,8 @@ fn the_refusals_are_those_of_the_header() {
     let package: Vec<_> = package.collect();
     assert_eq!(refusals(), package);
     let numbers: Vec<u32> = package.iter().map(|kind| kind.0).collect();
-    assert_eq!(numbers, (1..=20).collect::<Vec<u32>>());
+    let given = (1..=20).filter(|&number| number != 19);
+    assert_eq!(numbers, given.collect::<Vec<u32>>());
 }
 
 #[test]
@@ -128,7 +129,7 @@ fn a_number_has_one_kind() {
     }
     let unknown = header().contains("default:\n        return \"no refusal of this version\";");
     assert!(unknown, "the header's words for other numbers");
-    for number in [0, 21, u32::MAX] {
+    for number in [0, 19, 21, u32::MAX] {
         let kind = Kind::of(number);
         assert!(matches!(kind, Kind::Unknown(..)));
         assert_eq!(kind.number(), number);

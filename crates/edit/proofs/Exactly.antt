@@ -11,16 +11,14 @@ use Rattle.bits.proofs.Choice.{pick-elim}
 use Rattle.tone.specs.Tone.{Tone}
 use Rattle.tone.specs.Writing.{toneLength, mostOctets}
 use Rattle.tone.specs.Reading.{readTone}
-use Rattle.tone.proofs.Demand2.{read-formed}
 use Rattle.list_rules.specs.Playing.{Listing, playingList}
-use Rattle.list_rules.specs.Listing.{anyTooLong, fitsNumbers}
-use Rattle.list_rules.proofs.Bounds.{none-too-long}
+use Rattle.list_rules.specs.Listing.{fitsNumbers}
 use Rattle.edit_change.specs.declared.Edit.{Edit}
 use Rattle.edit_change.specs.Change.{changed}
-use Rattle.edit.specs.Editing.{Edited, editTone, inBuffer, beside, withList, editMessage}
-use Rattle.edit.proofs.Demand3.{Grounds, edit-accepts, edit-grounds, edit-formed}
+use Rattle.edit.specs.Editing.{Edited, editTone, inBuffer, withList, editMessage}
+use Rattle.edit.proofs.Demand3.{Grounds, edit-accepts, edit-grounds}
 
--- one condition for each ground of an edit, t being the tone that the message reads as. The ground 19 has none: no duration is above 32 bits.
+-- one condition for each ground of an edit, t being the tone that the message reads as.
 pub record Conditions (buf : List ℕ) (used : ℕ) (ed : Edit) (k i cells : ℕ) (t : Tone) : Type 0 where
   pub within : used ≤ length buf
   pub reads : readTone (take used buf) ≡ accepted t
@@ -43,14 +41,16 @@ module _ (buf : List ℕ) (used : ℕ) (ed : Edit) (k i cells : ℕ) where
   unfolding editMessage
   met = pick-elim Met (leb used (length buf)) (λ h. read (leb-true used (length buf) h) (readTone (take used buf)) refl) (λ _. tt)
     where
-      put : used ≤ length buf → (t : Tone) → readTone (take used buf) ≡ accepted t → Grounds ed k i t → Met (withList cells (inBuffer (length buf) (changed ed k i t)))
+      finished : Tone → Outcome Edited
+      finished t = andThen (inBuffer (length buf) t) (withList cells)
+
+      put : used ≤ length buf → (t : Tone) → readTone (take used buf) ≡ accepted t → Grounds ed k i t → Met (finished (changed ed k i t))
       put h t q g =
           let t′ = changed ed k i t in
           let o = playingList t′ in
-          pick-elim (λ (x : Outcome Tone). Met (withList cells x)) (leb (toneLength t′) mostOctets) (λ h₁.
-          pick-elim (λ (x : Outcome Tone). Met (withList cells x)) (leb (toneLength t′) (length buf)) (λ h₂.
-          pick-elim (λ (x : Outcome Listing). Met (beside t′ x)) (anyTooLong (o .entries)) (λ _. tt) (λ _.
-          pick-elim (λ (x : Outcome Listing). Met (beside t′ x)) (fitsNumbers cells o)
+          pick-elim (λ (x : Outcome Tone). Met (andThen x (withList cells))) (leb (toneLength t′) mostOctets) (λ h₁.
+          pick-elim (λ (x : Outcome Tone). Met (andThen x (withList cells))) (leb (toneLength t′) (length buf)) (λ h₂.
+          pick-elim (λ (x : Outcome Listing). Met (andThen x (λ g. accepted (record { tone = t′; listing = g })))) (fitsNumbers cells o)
           (λ h₃. (
             t,
             record {
@@ -63,16 +63,16 @@ module _ (buf : List ℕ) (used : ℕ) (ed : Edit) (k i cells : ℕ) where
             },
             refl,
           ))
-          (λ _. tt)))
+          (λ _. tt))
           (λ _. tt)) (λ _. tt)
 
-      edit : used ≤ length buf → (t : Tone) → readTone (take used buf) ≡ accepted t → (x : Outcome Tone) → editTone ed k i t ≡ x → Met (withList cells (andThen x (inBuffer (length buf))))
+      edit : used ≤ length buf → (t : Tone) → readTone (take used buf) ≡ accepted t → (x : Outcome Tone) → editTone ed k i t ≡ x → Met (andThen x finished)
       edit h t q (accepted t′) e =
           let g = edit-grounds ed k i t t′ e in
-          subst (λ (y : Tone). Met (withList cells (inBuffer (length buf) y))) (sym (g .1)) (put h t q (g .0))
+          subst (λ (y : Tone). Met (finished y)) (sym (g .1)) (put h t q (g .0))
       edit h t q (refused n p) e = tt
 
-      read : used ≤ length buf → (x : Outcome Tone) → readTone (take used buf) ≡ x → Met (andThen x (λ t. withList cells (andThen (editTone ed k i t) (inBuffer (length buf)))))
+      read : used ≤ length buf → (x : Outcome Tone) → readTone (take used buf) ≡ x → Met (andThen x (λ t. andThen (editTone ed k i t) finished))
       read h (accepted t) q = edit h t q (editTone ed k i t) refl
       read h (refused n p) q = tt
 
@@ -81,14 +81,12 @@ module _ (buf : List ℕ) (used : ℕ) (ed : Edit) (k i cells : ℕ) where
   unfolding editMessage
   accepted-when t c =
       let t′ = changed ed k i t in
-      let f = edit-formed ed k i t (read-formed (take used buf) t (c .reads) .0) (c .grounds) in
       rw (
         le-leb used (length buf) (c .within),
         c .reads,
         edit-accepts ed k i t (c .grounds),
         le-leb (toneLength t′) mostOctets (c .size),
         le-leb (toneLength t′) (length buf) (c .room),
-        none-too-long t′ f,
         le-leb (2 * length (playingList t′ .entries)) cells (c .listRoom),
       )
       refl

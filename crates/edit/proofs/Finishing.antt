@@ -6,10 +6,8 @@ use mathlib.Core.Bool.{Bool}
 use mathlib.Core.List.{List, _++_}
 use lib.ListN.{length, take, replicate}
 use lib.Seq.{length-take-le}
-use lib.Dec.{leb}
 use lib.IntN.{ℤ, pos, _-ℤ_}
 use borrow.Author.Tests.{le-leb, lt-leb}
-use Rattle.bits.specs.Choice.{pick}
 use Rattle.bits.specs.Bits.{bitsOf, octetsTo}
 use Rattle.bits.specs.Lent.{over}
 use Rattle.bits.specs.Outcome.{Outcome, accepted, refused, andThen}
@@ -25,7 +23,6 @@ use Rattle.list_rules.specs.Playing.{play, playingList}
 use Rattle.list_fill.specs.Filling.{patternsIn, endIn, PatternsAt}
 use Rattle.list_rules.proofs.Counts.{list-count}
 use Rattle.list_rules.proofs.Marks.{list-mark}
-use Rattle.list_rules.proofs.Bounds.{none-too-long}
 use Rattle.list.proofs.Outcomes.{patterns-there, patterns-within}
 use Rattle.list_count.specs.Bodies.{noBodies}
 use Rattle.list_count.specs.Counting.{entryCount}
@@ -39,7 +36,7 @@ use Rattle.edit.specs.declared.Outline.{Outline}
 use Rattle.edit.specs.declared.Layout.{Layout}
 use Rattle.edit.specs.declared.Plan.{Plan}
 use Rattle.edit.specs.declared.Plan.the-variants.{Halt, Go}
-use Rattle.edit.specs.Editing.{Edited, editTone, inBuffer, beside, withList, editMessage, cleared, bufferAfter, listAfter}
+use Rattle.edit.specs.Editing.{Edited, editTone, inBuffer, withList, editMessage, cleared, bufferAfter, listAfter}
 use Rattle.edit.specs.Plan.{Written, joinedBy, endOf, Laid, SomeLaid, Going, Plans}
 use Rattle.edit.specs.Promise.{numbersOf, editNumbers, editAnswer, Leaves, EditPromise}
 use Rattle.edit.proofs.Changes.{cleared-over}
@@ -72,13 +69,9 @@ module _ (new buf list : List ℕ) (used : ℕ) {o : Outline} (w : Written new o
   unfolding playingList
   count = list-count atStart noBodies 0 (w .tone .patterns) ∙ sym (w .outlines .entries)
 
-  -- no duration is too long, so only the room counts
-  outcome : withList (length list) (accepted (w .tone)) ≡ beside (w .tone) (pick (leb (2 * o .entries) (length list)) (accepted (playingList (w .tone))) (refused 11 0))
-  outcome = rw (none-too-long (w .tone) (w .formed .formed), count) refl
-
-  pub finish-short : length list / 2 < o .entries → (t : Tone) → WellFormed t → toneOctets t ≡ new → Leaves (withList (length list) (accepted t)) used buf list buf list (Refused 11 (place 0))
+  pub finish-short : length list / 2 < o .entries → (t : Tone) → WellFormed t → toneOctets t ≡ new → Leaves (withList (length list) t) used buf list buf list (Refused 11 (place 0))
   finish-short h t f e =
-      let z : withList (length list) (accepted t) ≡ refused 11 0 = ap (λ (y : Tone). withList (length list) (accepted y)) (same-tone t f e) ∙ outcome ∙ (rw (lt-leb (2 * o .entries) (length list) (omega arith)) refl) in
+      let z : withList (length list) t ≡ refused 11 0 = ap (withList (length list)) (same-tone t f e) ∙ (rw (count, lt-leb (2 * o .entries) (length list) (omega arith)) refl) in
       rw z (leaves (refused 11 0) used buf list buf list (Refused 11 (place 0)) refl refl refl)
 
   module _ (h : o .entries ≤ length list / 2) where
@@ -90,12 +83,12 @@ module _ (new buf list : List ℕ) (used : ℕ) {o : Outline} (w : Written new o
 
     pub finish-made : {list′ buf₁ buf₂ : List ℕ} {ch : ℤ} {n : ℕ} → length new ≡ n → list′ ≡ over (numbers (play atStart noBodies 0 (patternsIn new (o .first .0) (o .patterns)) .entries)) list → n ≤ length buf
         → buf₁ ≡ over new buf → buf₂ ≡ cleared n used buf₁ → ch ≡ pos n -ℤ pos used
-        → (t : Tone) → WellFormed t → toneOctets t ≡ new → Leaves (withList (length list) (accepted t)) used buf list buf₂ list′ (Made (octetCount n) (o .entries) (o .mark) ch)
+        → (t : Tone) → WellFormed t → toneOctets t ≡ new → Leaves (withList (length list) t) used buf list buf₂ list′ (Made (octetCount n) (o .entries) (o .mark) ch)
     unfolding playingList
     finish-made {list′} {buf₁} {buf₂} {ch} {n} hn z l b₁ b₂ hc t f e =
         let g = playingList (w .tone) in
-        let d : withList (length list) (accepted t) ≡ accepted (record { tone = w .tone; listing = g }) =
-        ap (λ (y : Tone). withList (length list) (accepted y)) (same-tone t f e) ∙ outcome ∙ (rw (le-leb (2 * o .entries) (length list) (omega arith)) refl) in
+        let d : withList (length list) t ≡ accepted (record { tone = w .tone; listing = g }) =
+        ap (withList (length list)) (same-tone t f e) ∙ (rw (count, le-leb (2 * o .entries) (length list) (omega arith)) refl) in
         let size : n ≡ toneLength (w .tone) = sym hn ∙ ap length (sym (w .writes)) ∙ length-toneOctets (w .tone) in
         let buffer : buf₂ ≡ over (toneOctets (w .tone) ++ replicate (used - toneLength (w .tone)) 0) buf =
         b₂ ∙ ap (cleared n used) b₁ ∙ cleared-over new buf n used hn l
@@ -118,22 +111,22 @@ module _ (m : List ℕ) (l : Layout) (buf list : List ℕ) (used : ℕ) {z : ℕ
   length-is : {t : Tone} → Laid m l t → z + 1 ≡ toneLength t
   length-is y = ap (λ (x : ℕ). x + 1) (hz ∙ ap octetsTo (sym (joined-length y) ∙ ap length (y .spells)))
 
-  pub carry-long : 4096 < z + 1 → (t : Tone) → Laid m l t → Leaves (withList (length list) (inBuffer (length buf) t)) used buf list buf list (Refused 1 (place 0))
+  pub carry-long : 4096 < z + 1 → (t : Tone) → Laid m l t → Leaves (andThen (inBuffer (length buf) t) (withList (length list))) used buf list buf list (Refused 1 (place 0))
   carry-long h t y =
       let n = length-is y in
       let o : inBuffer (length buf) t ≡ refused 1 0 = rw (lt-leb (toneLength t) mostOctets (omega arith)) refl in
       rw o (leaves (refused 1 0) used buf list buf list (Refused 1 (place 0)) refl refl refl)
 
   module _ (s : z + 1 ≤ 4096) where
-    pub carry-room : length buf < z + 1 → (t : Tone) → Laid m l t → Leaves (withList (length list) (inBuffer (length buf) t)) used buf list buf list (Refused 11 (place 0))
+    pub carry-room : length buf < z + 1 → (t : Tone) → Laid m l t → Leaves (andThen (inBuffer (length buf) t) (withList (length list))) used buf list buf list (Refused 11 (place 0))
     carry-room h t y =
         let n = length-is y in
         let o : inBuffer (length buf) t ≡ refused 11 0 = rw (le-leb (toneLength t) mostOctets (omega arith), lt-leb (toneLength t) (length buf) (omega arith)) refl in
         rw o (leaves (refused 11 0) used buf list buf list (Refused 11 (place 0)) refl refl refl)
 
     -- what is built apart, in the buffer
-    pub carry-done : {buf′ list′ : List ℕ} {r : Answer} → z + 1 ≤ length buf → ((t : Tone) → Laid m l t → Leaves (withList (length list) (accepted t)) used buf list buf′ list′ r)
-        → (t : Tone) → Laid m l t → Leaves (withList (length list) (inBuffer (length buf) t)) used buf list buf′ list′ r
+    pub carry-done : {buf′ list′ : List ℕ} {r : Answer} → z + 1 ≤ length buf → ((t : Tone) → Laid m l t → Leaves (withList (length list) t) used buf list buf′ list′ r)
+        → (t : Tone) → Laid m l t → Leaves (andThen (inBuffer (length buf) t) (withList (length list))) used buf list buf′ list′ r
     carry-done h k t y =
         let n = length-is y in
         let o : inBuffer (length buf) t ≡ accepted t = rw (le-leb (toneLength t) mostOctets (omega arith), le-leb (toneLength t) (length buf) (omega arith)) refl in
@@ -154,8 +147,8 @@ module _ (m : List ℕ) (l : Layout) (buf list : List ℕ) (used : ℕ) {z : ℕ
       pub apart-written : SomeLaid m l → Written (take n scratch) (l .outline)
       apart-written y = let x = written (y .laid) in record { tone = y .tone; formed = x .0; writes = x .1; outlines = y .laid .outlines }
 
-      pub apart-done : {buf′ list′ new : List ℕ} {r : Answer} → new ≡ take n scratch → ((t : Tone) → WellFormed t → toneOctets t ≡ new → Leaves (withList (length list) (accepted t)) used buf list buf′ list′ r)
-          → (t : Tone) → Laid m l t → Leaves (withList (length list) (accepted t)) used buf list buf′ list′ r
+      pub apart-done : {buf′ list′ new : List ℕ} {r : Answer} → new ≡ take n scratch → ((t : Tone) → WellFormed t → toneOctets t ≡ new → Leaves (withList (length list) t) used buf list buf′ list′ r)
+          → (t : Tone) → Laid m l t → Leaves (withList (length list) t) used buf list buf′ list′ r
       apart-done e k t y = let x = written y in k t (x .0) (x .1 ∙ sym e)
 
 -- what the code needs to know before it builds
@@ -185,12 +178,15 @@ module _ (buf list : List ℕ) (used : ℕ) (ed : Edit) (k i : ℕ) where
     unfolding editMessage
     edit-halt {pl} {n} {p} y z = rw (le-leb used (length buf) h) (go (readTone m) (subst (Plans (take used buf) (record { edit = ed; pattern = k; instruction = i })) z y))
       where
-        halts : (x : Outcome Tone) → x ≡ refused n (p .0) → Leaves (withList (length list) (andThen x (inBuffer (length buf)))) used buf list buf list (Refused n p)
+        finished : Tone → Outcome Edited
+        finished t = andThen (inBuffer (length buf) t) (withList (length list))
+
+        halts : (x : Outcome Tone) → x ≡ refused n (p .0) → Leaves (andThen x finished) used buf list buf list (Refused n p)
         halts x e = rw e (leaves (refused n (p .0)) used buf list buf list (Refused n p) refl refl refl)
 
-        go : (x : Outcome Tone) → andThen x (editTone ed k i) ≡ refused n (p .0) → Leaves (andThen x (λ t. withList (length list) (andThen (editTone ed k i t) (inBuffer (length buf))))) used buf list buf list (Refused n p)
+        go : (x : Outcome Tone) → andThen x (editTone ed k i) ≡ refused n (p .0) → Leaves (andThen x (λ t. andThen (editTone ed k i t) finished)) used buf list buf list (Refused n p)
         go (accepted t) e = halts (editTone ed k i t) e
-        go (refused n′ p′) e = subst (λ (x : Outcome Edited). Leaves x used buf list buf list (Refused n p)) (ap (λ (x : Outcome Tone). withList (length list) x) (sym e)) (leaves (refused n (p .0)) used buf list buf list (Refused n p) refl refl refl)
+        go (refused n′ p′) e = halts (refused n′ p′) e
 
     -- a plan that goes on
     module _ {pl : Plan} {l : Layout} (y : Plans (take used buf) (record { edit = ed; pattern = k; instruction = i }) pl) (z : pl ≡ Go l) where
@@ -200,7 +196,7 @@ module _ (buf list : List ℕ) (used : ℕ) (ed : Edit) (k i : ℕ) where
       pub edit-laid : (used ≤ length buf) × (used ≤ 4096) × SomeLaid (take used buf) l
       edit-laid = (h, omega (arith, going .short, length-take-le used buf h), record { tone = changed ed k i (going .tone); laid = going .laid })
 
-      pub edit-done : {r : Answer} {buf′ list′ : List ℕ} → ((t : Tone) → Laid (take used buf) l t → Leaves (withList (length list) (inBuffer (length buf) t)) used buf list buf′ list′ r) → EditPromise buf used ed k i list buf′ list′ r
+      pub edit-done : {r : Answer} {buf′ list′ : List ℕ} → ((t : Tone) → Laid (take used buf) l t → Leaves (andThen (inBuffer (length buf) t) (withList (length list))) used buf list buf′ list′ r) → EditPromise buf used ed k i list buf′ list′ r
       unfolding editMessage
       edit-done e = rw (le-leb used (length buf) h, going .reads, going .accepts) (e (changed ed k i (going .tone)) (going .laid))
 

@@ -1,22 +1,19 @@
--- Where two grounds against an edit meet, which of them is given: the used length, the message, 6, 12, 13, 14, 1, 11 for the buffer, 11 for the list; 19 cannot occur.
+-- Where two grounds against an edit meet, which of them is given: the used length, the message, 6, 12, 13, 14, 1, 11 for the buffer, 11 for the list.
 use Prim.Native.Nat.{ℕ, _*_, _≤_, _<_}
-use mathlib.Core.Path.{_≡_, refl, sym, subst}
+use mathlib.Core.Path.{_≡_, refl}
 use mathlib.Core.Bool.{true, false}
 use mathlib.Core.List.{List}
 use lib.ListN.{length, take}
 use borrow.Author.Tests.{le-leb, lt-leb}
 use Rattle.bits.specs.Outcome.{accepted, refused}
-use Rattle.tone.specs.Tone.{Tone, Formed}
+use Rattle.tone.specs.Tone.{Tone}
 use Rattle.tone.specs.Writing.{toneLength, mostOctets}
 use Rattle.tone.specs.Reading.{readTone}
-use Rattle.tone.proofs.Demand2.{read-formed}
 use Rattle.list_rules.specs.Playing.{playingList}
-use Rattle.list_rules.proofs.Bounds.{none-too-long}
 use Rattle.edit_change.specs.declared.Edit.{Edit}
 use Rattle.edit_change.specs.Change.{carriesNew, isThere, empties, overfills}
 use Rattle.edit_change.proofs.Grounds.{full-keeps}
 use Rattle.edit.specs.Editing.{bodyLength, editTone, inBuffer, editMessage}
-use Rattle.edit.proofs.Demand3.{edit-grounds, edit-formed}
 
 module _ (buf : List ℕ) (used : ℕ) (ed : Edit) (k i cells : ℕ) where
   -- 1 at 0 for a used length beyond the buffer, whatever stands in it
@@ -74,15 +71,12 @@ module _ (buf : List ℕ) (used : ℕ) (ed : Edit) (k i cells : ℕ) where
           pub list-room : toneLength t′ ≤ length buf → cells < 2 * length (playingList t′ .entries) → editMessage buf used ed k i cells ≡ refused 11 0
           unfolding editMessage
           list-room r s =
-              let g = edit-grounds ed k i t t′ a in
-              let f : Formed t′ = subst Formed (sym (g .1)) (edit-formed ed k i t (read-formed (take used buf) t q .0) (g .0)) in
               rw (
                 le-leb used (length buf) h,
                 q,
                 a,
                 le-leb (toneLength t′) mostOctets l,
                 le-leb (toneLength t′) (length buf) r,
-                none-too-long t′ f,
                 lt-leb (2 * length (playingList t′ .entries)) cells s,
               )
               refl

@@ -10,7 +10,7 @@ use Rattle.tone.specs.Tone.{Tone}
 use Rattle.tone.specs.Writing.{toneLength, toneOctets, mostOctets}
 use Rattle.tone.specs.Reading.{readTone}
 use Rattle.list_rules.specs.Sounding.{numbers}
-use Rattle.list_rules.specs.Playing.{Listing, playingList}
+use Rattle.list_rules.specs.Playing.{Listing}
 use Rattle.list_rules.specs.Listing.{fitted, fitsNumbers}
 use Rattle.edit_change.specs.declared.Edit.{Edit}
 use Rattle.edit_change.specs.Change.{patternAt, changed, carriesNew, isThere, empties, overfills}
@@ -42,22 +42,17 @@ pub record Edited : Type 0 where
   pub tone : Tone
   pub listing : Listing
 
--- the list beside the tone
-abbrev pub beside : Tone → Outcome Listing → Outcome Edited
-beside t (accepted g) = accepted (record { tone = t; listing = g })
-beside t (refused n p) = refused n p
-
--- last 19, and 11 for the list
-abbrev pub withList : ℕ → Outcome Tone → Outcome Edited
-withList cells (accepted t) = beside t (fitted (fitsNumbers cells) (playingList t))
-withList cells (refused n p) = refused n p
+-- last 11 for the list, which goes beside the tone
+abbrev pub withList : ℕ → Tone → Outcome Edited
+withList cells t = andThen (fitted (fitsNumbers cells) t) (λ g. accepted (record { tone = t; listing = g }))
 
 -- the whole edit: the used length, the message's own refusals, the edit's grounds, the buffer, the list
 unfoldable pub editMessage : List ℕ → ℕ → Edit → ℕ → ℕ → ℕ → Outcome Edited
 editMessage buf used ed k i cells =
     pick (leb used (length buf))
     (andThen (readTone (take used buf)) (λ t.
-    withList cells (andThen (editTone ed k i t) (inBuffer (length buf)))))
+    andThen (editTone ed k i t) (λ t′.
+    andThen (inBuffer (length buf) t′) (withList cells))))
     (refused 1 0)
 
 -- zeros from one octet up to another

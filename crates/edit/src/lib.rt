@@ -3,7 +3,7 @@ ghost use Prim.Native.Nat.{_+_, _≤_};
 ghost use lib.ListN.{length, take};
 ghost use lib.IntN.{pos, _-ℤ_};
 ghost use Rattle.bits.specs.Bits.{octetsTo};
-ghost use Rattle.bits.specs.Outcome.{accepted};
+ghost use Rattle.bits.specs.Outcome.{andThen};
 ghost use Rattle.bits.specs.Places.{place};
 ghost use Rattle.tone.specs.Tone.{Tone};
 ghost use Rattle.tone.specs.Writing.{toneOctets, WellFormed};
@@ -167,7 +167,7 @@ fn finish(
 ) -> Answer
     requires { ⌜ (used .0 ≤ length (now buf)) × (used .0 ≤ 4096) × Room (n .0) (length (now buf)) (length (now scratch)) ⌝ }
     requires { ⌜ Written (take (n .0) (now scratch)) outline ⌝ }
-    ensures { λ r. ⌜ ((t : Tone) → WellFormed t → toneOctets t ≡ take (n .0) (now (scratch .entry)) → Leaves (withList (length (now (list .entry))) (accepted t)) (used .0) (now (buf .entry)) (now (list .entry)) (now (buf .exit)) (now (list .exit)) r) ⌝ }
+    ensures { λ r. ⌜ ((t : Tone) → WellFormed t → toneOctets t ≡ take (n .0) (now (scratch .entry)) → Leaves (withList (length (now (list .entry))) t) (used .0) (now (buf .entry)) (now (list .entry)) (now (buf .exit)) (now (list .exit)) r) ⌝ }
 {
     let first = outline.first;
     let entries = outline.entries;
@@ -200,7 +200,7 @@ fn build_apart(
 ) -> Answer
     requires { ⌜ (used .0 ≤ length (now buf)) × (used .0 ≤ 4096) × SomeLaid (take (used .0) (now buf)) layout ⌝ }
     requires { ⌜ Room (octetsTo (endOf layout) + 1) (length (now buf)) (length (now scratch)) ⌝ }
-    ensures { λ r. ⌜ ((t : Tone) → Laid (take (used .0) (now (buf .entry))) layout t → Leaves (withList (length (now (list .entry))) (accepted t)) (used .0) (now (buf .entry)) (now (list .entry)) (now (buf .exit)) (now (list .exit)) r) ⌝ }
+    ensures { λ r. ⌜ ((t : Tone) → Laid (take (used .0) (now (buf .entry))) layout t → Leaves (withList (length (now (list .entry))) t) (used .0) (now (buf .entry)) (now (list .entry)) (now (buf .exit)) (now (list .exit)) r) ⌝ }
 {
     let old = used.0;
     let header = layout.header;
@@ -214,7 +214,7 @@ fn build_apart(
 // Carries out an edit. A short message needs a short scratch: to clear a long one costs more than the edit.
 fn carry_out(buf: &mut [u8], used: OctetCount, layout: Layout, list: &mut [u32]) -> Answer
     requires { ⌜ (used .0 ≤ length (now buf)) × (used .0 ≤ 4096) × SomeLaid (take (used .0) (now buf)) layout ⌝ }
-    ensures { λ r. ⌜ ((t : Tone) → Laid (take (used .0) (now (buf .entry))) layout t → Leaves (withList (length (now (list .entry))) (inBuffer (length (now (buf .entry))) t)) (used .0) (now (buf .entry)) (now (list .entry)) (now (buf .exit)) (now (list .exit)) r) ⌝ }
+    ensures { λ r. ⌜ ((t : Tone) → Laid (take (used .0) (now (buf .entry))) layout t → Leaves (andThen (inBuffer (length (now (buf .entry))) t) (withList (length (now (list .entry))))) (used .0) (now (buf .entry)) (now (list .entry)) (now (buf .exit)) (now (list .exit)) r) ⌝ }
 {
     let spot = layout.spot;
     let piece = layout.piece;

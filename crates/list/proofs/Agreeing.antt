@@ -9,7 +9,7 @@ use lib.Dec.{leb}
 use borrow.Author.Tests.{leb-true}
 use Rattle.bits.specs.Choice.{pick}
 use Rattle.bits.specs.Lent.{over}
-use Rattle.bits.specs.Outcome.{Outcome, accepted, refused}
+use Rattle.bits.specs.Outcome.{Outcome, accepted, refused, andThen}
 use Rattle.bits.proofs.Choice.{both}
 use Rattle.tone.specs.Tone.{Tone}
 use Rattle.tone.specs.Reading.{readTone}
@@ -19,7 +19,7 @@ use Rattle.list.specs.declared.Listed.the-variants.{Made}
 use Rattle.list_rules.specs.Sounding.{packed, numbers, entriesOf}
 use Rattle.list_rules.specs.Ranges.{Bounded, AllBounded}
 use Rattle.list_rules.specs.Playing.{Listing, playingList}
-use Rattle.list_rules.specs.Listing.{anyTooLong, listed, fitsNumbers, fitsBoth, listTone}
+use Rattle.list_rules.specs.Listing.{fitted, fitsNumbers, fitsBoth, listTone}
 use Rattle.list.specs.Promise.{numbersOf, listNumbers, entriesIn, listAnswer, cellsAfter, rowsAfter, ListPromise, RowsPromise}
 use Rattle.list_rules.proofs.Bounds.{list-bounded}
 use Rattle.list_rules.proofs.Packing.{length-numbers, entries-numbers}
@@ -42,13 +42,12 @@ list-fitting : (m : List ℕ) (fits : Listing → Bool) (g : Listing) → listTo
 unfolding listTone
 list-fitting m fits g = go (readTone m) refl
   where
-    made : (t : Tone) (late fit : Bool) → fits (playingList t) ≡ fit → readTone m ≡ accepted t → pick late (refused 19 0) (pick fit (accepted (playingList t)) (refused 11 0)) ≡ accepted g → (fits g ≡ true) × AllBounded (g .entries)
-    made t true fit e q z = let y : _≡_ {A = ℕ} 0 1 = cc in absurd (omega arith)
-    made t false true e q z = let s : playingList t ≡ g = cc in rw (← s) (e, list-bounded t (accepted-formed m t q))
-    made t false false e q z = let y : _≡_ {A = ℕ} 0 1 = cc in absurd (omega arith)
+    made : (t : Tone) (fit : Bool) → fits (playingList t) ≡ fit → readTone m ≡ accepted t → pick fit (accepted (playingList t)) (refused 11 0) ≡ accepted g → (fits g ≡ true) × AllBounded (g .entries)
+    made t true e q z = let s : playingList t ≡ g = cc in rw (← s) (e, list-bounded t (accepted-formed m t q))
+    made t false e q z = let y : _≡_ {A = ℕ} 0 1 = cc in absurd (omega arith)
 
-    go : (x : Outcome Tone) → readTone m ≡ x → listed fits x ≡ accepted g → (fits g ≡ true) × AllBounded (g .entries)
-    go (accepted t) q z = made t (anyTooLong (playingList t .entries)) (fits (playingList t)) refl q z
+    go : (x : Outcome Tone) → readTone m ≡ x → andThen x (fitted fits) ≡ accepted g → (fits g ≡ true) × AllBounded (g .entries)
+    go (accepted t) q z = made t (fits (playingList t)) refl q z
     go (refused n p) q z = let y : _≡_ {A = ℕ} 0 1 = cc in absurd (omega arith)
 
 -- ---- the rows from the cells

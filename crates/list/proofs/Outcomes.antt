@@ -11,7 +11,7 @@ use borrow.Author.Tests.{le-leb, lt-leb, leb-true}
 use Rattle.bits.specs.Choice.{pick}
 use Rattle.bits.specs.Bits.{bitsOf}
 use Rattle.bits.specs.Lent.{over}
-use Rattle.bits.specs.Outcome.{Outcome, accepted, refused}
+use Rattle.bits.specs.Outcome.{Outcome, accepted, refused, andThen}
 use Rattle.bits.specs.declared.BitPlace.{BitPlace}
 use Rattle.bits.specs.declared.OctetCount.{OctetCount}
 use Rattle.bits.proofs.Octets.{length-bitsOf}
@@ -33,11 +33,11 @@ use Rattle.list_count.specs.Bodies.{noBodies}
 use Rattle.list_count.specs.Counting.{entryCount, markFrom}
 use Rattle.tone_judge.specs.Answers.{plainly, judgedOf}
 use Rattle.list_fill.specs.Filling.{patternsIn, endIn, PatternsAt}
-use Rattle.list_rules.specs.Listing.{anyTooLong, listed, fitsNumbers, fitsBoth, listTone}
+use Rattle.list_rules.specs.Listing.{fitted, fitsNumbers, fitsBoth, listTone}
 use Rattle.list.specs.Promise.{numbersOf, listNumbers, listAnswer, cellsAfter, ListPromise}
 use Rattle.list_rules.proofs.Counts.{list-count}
 use Rattle.list_rules.proofs.Marks.{list-mark}
-use Rattle.list_rules.proofs.Bounds.{list-most, none-too-long}
+use Rattle.list_rules.proofs.Bounds.{list-most}
 
 -- ---- a message that is accepted
 
@@ -119,7 +119,7 @@ module _ (m : List ℕ) (old : List ℕ) (rows : ℕ) {v : Judged} (q : v ≡ ju
 
   pub list-faulty : {n : ℕ} {f : BitPlace} → v ≡ Faulty n f → ListPromise m fits old old (Refused n f)
   unfolding listTone
-  list-faulty g = promised m fits old (ap (listed fits) (refused-there (readTone m) (sym g ∙ q)))
+  list-faulty g = promised m fits old (ap (λ (x : Outcome Tone). andThen x (fitted fits)) (refused-there (readTone m) (sym g ∙ q)))
 
   module _ {s : ℕ} {f : BitPlace} {o : OctetCount} {n : ℕ} {y : Total} {u : Bool} (g : v ≡ Sound s f o n y u) where
     abbrev e : ℕ
@@ -134,10 +134,10 @@ module _ (m : List ℕ) (old : List ℕ) (rows : ℕ) {v : Judged} (q : v ≡ ju
     formed : Formed (there .tone)
     formed = accepted-formed m (there .tone) (there .there)
 
-    -- no duration is too long, so only the room counts
-    outcome : listTone m fits ≡ pick (fits (playingList (there .tone))) (accepted (playingList (there .tone))) (refused 11 0)
+    -- only the room counts
+    outcome : listTone m fits ≡ fitted fits (there .tone)
     unfolding listTone
-    outcome = rw (there .there, none-too-long (there .tone) formed) refl
+    outcome = rw (there .there) refl
 
     count : length (playingList (there .tone) .entries) ≡ e
     unfolding playingList
@@ -186,8 +186,8 @@ same-fits : (fits fits′ : Listing → Bool) → ((g : Listing) → fits g ≡ 
 unfolding listTone
 same-fits fits fits′ h m = go (readTone m)
   where
-    go : (x : Outcome Tone) → listed fits x ≡ listed fits′ x
-    go (accepted t) = ap (λ (b : Bool). pick (anyTooLong (playingList t .entries)) (refused 19 0) (pick b (accepted (playingList t)) (refused 11 0))) (h (playingList t))
+    go : (x : Outcome Tone) → andThen x (fitted fits) ≡ andThen x (fitted fits′)
+    go (accepted t) = ap (λ (b : Bool). pick b (accepted (playingList t)) (refused 11 0)) (h (playingList t))
     go (refused n p) = refl
 
 enough-rows : (room : ℕ) (g : Listing) → fitsBoth room room g ≡ fitsNumbers room g

@@ -2,12 +2,12 @@
 use Prim.Native.Nat.{ℕ, zero, suc, _+_, _*_, _^_, _≤_}
 use native.Mathlib.Omega.{arith}
 use native.Mathlib.Nat.{mul-le-mul, le-trans}
-use mathlib.Core.Path.{_≡_, refl}
-use mathlib.Core.Bool.{Bool, true, false}
+use mathlib.Core.Path.{_≡_}
+use mathlib.Core.Bool.{Bool, true}
 use mathlib.Core.List.{List, [], _∷_, _++_}
 use lib.ListN.{length}
 use lib.Dec.{eqb, leb}
-use borrow.Author.Tests.{eqb-true, leb-true, lt-leb}
+use borrow.Author.Tests.{eqb-true, leb-true}
 use Rattle.bits.proofs.Choice.{pick-elim, both}
 use Rattle.tone.specs.Table.{kind, payload, width, allowed, noteOf, durationOf, specifierOf, Instruction}
 use Rattle.tone.specs.Tone.{Pattern, Tone, Formed, header, learn, Instructions, Sound, Sequence, noneKnown}
@@ -21,7 +21,6 @@ use Rattle.tone_elements.specs.Answers.{notes}
 use Rattle.tone_elements.proofs.Walks.{notes-most}
 use Rattle.list_count.specs.Counting.{entryCount}
 use Rattle.list_count.proofs.Bodies.{Each, each-start, each-sounds, each-kept, Body, none-body, sound-body, passes-most}
-use Rattle.list_rules.specs.Listing.{anyTooLong}
 use Rattle.list_rules.proofs.Durations.{duration-most}
 use Rattle.list_rules.proofs.Counts.{list-count}
 
@@ -69,7 +68,7 @@ sounded-bounded s e r i h = record {
   scale = r .scale;
   style = r .style;
   volume = r .volume;
-  microseconds = duration-most (durationOf (payload e)) (specifierOf (payload e)) (s .tempo) (omega (arith, r .tempo));
+  microseconds = duration-most (durationOf (payload e)) (specifierOf (payload e)) (s .tempo);
 }
 
 bounded-append : (a b : List Entry) → AllBounded a → AllBounded b → AllBounded (a ++ b)
@@ -115,11 +114,3 @@ play-bounded s bodies n seen (p ∷ ps) r h k =
 pub list-bounded : (t : Tone) → Formed t → AllBounded (playingList t .entries)
 unfolding playingList
 list-bounded t f = play-bounded atStart noBodies 0 noneKnown (t .patterns) range-start (each-start Body none-body) (f .sequence)
-
--- so no duration is above 32 bits
-short-enough : (rs : List Entry) → AllBounded rs → anyTooLong rs ≡ false
-short-enough [] h = refl
-short-enough (r ∷ rs) h = let m = h .0 .microseconds in rw (lt-leb (2 ^ 32) (r .microseconds) (omega arith), short-enough rs (h .1))
-
-pub none-too-long : (t : Tone) → Formed t → anyTooLong (playingList t .entries) ≡ false
-none-too-long t f = short-enough (playingList t .entries) (list-bounded t f)

@@ -1,45 +1,20 @@
--- Durations are whole units, and none is longer than 16.8 seconds.
+-- No duration is longer than 16.8 seconds, and units are whole.
 use Prim.Native.Nat.{ℕ, zero, suc, _+_, _-_, _*_, _/_, _%_, _^_, _≤_, _<_}
 use native.Mathlib.Omega.{arith}
-use native.Mathlib.Nat.{add-zero, mul-add, add-mul, mul-assoc, mul-right-comm, mul-le-mul, lt-of-le-of-lt, mod-lt, div-le-self, div-le-of-le-mul, div-eq-of-lt, div-add-mod', mul-add-div, mul-div-mul-right, div-div-eq-div-mul}
+use native.Mathlib.Nat.{zero-add, add-zero, mul-add, add-mul, mul-assoc, mul-right-comm, mul-le-mul, lt-of-le-of-lt, mod-lt, div-zero, div-le-self, div-le-of-le-mul, div-eq-of-lt, div-lt-iff-lt-mul, div-add-mod', mul-add-div, mul-div-mul-right, div-div-eq-div-mul}
 use mathlib.Core.Path.{_≡_, refl, sym, ap, ap₂, _∙_}
+use mathlib.Core.Bool.{Bool, true, false}
 use mathlib.Core.List.{List, [], _∷_}
-use lib.ListN.{length, getD, set}
+use lib.ListN.{length, getD, set, List·getD-eq-default}
 use lib.Pow.{pow-pos}
 use lib.Dec.{leb, eqb, lit<}
 use mir.Val.{Fits}
 use mir.Syntax.{w32, w64}
-use borrow.Author.Tests.{leb-true}
+use borrow.Author.Tests.{leb-true, leb-false}
 use Rattle.bits.proofs.Choice.{pick-elim}
-use Rattle.list_rules.specs.Duration.{beats, plainUnits, units, microseconds}
+use Rattle.list_rules.specs.Duration.{tempos, beats, plainUnits, units, microseconds}
 use Rattle.list_rules.specs.Tempo.{paceOf, lastsOf}
 use Rattle.list_rules.proofs.Below.{at-each, same-each}
-
--- ---- whole units
-
--- each duration code halves a full note, and nothing is lost
-pub halves-whole : (d : ℕ) → d ≤ 5 → plainUnits d * 2 ^ d ≡ 384
-halves-whole d h = same-each (λ k. plainUnits k * 2 ^ k) (λ k. 384) 6 refl d (omega arith)
-
--- with no specifier a note has its plain units
-pub plain-whole : (d : ℕ) → units d 0 ≡ plainUnits d
-unfolding units
-plain-whole d = refl
-
--- dotted is exactly 3/2 of it
-pub dotted-whole : (d : ℕ) → d ≤ 5 → 2 * units d 1 ≡ 3 * plainUnits d
-unfolding units
-dotted-whole d h = same-each (λ k. 2 * units k 1) (λ k. 3 * plainUnits k) 6 refl d (omega arith)
-
--- double dotted is exactly 7/4
-pub double-dotted-whole : (d : ℕ) → d ≤ 5 → 4 * units d 2 ≡ 7 * plainUnits d
-unfolding units
-double-dotted-whole d h = same-each (λ k. 4 * units k 2) (λ k. 7 * plainUnits k) 6 refl d (omega arith)
-
--- the last specifier is exactly 2/3
-pub two-thirds-whole : (d : ℕ) → d ≤ 5 → 3 * units d 3 ≡ 2 * plainUnits d
-unfolding units
-two-thirds-whole d h = same-each (λ k. 3 * units k 3) (λ k. 2 * plainUnits k) 6 refl d (omega arith)
 
 -- ---- bounds
 
@@ -66,13 +41,62 @@ units-most d s =
     pick-elim (λ (n : ℕ). n ≤ 672) (eqb s 2) (λ _. omega arith) (λ _.
     pick-elim (λ (n : ℕ). n ≤ 672) (eqb s 3) (λ _. omega arith) (λ _. omega arith)))
 
--- no duration exceeds 16,800,000 microseconds
-pub duration-most : (d s tempo : ℕ) → tempo < 32 → microseconds (units d s) (beats tempo) ≤ 16800000
-unfolding microseconds
-duration-most d s tempo h =
+-- a number that has beats is a tempo code
+beats-known : (tempo : ℕ) → 0 < beats tempo → tempo < 32
+unfolding beats
+beats-known tempo h = go (leb 32 tempo) refl
+  where
+    go : (b : Bool) → leb 32 tempo ≡ b → tempo < 32
+    go true e = absurd (omega (arith, h, List·getD-eq-default tempos 0 {n = tempo} (leb-true 32 tempo e)))
+    go false e = leb-false 32 tempo e
+
+-- no duration exceeds 16,800,000 microseconds, whatever fraction of one is left over from before it: that is below the beats
+pub longest-duration : (d s tempo fraction : ℕ) → fraction < beats tempo → (fraction + units d s * 625000) / beats tempo ≤ 16800000
+longest-duration d s tempo fraction h =
+    let some : 0 < beats tempo = omega arith in
     let u = units-most d s in
-    let b = slowest tempo h in
-    div-le-of-le-mul (beats tempo) (omega arith)
+    let b = slowest tempo (beats-known tempo some) in
+    let l : (fraction + units d s * 625000) / beats tempo < 16800001 = div-lt-iff-lt-mul some .1 (omega arith) in
+    omega arith
+
+-- so every duration fits 32 bits
+pub duration-fits : (d s tempo fraction : ℕ) → fraction < beats tempo → Fits w32 ((fraction + units d s * 625000) / beats tempo)
+duration-fits d s tempo fraction h = let l = longest-duration d s tempo fraction h in record { fits = omega arith }
+
+-- as the rule has it, with no fraction left over; a number that is no tempo code gives 0
+pub duration-most : (d s tempo : ℕ) → microseconds (units d s) (beats tempo) ≤ 16800000
+unfolding microseconds
+duration-most d s tempo = go (beats tempo) refl
+  where
+    go : (b : ℕ) → beats tempo ≡ b → units d s * 625000 / b ≤ 16800000
+    go zero e = omega (arith, div-zero (units d s * 625000))
+    go (suc b) e = rw (← e) (rw (zero-add (units d s * 625000)) at (longest-duration d s tempo 0 (omega arith)))
+
+-- ---- whole units
+
+-- each duration code halves a full note, and nothing is lost
+pub halves-whole : (d : ℕ) → d ≤ 5 → plainUnits d * 2 ^ d ≡ 384
+halves-whole d h = same-each (λ k. plainUnits k * 2 ^ k) (λ k. 384) 6 refl d (omega arith)
+
+-- with no specifier a note has its plain units
+pub plain-whole : (d : ℕ) → units d 0 ≡ plainUnits d
+unfolding units
+plain-whole d = refl
+
+-- dotted is exactly 3/2 of it
+pub dotted-whole : (d : ℕ) → d ≤ 5 → 2 * units d 1 ≡ 3 * plainUnits d
+unfolding units
+dotted-whole d h = same-each (λ k. 2 * units k 1) (λ k. 3 * plainUnits k) 6 refl d (omega arith)
+
+-- double dotted is exactly 7/4
+pub double-dotted-whole : (d : ℕ) → d ≤ 5 → 4 * units d 2 ≡ 7 * plainUnits d
+unfolding units
+double-dotted-whole d h = same-each (λ k. 4 * units k 2) (λ k. 7 * plainUnits k) 6 refl d (omega arith)
+
+-- the last specifier is exactly 2/3
+pub two-thirds-whole : (d : ℕ) → d ≤ 5 → 3 * units d 3 ≡ 2 * plainUnits d
+unfolding units
+two-thirds-whole d h = same-each (λ k. 3 * units k 3) (λ k. 2 * plainUnits k) 6 refl d (omega arith)
 
 -- ---- how the code gets there
 

@@ -1,4 +1,4 @@
--- Where two grounds against a list meet, which of them is given: those of reading, then 11; 19 cannot occur.
+-- Where two grounds against a list meet, which of them is given: those of reading, then 11.
 use Prim.Native.Nat.{ℕ, _*_, _≤_, _<_}
 use mathlib.Core.Path.{_≡_, refl}
 use mathlib.Core.Bool.{Bool, true, false}
@@ -10,10 +10,8 @@ use Rattle.bits.specs.Outcome.{accepted, refused}
 use Rattle.tone.specs.Tone.{Tone}
 use Rattle.tone.specs.Reading.{readTone}
 use Rattle.tone.proofs.Rows.{and-false}
-use Rattle.tone.proofs.Demand2.{read-formed}
 use Rattle.list_rules.specs.Playing.{Listing, playingList}
 use Rattle.list_rules.specs.Listing.{fitsNumbers, fitsBoth, listTone}
-use Rattle.list_rules.proofs.Bounds.{none-too-long}
 
 module _ (m : List ℕ) where
   -- the message's own refusal with its place, whatever is lent
@@ -25,12 +23,12 @@ module _ (m : List ℕ) where
     -- then 11 where the list does not fit
     pub room-last : (fits : Listing → Bool) → fits (playingList t) ≡ false → listTone m fits ≡ refused 11 0
     unfolding listTone
-    room-last fits h = rw (q, none-too-long t (read-formed m t q .0), h) refl
+    room-last fits h = rw (q, h) refl
 
     -- else it is made
     pub list-made : (fits : Listing → Bool) → fits (playingList t) ≡ true → listTone m fits ≡ accepted (playingList t)
     unfolding listTone
-    list-made fits h = rw (q, none-too-long t (read-formed m t q .0), h) refl
+    list-made fits h = rw (q, h) refl
 
     -- the list in two numbers an entry
     module _ (cells : ℕ) where

@@ -8,7 +8,7 @@ use lib.ListN.{length}
 use lib.Dec.{leb, lit≤}
 use borrow.Author.Tests.{leb-true}
 use Rattle.bits.specs.Choice.{pick}
-use Rattle.bits.specs.Outcome.{Outcome, accepted, refused}
+use Rattle.bits.specs.Outcome.{Outcome, accepted, refused, andThen}
 use Rattle.bits.specs.declared.BitPlace.{BitPlace}
 use Rattle.bits.specs.Places.{place}
 use Rattle.tone.specs.Tone.{Tone}
@@ -18,24 +18,23 @@ use Rattle.tone.proofs.Refusals.{place-most}
 use Rattle.list.specs.declared.Listed.{Listed}
 use Rattle.list.specs.declared.Listed.the-variants.{Made, Refused}
 use Rattle.list_rules.specs.Playing.{Listing, playingList}
-use Rattle.list_rules.specs.Listing.{listTone, listed, anyTooLong, fitsNumbers}
+use Rattle.list_rules.specs.Listing.{fitted, fitsNumbers, listTone}
 use Rattle.list.specs.Promise.{ListPromise, listAnswer}
 use Rattle.list_text.specs.Text.{Added, lines, opening, refusal, textOf, answerOf}
 use Rattle.list_text.proofs.Texts.{added-two}
 
 -- ---- a list that was made fits
 
-chosen : (room n k : ℕ) (g : Listing) (a b : Bool) → b ≡ leb (2 * length (g .entries)) room
-    → Made n k ≡ listAnswer (pick a (refused 19 0) (pick b (accepted g) (refused 11 0))) → 2 * n ≤ room
-chosen room n k g true b e h = let z : _≡_ {A = ℕ} 0 1 = cc in absurd (omega arith)
-chosen room n k g false false e h = let z : _≡_ {A = ℕ} 0 1 = cc in absurd (omega arith)
-chosen room n k g false true e h =
+chosen : (room n k : ℕ) (g : Listing) (b : Bool) → b ≡ leb (2 * length (g .entries)) room
+    → Made n k ≡ listAnswer (pick b (accepted g) (refused 11 0)) → 2 * n ≤ room
+chosen room n k g false e h = let z : _≡_ {A = ℕ} 0 1 = cc in absurd (omega arith)
+chosen room n k g true e h =
     let c : n ≡ length (g .entries) = cc in
     rw c (leb-true (2 * length (g .entries)) room (sym e))
 
-fits : (room n k : ℕ) (x : Outcome Tone) → Made n k ≡ listAnswer (listed (fitsNumbers room) x) → 2 * n ≤ room
+fits : (room n k : ℕ) (x : Outcome Tone) → Made n k ≡ listAnswer (andThen x (fitted (fitsNumbers room))) → 2 * n ≤ room
 fits room n k (accepted t) h =
-    chosen room n k (playingList t) (anyTooLong (playingList t .entries)) (leb (2 * length (playingList t .entries)) room) refl h
+    chosen room n k (playingList t) (leb (2 * length (playingList t .entries)) room) refl h
 fits room n k (refused i p) h = let z : _≡_ {A = ℕ} 0 1 = cc in absurd (omega arith)
 
 pub made-fits : (m list : List ℕ) {list′ : List ℕ} {r : Listed} {n k : ℕ} → ListPromise m (fitsNumbers (length list)) list list′ r → r ≡ Made n k
@@ -45,13 +44,12 @@ made-fits m list {list′} {r} {n} {k} q e = fits (length list) n k (readTone m)
 
 -- ---- the place of a refusal is small
 
-small : (room n : ℕ) (p : BitPlace) (m : List ℕ) (x : Outcome Tone) → readTone m ≡ x → Refused n p ≡ listAnswer (listed (fitsNumbers room) x) → p .0 ≤ 8 * mostOctets
-small room n p m (accepted t) q h = go (anyTooLong (playingList t .entries)) (fitsNumbers room (playingList t)) h
+small : (room n : ℕ) (p : BitPlace) (m : List ℕ) (x : Outcome Tone) → readTone m ≡ x → Refused n p ≡ listAnswer (andThen x (fitted (fitsNumbers room))) → p .0 ≤ 8 * mostOctets
+small room n p m (accepted t) q h = go (fitsNumbers room (playingList t)) h
   where
-    go : (a b : Bool) → Refused n p ≡ listAnswer (pick a (refused 19 0) (pick b (accepted (playingList t)) (refused 11 0))) → p .0 ≤ 8 * mostOctets
-    go true b e = let z : p ≡ place 0 = cc in rw z (lit≤ tt)
-    go false true e = let z : _≡_ {A = ℕ} 0 1 = cc in absurd (omega arith)
-    go false false e = let z : p ≡ place 0 = cc in rw z (lit≤ tt)
+    go : (b : Bool) → Refused n p ≡ listAnswer (pick b (accepted (playingList t)) (refused 11 0)) → p .0 ≤ 8 * mostOctets
+    go true e = let z : _≡_ {A = ℕ} 0 1 = cc in absurd (omega arith)
+    go false e = let z : p ≡ place 0 = cc in rw z (lit≤ tt)
 small room n p m (refused i j) q h = let z : p ≡ place j = cc in rw z (place-most m i j q)
 
 pub refused-small : (m list : List ℕ) {list′ : List ℕ} {r : Listed} {n : ℕ} {p : BitPlace} → ListPromise m (fitsNumbers (length list)) list list′ r → r ≡ Refused n p → p .0 ≤ 32768

@@ -23,12 +23,12 @@ use Rattle.tone_write.specs.Judging.{songFine, titleFine, sized, toneOf, writeT
 use Rattle.tone_write.specs.Promise.{writeNumbers}
 use Rattle.list_rules.specs.declared.Entry.{Entry}
 use Rattle.list_rules.specs.Playing.{Listing, playingList}
-use Rattle.list_rules.specs.Listing.{anyTooLong, fitted, listed, fitsNumbers, fitsBoth, listTone}
+use Rattle.list_rules.specs.Listing.{fitted, fitsNumbers, fitsBoth, listTone}
 use Rattle.list_rules.proofs.Bounds.{list-most}
 use Rattle.list.specs.Promise.{listNumbers}
 use Rattle.edit_change.specs.declared.Edit.{Edit}
 use Rattle.edit_change.specs.Change.{carriesNew, isThere, empties, overfills}
-use Rattle.edit.specs.Editing.{bodyLength, editTone, inBuffer, beside, withList, editMessage}
+use Rattle.edit.specs.Editing.{Edited, bodyLength, editTone, inBuffer, withList, editMessage}
 use Rattle.edit.specs.Promise.{editNumbers}
 use Rattle.edit.proofs.Demand3.{edit-grounds, edit-formed}
 use Rattle.bitmap.specs.Bitmap.{Bitmap, writingInto}
@@ -122,15 +122,12 @@ numbers-fit room t f h = le-leb (2 * length (playingList t .entries)) room (omeg
 both-fit : (room rows : ℕ) (t : Tone) → Formed t → listRoom ≤ room → entriesRoom ≤ rows → fitsBoth room rows (playingList t) ≡ true
 both-fit room rows t f h k = rw (numbers-fit room t f h) (le-leb (length (playingList t .entries)) rows (omega (arith, list-most t f)))
 
-fitted-spared : (fits : Listing → Bool) (g : Listing) → fits g ≡ true → Spared (fitted fits g)
-fitted-spared fits g e = pick-elim Spared (anyTooLong (g .entries)) (λ _. other 19 refl) (λ _. rw e none)
-
 list-spared : (m : List ℕ) (fits : Listing → Bool) → ((t : Tone) → Formed t → fits (playingList t) ≡ true) → Spared (listTone m fits)
 unfolding listTone
 list-spared m fits h = go (readTone m) refl
   where
-    go : (o : Outcome Tone) → readTone m ≡ o → Spared (listed fits o)
-    go (accepted t) e = fitted-spared fits (playingList t) (h t (read-well-formed m t e .formed))
+    go : (o : Outcome Tone) → readTone m ≡ o → Spared (andThen o (fitted fits))
+    go (accepted t) e = rw (h t (read-well-formed m t e .formed)) none
     go (refused n p) e = unread m e
 
 -- `ohakelm_list`, with 1,950,750 numbers
@@ -159,25 +156,24 @@ grounds-spared ed k i t =
     (λ _. other 12 refl))
     (λ _. other 6 refl)
 
-beside-spared : (t : Tone) {o : Outcome Listing} → Spared o → Spared (beside t o)
-beside-spared t none = none
-beside-spared t (other n h) = other n h
-
 module _ (room cells : ℕ) (h : toneRoom ≤ room) (l : listRoom ≤ cells) where
-  -- a changed tone and its list
-  changed-spared : (t : Tone) → Formed t → Spared (withList cells (inBuffer room t))
+  -- a changed tone, in the buffer and with its list
+  abbrev finished : Tone → Outcome Edited
+  finished t = andThen (inBuffer room t) (withList cells)
+
+  changed-spared : (t : Tone) → Formed t → Spared (finished t)
   changed-spared t f =
       let n = toneLength t in
-      pick-elim (λ (o : Outcome Tone). Spared (withList cells o)) (leb n mostOctets) (λ a.
-      pick-elim (λ (o : Outcome Tone). Spared (withList cells o)) (leb n room)
-      (λ _. beside-spared t (fitted-spared (fitsNumbers cells) (playingList t) (numbers-fit cells t f l)))
+      pick-elim (λ (o : Outcome Tone). Spared (andThen o (withList cells))) (leb n mostOctets) (λ a.
+      pick-elim (λ (o : Outcome Tone). Spared (andThen o (withList cells))) (leb n room)
+      (λ _. rw (numbers-fit cells t f l) none)
       (λ b. let z : ⊥ = omega (arith, leb-true n mostOctets a, leb-false n room b) in absurd z))
       (λ _. other 1 refl)
 
-  grounded-spared : (ed : Edit) (k i : ℕ) (t : Tone) → Formed t → Spared (withList cells (andThen (editTone ed k i t) (inBuffer room)))
+  grounded-spared : (ed : Edit) (k i : ℕ) (t : Tone) → Formed t → Spared (andThen (editTone ed k i t) finished)
   grounded-spared ed k i t f = go (editTone ed k i t) refl (grounds-spared ed k i t)
     where
-      go : (o : Outcome Tone) → editTone ed k i t ≡ o → Spared o → Spared (withList cells (andThen o (inBuffer room)))
+      go : (o : Outcome Tone) → editTone ed k i t ≡ o → Spared o → Spared (andThen o finished)
       go (accepted t′) e s =
           let g = edit-grounds ed k i t t′ e in
           changed-spared t′ (subst Formed (sym (g .1)) (edit-formed ed k i t f (g .0)))
@@ -188,7 +184,7 @@ unfolding editMessage
 edit-spared ed buf used k i cells h l =
     pick-elim Spared (leb used (length buf)) (λ _. go (readTone (take used buf)) refl) (λ _. other 1 refl)
   where
-    go : (o : Outcome Tone) → readTone (take used buf) ≡ o → Spared (andThen o (λ t. withList cells (andThen (editTone ed k i t) (inBuffer (length buf)))))
+    go : (o : Outcome Tone) → readTone (take used buf) ≡ o → Spared (andThen o (λ t. andThen (editTone ed k i t) (λ t′. andThen (inBuffer (length buf) t′) (withList cells))))
     go (accepted t) e = grounded-spared (length buf) cells h l ed k i t (read-well-formed (take used buf) t e .formed)
     go (refused n p) e = unread (take used buf) e
 

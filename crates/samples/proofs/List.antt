@@ -43,7 +43,4 @@ lists = record {
   cells = refl;
   rows = refl;
   endless = refl;
-  longest = refl;
-  tooLong = refl;
-  tooLongFirst = refl;
 }

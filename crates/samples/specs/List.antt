@@ -1,7 +1,7 @@
 -- Samples of the playing list: settings, passes, recalls, the return mark, and an entry's numbers.
 use Prim.Native.Nat.{ℕ}
 use mathlib.Core.Path.{_≡_}
-use mathlib.Core.Bool.{true, false}
+use mathlib.Core.Bool.{false}
 use mathlib.Core.List.{List, [], _∷_, _++_}
 use lib.ListN.{set, replicate}
 use Rattle.bits.specs.Outcome.{accepted, refused}
@@ -9,7 +9,7 @@ use Rattle.tone.specs.Tone.{Pattern}
 use Rattle.list_rules.specs.declared.Entry.{Entry}
 use Rattle.list_rules.specs.Sounding.{atStart, numbers, entryAt}
 use Rattle.list_rules.specs.Playing.{Listing, playingList}
-use Rattle.list_rules.specs.Listing.{anyTooLong, fitted, listTone, fitsNumbers, fitsBoth}
+use Rattle.list_rules.specs.Listing.{listTone, fitsNumbers, fitsBoth}
 use Rattle.list.specs.Promise.{listNumbers, cellsAfter, rowsAfter}
 use Rattle.samples.specs.Samples.{message, oneNote}
 
@@ -98,8 +98,3 @@ pub record Lists : Type 0 where
       ≡ record { note = 10; scale = 1; style = 0; volume = 7; microseconds = 480000 } ∷ record { note = 0; scale = 0; style = 0; volume = 0; microseconds = 0 } ∷ []
   -- P1 with loop 15: the mark is 0
   pub endless : listNumbers (listTone (set (set message 4 0x41) 5 0xE0) (fitsNumbers 2)) ≡ record { refusal = 0; place = 0; entries = 1; mark = 0 }
-  -- 19 for a duration above 32 bits
-  pub longest : anyTooLong (record { note = 0; scale = 0; style = 0; volume = 0; microseconds = 4294967295 } ∷ []) ≡ false
-  pub tooLong : anyTooLong (record { note = 0; scale = 0; style = 0; volume = 0; microseconds = 4294967296 } ∷ []) ≡ true
-  -- ahead of 11
-  pub tooLongFirst : fitted (fitsNumbers 0) (record { entries = record { note = 0; scale = 0; style = 0; volume = 0; microseconds = 4294967296 } ∷ []; mark = 4294967295 }) ≡ refused 19 0

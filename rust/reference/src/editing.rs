@@ -97,7 +97,7 @@ fn edit(
     if octets.len() > buffer.len() {
         return refuse(11);
     }
-    let playing = Playing::of(&tone)?;
+    let playing = Playing::of(&tone);
     let cells = playing.cells();
     if cells.len() > list.len() {
         return refuse(11);

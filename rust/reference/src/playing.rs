@@ -7,7 +7,7 @@ use crate::tone::{Instruction, Pattern, Tone};
 use crate::{put_first, refuse, Refusal};
 
 /// Beats a minute of the tempo codes 0 to 31.
-const BEATS: [u64; 32] = [
+const BEATS: [u32; 32] = [
     25, 28, 31, 35, 40, 45, 50, 56, 63, 70, 80, 90, 100, 112, 125, 140, 160, 180, 200, 225, 250,
     285, 320, 355, 400, 450, 500, 565, 635, 715, 800, 900,
 ];
@@ -43,7 +43,7 @@ fn answer(made: Result<Playing, Refusal>) -> Listed {
 }
 
 fn list_into(message: &[u8], list: &mut [u32]) -> Result<Playing, Refusal> {
-    let playing = Playing::of(&tone_of(message)?)?;
+    let playing = Playing::of(&tone_of(message)?);
     let cells = playing.cells();
     if cells.len() > list.len() {
         return refuse(11);
@@ -53,7 +53,7 @@ fn list_into(message: &[u8], list: &mut [u32]) -> Result<Playing, Refusal> {
 }
 
 fn rows_into(message: &[u8], list: &mut [u32], rows: &mut [Entry]) -> Result<Playing, Refusal> {
-    let playing = Playing::of(&tone_of(message)?)?;
+    let playing = Playing::of(&tone_of(message)?);
     let cells = playing.cells();
     if cells.len() > list.len() || playing.entries.len() > rows.len() {
         return refuse(11);
@@ -77,7 +77,7 @@ struct Settings {
 }
 
 impl Playing {
-    pub fn of(tone: &Tone) -> Result<Playing, Refusal> {
+    pub fn of(tone: &Tone) -> Playing {
         let mut playing = Playing {
             entries: Vec::new(),
             return_to: None,
@@ -91,32 +91,27 @@ impl Playing {
         for (position, pattern) in tone.patterns.iter().enumerate() {
             let body = body_of(pattern, &tone.patterns[..position]);
             if pattern.repeats == ENDLESS {
-                playing.sound_endlessly(body, &mut settings)?;
+                playing.sound_endlessly(body, &mut settings);
                 break;
             }
             for _ in 0..=pattern.repeats {
-                playing.sound(body, &mut settings)?;
+                playing.sound(body, &mut settings);
             }
         }
-        Ok(playing)
+        playing
     }
 
     /// Adds one pass and marks where it begins.
-    fn sound_endlessly(
-        &mut self,
-        body: &[Instruction],
-        settings: &mut Settings,
-    ) -> Result<(), Refusal> {
+    fn sound_endlessly(&mut self, body: &[Instruction], settings: &mut Settings) {
         let first = self.entries.len();
-        self.sound(body, settings)?;
+        self.sound(body, settings);
         if self.entries.len() > first {
             self.return_to = Some(first);
         }
-        Ok(())
     }
 
     /// Adds one pass of a body.
-    fn sound(&mut self, body: &[Instruction], settings: &mut Settings) -> Result<(), Refusal> {
+    fn sound(&mut self, body: &[Instruction], settings: &mut Settings) {
         for &instruction in body {
             match instruction {
                 Instruction::Note {
@@ -128,7 +123,7 @@ impl Playing {
                     scale: settings.scale,
                     style: settings.style,
                     volume: settings.volume,
-                    microseconds: microseconds(duration, specifier, settings.tempo)?,
+                    microseconds: microseconds(duration, specifier, settings.tempo),
                 }),
                 Instruction::Scale(code) => settings.scale = code,
                 Instruction::Style(code) => settings.style = code,
@@ -136,7 +131,6 @@ impl Playing {
                 Instruction::Volume(code) => settings.volume = code,
             }
         }
-        Ok(())
     }
 
     /// The list in the two-number form.
@@ -166,17 +160,13 @@ fn body_of<'a>(pattern: &'a Pattern, earlier: &'a [Pattern]) -> &'a [Instruction
     definition.map_or(&[], |other| &other.body)
 }
 
-fn microseconds(duration: u32, specifier: u32, tempo: u32) -> Result<u32, Refusal> {
-    let exact = units(duration, specifier) * 625_000 / BEATS[tempo as usize];
-    match u32::try_from(exact) {
-        Ok(number) => Ok(number),
-        Err(_) => refuse(19),
-    }
+fn microseconds(duration: u32, specifier: u32, tempo: u32) -> u32 {
+    units(duration, specifier) * 625_000 / BEATS[tempo as usize]
 }
 
 /// A full note is 384 units, and each duration code halves it.
-fn units(duration: u32, specifier: u32) -> u64 {
-    let plain = 384 / 2u64.pow(duration);
+fn units(duration: u32, specifier: u32) -> u32 {
+    let plain = 384 / 2u32.pow(duration);
     match specifier {
         1 => plain * 3 / 2,
         2 => plain * 7 / 4,
