@@ -1,10 +1,11 @@
--- What holds of a choice, and the tests that a branch of the code leaves.
+-- What holds of a choice and of rules in a row, and the tests that a branch of the code leaves.
 use Prim.Native.Nat.{ℕ}
 use native.Mathlib.Omega.{arith}
 use mathlib.Core.Path.{_≡_, refl}
 use mathlib.Core.Bool.{Bool, true, false, _&&_}
 use borrow.Author.Tests.{lt-ltb, le-ltb, le-leb, lt-leb, eq-eqb, ne-eqb}
 use Rattle.bits.specs.Choice.{pick}
+use Rattle.bits.specs.Outcome.{Outcome, accepted, refused, andThen}
 
 -- a test of the rules, from the fact that the code has
 pub ruleset tests = (lt-ltb, le-ltb, le-leb, lt-leb, eq-eqb, ne-eqb)
@@ -18,6 +19,11 @@ pick-cong false f g = g refl
 pub pick-elim {ℓ κ} : {A : Type ℓ} (P : A → Type κ) (t : Bool) {a b : A} → (t ≡ true → P a) → (t ≡ false → P b) → P (pick t a b)
 pick-elim P true f g = f refl
 pick-elim P false f g = g refl
+
+-- what holds of what the next rule makes and of each refusal holds of the two rules in a row
+pub then-elim {κ} : {A B : Type 0} (P : Outcome B → Type κ) (x : Outcome A) {f : A → Outcome B} → ((a : A) → x ≡ accepted a → P (f a)) → ((n p : ℕ) → x ≡ refused n p → P (refused n p)) → P (andThen x f)
+then-elim P (accepted a) f g = f a refl
+then-elim P (refused n p) f g = g n p refl
 
 -- both sides of a test of two
 pub both : (a b : Bool) → (a && b) ≡ true → (a ≡ true) × (b ≡ true)

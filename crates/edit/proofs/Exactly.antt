@@ -7,11 +7,11 @@ use lib.ListN.{length, take}
 use lib.Dec.{leb}
 use borrow.Author.Tests.{leb-true, le-leb}
 use Rattle.bits.specs.Outcome.{Outcome, accepted, refused, andThen}
-use Rattle.bits.proofs.Choice.{pick-elim}
+use Rattle.bits.proofs.Choice.{pick-elim, then-elim}
 use Rattle.tone.specs.Tone.{Tone}
 use Rattle.tone.specs.Writing.{toneLength, mostOctets}
 use Rattle.tone.specs.Reading.{readTone}
-use Rattle.list_rules.specs.Playing.{Listing, playingList}
+use Rattle.list_rules.specs.Playing.{playingList}
 use Rattle.list_rules.specs.Listing.{fitsNumbers}
 use Rattle.edit_change.specs.declared.Edit.{Edit}
 use Rattle.edit_change.specs.Change.{changed}
@@ -39,18 +39,24 @@ module _ (buf : List ℕ) (used : ℕ) (ed : Edit) (k i cells : ℕ) where
 
   met : Met (editMessage buf used ed k i cells)
   unfolding editMessage
-  met = pick-elim Met (leb used (length buf)) (λ h. read (leb-true used (length buf) h) (readTone (take used buf)) refl) (λ _. tt)
+  met =
+      pick-elim Met (leb used (length buf)) (λ h.
+      then-elim (λ x. Met (andThen (andThen x (inBuffer (length buf))) (withList cells))) (readTone (take used buf)) (λ t q.
+      then-elim Goes (editTone ed k i t) (λ t′ e.
+      let g = edit-grounds ed k i t t′ e in
+      subst (λ y. Goes (inBuffer (length buf) y)) (sym (g .1)) (put (leb-true used (length buf) h) t q (g .0)))
+      (λ _ _ _. tt)) (λ _ _ _. tt)) (λ _. tt)
     where
-      finished : Tone → Outcome Edited
-      finished t = andThen (inBuffer (length buf) t) (withList cells)
+      Goes : Outcome Tone → Type 0
+      Goes x = Met (andThen x (withList cells))
 
-      put : used ≤ length buf → (t : Tone) → readTone (take used buf) ≡ accepted t → Grounds ed k i t → Met (finished (changed ed k i t))
+      put : used ≤ length buf → (t : Tone) → readTone (take used buf) ≡ accepted t → Grounds ed k i t → Goes (inBuffer (length buf) (changed ed k i t))
       put h t q g =
           let t′ = changed ed k i t in
           let o = playingList t′ in
-          pick-elim (λ (x : Outcome Tone). Met (andThen x (withList cells))) (leb (toneLength t′) mostOctets) (λ h₁.
-          pick-elim (λ (x : Outcome Tone). Met (andThen x (withList cells))) (leb (toneLength t′) (length buf)) (λ h₂.
-          pick-elim (λ (x : Outcome Listing). Met (andThen x (λ g. accepted (record { tone = t′; listing = g })))) (fitsNumbers cells o)
+          pick-elim Goes (leb (toneLength t′) mostOctets) (λ h₁.
+          pick-elim Goes (leb (toneLength t′) (length buf)) (λ h₂.
+          pick-elim (λ x. Met (andThen x (λ g. accepted (record { tone = t′; listing = g })))) (fitsNumbers cells o)
           (λ h₃. (
             t,
             record {
@@ -65,16 +71,6 @@ module _ (buf : List ℕ) (used : ℕ) (ed : Edit) (k i cells : ℕ) where
           ))
           (λ _. tt))
           (λ _. tt)) (λ _. tt)
-
-      edit : used ≤ length buf → (t : Tone) → readTone (take used buf) ≡ accepted t → (x : Outcome Tone) → editTone ed k i t ≡ x → Met (andThen x finished)
-      edit h t q (accepted t′) e =
-          let g = edit-grounds ed k i t t′ e in
-          subst (λ (y : Tone). Met (finished y)) (sym (g .1)) (put h t q (g .0))
-      edit h t q (refused n p) e = tt
-
-      read : used ≤ length buf → (x : Outcome Tone) → readTone (take used buf) ≡ x → Met (andThen x (λ t. andThen (editTone ed k i t) finished))
-      read h (accepted t) q = edit h t q (editTone ed k i t) refl
-      read h (refused n p) q = tt
 
   -- conditions that are met make the edit accepted
   pub accepted-when : (t : Tone) → Conditions buf used ed k i cells t → editMessage buf used ed k i cells ≡ accepted (edited ed k i t)

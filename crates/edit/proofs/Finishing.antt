@@ -36,7 +36,7 @@ use Rattle.edit.specs.declared.Outline.{Outline}
 use Rattle.edit.specs.declared.Layout.{Layout}
 use Rattle.edit.specs.declared.Plan.{Plan}
 use Rattle.edit.specs.declared.Plan.the-variants.{Halt, Go}
-use Rattle.edit.specs.Editing.{Edited, editTone, inBuffer, withList, editMessage, cleared, bufferAfter, listAfter}
+use Rattle.edit.specs.Editing.{Edited, inBuffer, withList, editMessage, cleared, bufferAfter, listAfter}
 use Rattle.edit.specs.Plan.{Written, joinedBy, endOf, Laid, SomeLaid, Going, Plans}
 use Rattle.edit.specs.Promise.{numbersOf, editNumbers, editAnswer, Leaves, EditPromise}
 use Rattle.edit.proofs.Changes.{cleared-over}
@@ -176,17 +176,9 @@ module _ (buf list : List ℕ) (used : ℕ) (ed : Edit) (k i : ℕ) where
     -- a plan that halts
     pub edit-halt : {pl : Plan} {n : ℕ} {p : BitPlace} → Plans (take used buf) (record { edit = ed; pattern = k; instruction = i }) pl → pl ≡ Halt n p → EditPromise buf used ed k i list buf list (Refused n p)
     unfolding editMessage
-    edit-halt {pl} {n} {p} y z = rw (le-leb used (length buf) h) (go (readTone m) (subst (Plans (take used buf) (record { edit = ed; pattern = k; instruction = i })) z y))
-      where
-        finished : Tone → Outcome Edited
-        finished t = andThen (inBuffer (length buf) t) (withList (length list))
-
-        halts : (x : Outcome Tone) → x ≡ refused n (p .0) → Leaves (andThen x finished) used buf list buf list (Refused n p)
-        halts x e = rw e (leaves (refused n (p .0)) used buf list buf list (Refused n p) refl refl refl)
-
-        go : (x : Outcome Tone) → andThen x (editTone ed k i) ≡ refused n (p .0) → Leaves (andThen x (λ t. andThen (editTone ed k i t) finished)) used buf list buf list (Refused n p)
-        go (accepted t) e = halts (editTone ed k i t) e
-        go (refused n′ p′) e = halts (refused n′ p′) e
+    edit-halt {pl} {n} {p} y z =
+        let e = subst (Plans (take used buf) (record { edit = ed; pattern = k; instruction = i })) z y in
+        rw (le-leb used (length buf) h, e) (leaves (refused n (p .0)) used buf list buf list (Refused n p) refl refl refl)
 
     -- a plan that goes on
     module _ {pl : Plan} {l : Layout} (y : Plans (take used buf) (record { edit = ed; pattern = k; instruction = i }) pl) (z : pl ≡ Go l) where

@@ -50,9 +50,7 @@ withList cells t = andThen (fitted (fitsNumbers cells) t) (λ g. accepted (recor
 unfoldable pub editMessage : List ℕ → ℕ → Edit → ℕ → ℕ → ℕ → Outcome Edited
 editMessage buf used ed k i cells =
     pick (leb used (length buf))
-    (andThen (readTone (take used buf)) (λ t.
-    andThen (editTone ed k i t) (λ t′.
-    andThen (inBuffer (length buf) t′) (withList cells))))
+    (andThen (andThen (andThen (readTone (take used buf)) (editTone ed k i)) (inBuffer (length buf))) (withList cells))
     (refused 1 0)
 
 -- zeros from one octet up to another

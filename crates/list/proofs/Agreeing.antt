@@ -2,16 +2,14 @@
 use Prim.Native.Nat.{ℕ, zero, suc, _+_, _*_, _≤_, _<_}
 use native.Mathlib.Omega.{arith}
 use mathlib.Core.Path.{_≡_, refl, sym, ap, _∙_}
-use mathlib.Core.Bool.{Bool, true, false}
+use mathlib.Core.Bool.{Bool, true}
 use mathlib.Core.List.{List, [], _∷_, _++_}
 use lib.ListN.{length, getD, drop, length-append, length-drop, List·getD-append}
 use lib.Dec.{leb}
 use borrow.Author.Tests.{leb-true}
-use Rattle.bits.specs.Choice.{pick}
 use Rattle.bits.specs.Lent.{over}
-use Rattle.bits.specs.Outcome.{Outcome, accepted, refused, andThen}
-use Rattle.bits.proofs.Choice.{both}
-use Rattle.tone.specs.Tone.{Tone}
+use Rattle.bits.specs.Outcome.{Outcome, accepted, refused}
+use Rattle.bits.proofs.Choice.{pick-elim, then-elim, both}
 use Rattle.tone.specs.Reading.{readTone}
 use Rattle.list_rules.specs.declared.Entry.{Entry}
 use Rattle.list.specs.declared.Listed.{Listed}
@@ -19,7 +17,7 @@ use Rattle.list.specs.declared.Listed.the-variants.{Made}
 use Rattle.list_rules.specs.Sounding.{packed, numbers, entriesOf}
 use Rattle.list_rules.specs.Ranges.{Bounded, AllBounded}
 use Rattle.list_rules.specs.Playing.{Listing, playingList}
-use Rattle.list_rules.specs.Listing.{fitted, fitsNumbers, fitsBoth, listTone}
+use Rattle.list_rules.specs.Listing.{fitsNumbers, fitsBoth, listTone}
 use Rattle.list.specs.Promise.{numbersOf, listNumbers, entriesIn, listAnswer, cellsAfter, rowsAfter, ListPromise, RowsPromise}
 use Rattle.list_rules.proofs.Bounds.{list-bounded}
 use Rattle.list_rules.proofs.Packing.{length-numbers, entries-numbers}
@@ -38,17 +36,16 @@ rows-decided h k = let d = list-decided (h .listed) (k .listed) in (d .0, d .1, 
 -- ---- a list that is made
 
 -- it fits, and its entries are within bounds
-list-fitting : (m : List ℕ) (fits : Listing → Bool) (g : Listing) → listTone m fits ≡ accepted g → (fits g ≡ true) × AllBounded (g .entries)
+pub list-fitting : (m : List ℕ) (fits : Listing → Bool) (g : Listing) → listTone m fits ≡ accepted g → (fits g ≡ true) × AllBounded (g .entries)
 unfolding listTone
-list-fitting m fits g = go (readTone m) refl
+list-fitting m fits g =
+    then-elim Fits (readTone m) (λ t q.
+    pick-elim Fits (fits (playingList t)) (λ e z. let s : playingList t ≡ g = cc in rw (← s) (e, list-bounded t (accepted-formed m t q)))
+    (λ _ z. let y : _≡_ {A = ℕ} 0 1 = cc in absurd (omega arith)))
+    (λ n p q z. let y : _≡_ {A = ℕ} 0 1 = cc in absurd (omega arith))
   where
-    made : (t : Tone) (fit : Bool) → fits (playingList t) ≡ fit → readTone m ≡ accepted t → pick fit (accepted (playingList t)) (refused 11 0) ≡ accepted g → (fits g ≡ true) × AllBounded (g .entries)
-    made t true e q z = let s : playingList t ≡ g = cc in rw (← s) (e, list-bounded t (accepted-formed m t q))
-    made t false e q z = let y : _≡_ {A = ℕ} 0 1 = cc in absurd (omega arith)
-
-    go : (x : Outcome Tone) → readTone m ≡ x → andThen x (fitted fits) ≡ accepted g → (fits g ≡ true) × AllBounded (g .entries)
-    go (accepted t) q z = made t (fits (playingList t)) refl q z
-    go (refused n p) q z = let y : _≡_ {A = ℕ} 0 1 = cc in absurd (omega arith)
+    Fits : Outcome Listing → Type 0
+    Fits x = x ≡ accepted g → (fits g ≡ true) × AllBounded (g .entries)
 
 -- ---- the rows from the cells
 

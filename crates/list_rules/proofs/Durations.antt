@@ -1,16 +1,16 @@
 -- No duration is longer than 16.8 seconds, and units are whole.
 use Prim.Native.Nat.{ℕ, zero, suc, _+_, _-_, _*_, _/_, _%_, _^_, _≤_, _<_}
 use native.Mathlib.Omega.{arith}
-use native.Mathlib.Nat.{zero-add, add-zero, mul-add, add-mul, mul-assoc, mul-right-comm, mul-le-mul, lt-of-le-of-lt, mod-lt, div-zero, div-le-self, div-le-of-le-mul, div-eq-of-lt, div-lt-iff-lt-mul, div-add-mod', mul-add-div, mul-div-mul-right, div-div-eq-div-mul}
+use native.Mathlib.Nat.{eq-zero-or-pos, zero-add, add-zero, mul-add, add-mul, mul-assoc, mul-right-comm, mul-le-mul, lt-of-le-of-lt, mod-lt, div-zero, div-le-self, div-le-of-le-mul, div-eq-of-lt, div-lt-iff-lt-mul, div-add-mod', mul-add-div, mul-div-mul-right, div-div-eq-div-mul}
 use mathlib.Core.Path.{_≡_, refl, sym, ap, ap₂, _∙_}
-use mathlib.Core.Bool.{Bool, true, false}
+use mathlib.Core.Logic.{⊎-elim}
 use mathlib.Core.List.{List, [], _∷_}
 use lib.ListN.{length, getD, set, List·getD-eq-default}
 use lib.Pow.{pow-pos}
 use lib.Dec.{leb, eqb, lit<}
 use mir.Val.{Fits}
 use mir.Syntax.{w32, w64}
-use borrow.Author.Tests.{leb-true, leb-false}
+use borrow.Author.Tests.{leb-true}
 use Rattle.bits.proofs.Choice.{pick-elim}
 use Rattle.list_rules.specs.Duration.{tempos, beats, plainUnits, units, microseconds}
 use Rattle.list_rules.specs.Tempo.{paceOf, lastsOf}
@@ -44,11 +44,7 @@ units-most d s =
 -- a number that has beats is a tempo code
 beats-known : (tempo : ℕ) → 0 < beats tempo → tempo < 32
 unfolding beats
-beats-known tempo h = go (leb 32 tempo) refl
-  where
-    go : (b : Bool) → leb 32 tempo ≡ b → tempo < 32
-    go true e = absurd (omega (arith, h, List·getD-eq-default tempos 0 {n = tempo} (leb-true 32 tempo e)))
-    go false e = leb-false 32 tempo e
+beats-known tempo h = ⊎-elim (λ e. absurd (omega (arith, h, List·getD-eq-default tempos 0 {n = tempo} (omega (arith, e))))) (λ l. omega (arith, l)) (eq-zero-or-pos (32 - tempo))
 
 -- no duration exceeds 16,800,000 microseconds, whatever fraction of one is left over from before it: that is below the beats
 pub longest-duration : (d s tempo fraction : ℕ) → fraction < beats tempo → (fraction + units d s * 625000) / beats tempo ≤ 16800000
@@ -66,11 +62,9 @@ duration-fits d s tempo fraction h = let l = longest-duration d s tempo fraction
 -- as the rule has it, with no fraction left over; a number that is no tempo code gives 0
 pub duration-most : (d s tempo : ℕ) → microseconds (units d s) (beats tempo) ≤ 16800000
 unfolding microseconds
-duration-most d s tempo = go (beats tempo) refl
-  where
-    go : (b : ℕ) → beats tempo ≡ b → units d s * 625000 / b ≤ 16800000
-    go zero e = omega (arith, div-zero (units d s * 625000))
-    go (suc b) e = rw (← e) (rw (zero-add (units d s * 625000)) at (longest-duration d s tempo 0 (omega arith)))
+duration-most d s tempo =
+    let n = units d s * 625000 in
+    ⊎-elim (λ e. rw e (omega (arith, div-zero n))) (λ h. rw (zero-add n) at (longest-duration d s tempo 0 h)) (eq-zero-or-pos (beats tempo))
 
 -- ---- whole units
 

@@ -2,59 +2,50 @@
 use Prim.Native.Nat.{ℕ, _*_, _≤_}
 use native.Mathlib.Omega.{arith}
 use mathlib.Core.Path.{_≡_, refl, sym, ap, ap₂, subst, _∙_}
-use mathlib.Core.Bool.{Bool, true, false}
+use mathlib.Core.Bool.{Bool}
 use mathlib.Core.List.{List}
 use lib.ListN.{length}
-use lib.Dec.{leb, lit≤}
+use lib.Dec.{lit≤}
 use borrow.Author.Tests.{leb-true}
-use Rattle.bits.specs.Choice.{pick}
-use Rattle.bits.specs.Outcome.{Outcome, accepted, refused, andThen}
+use Rattle.bits.specs.Outcome.{Outcome, accepted, refused}
+use Rattle.bits.proofs.Choice.{pick-elim, then-elim}
 use Rattle.bits.specs.declared.BitPlace.{BitPlace}
 use Rattle.bits.specs.Places.{place}
-use Rattle.tone.specs.Tone.{Tone}
-use Rattle.tone.specs.Writing.{mostOctets}
 use Rattle.tone.specs.Reading.{readTone}
 use Rattle.tone.proofs.Refusals.{place-most}
 use Rattle.list.specs.declared.Listed.{Listed}
 use Rattle.list.specs.declared.Listed.the-variants.{Made, Refused}
 use Rattle.list_rules.specs.Playing.{Listing, playingList}
-use Rattle.list_rules.specs.Listing.{fitted, fitsNumbers, listTone}
+use Rattle.list_rules.specs.Listing.{fitsNumbers, listTone}
 use Rattle.list.specs.Promise.{ListPromise, listAnswer}
+use Rattle.list.proofs.Agreeing.{list-fitting}
 use Rattle.list_text.specs.Text.{Added, lines, opening, refusal, textOf, answerOf}
 use Rattle.list_text.proofs.Texts.{added-two}
 
--- ---- a list that was made fits
+-- ---- what the answer says
 
-chosen : (room n k : ℕ) (g : Listing) (b : Bool) → b ≡ leb (2 * length (g .entries)) room
-    → Made n k ≡ listAnswer (pick b (accepted g) (refused 11 0)) → 2 * n ≤ room
-chosen room n k g false e h = let z : _≡_ {A = ℕ} 0 1 = cc in absurd (omega arith)
-chosen room n k g true e h =
-    let c : n ≡ length (g .entries) = cc in
-    rw c (leb-true (2 * length (g .entries)) room (sym e))
-
-fits : (room n k : ℕ) (x : Outcome Tone) → Made n k ≡ listAnswer (andThen x (fitted (fitsNumbers room))) → 2 * n ≤ room
-fits room n k (accepted t) h =
-    chosen room n k (playingList t) (leb (2 * length (playingList t .entries)) room) refl h
-fits room n k (refused i p) h = let z : _≡_ {A = ℕ} 0 1 = cc in absurd (omega arith)
-
+-- a list that was made fits
 pub made-fits : (m list : List ℕ) {list′ : List ℕ} {r : Listed} {n k : ℕ} → ListPromise m (fitsNumbers (length list)) list list′ r → r ≡ Made n k
     → 2 * n ≤ length list
-unfolding listTone
-made-fits m list {list′} {r} {n} {k} q e = fits (length list) n k (readTone m) (sym e ∙ q .answer)
-
--- ---- the place of a refusal is small
-
-small : (room n : ℕ) (p : BitPlace) (m : List ℕ) (x : Outcome Tone) → readTone m ≡ x → Refused n p ≡ listAnswer (andThen x (fitted (fitsNumbers room))) → p .0 ≤ 8 * mostOctets
-small room n p m (accepted t) q h = go (fitsNumbers room (playingList t)) h
+made-fits m list {n = n} {k} q e = go (listTone m fits) refl (sym e ∙ q .answer)
   where
-    go : (b : Bool) → Refused n p ≡ listAnswer (pick b (accepted (playingList t)) (refused 11 0)) → p .0 ≤ 8 * mostOctets
-    go true e = let z : _≡_ {A = ℕ} 0 1 = cc in absurd (omega arith)
-    go false e = let z : p ≡ place 0 = cc in rw z (lit≤ tt)
-small room n p m (refused i j) q h = let z : p ≡ place j = cc in rw z (place-most m i j q)
+    fits : Listing → Bool
+    fits = fitsNumbers (length list)
 
+    go : (x : Outcome Listing) → listTone m fits ≡ x → Made n k ≡ listAnswer x → 2 * n ≤ length list
+    go (accepted g) s h = let c : n ≡ length (g .entries) = cc in rw c (leb-true (2 * length (g .entries)) (length list) (list-fitting m fits g s .0))
+    go (refused i p) s h = let z : _≡_ {A = ℕ} 0 1 = cc in absurd (omega arith)
+
+-- the place of a refusal is small
 pub refused-small : (m list : List ℕ) {list′ : List ℕ} {r : Listed} {n : ℕ} {p : BitPlace} → ListPromise m (fitsNumbers (length list)) list list′ r → r ≡ Refused n p → p .0 ≤ 32768
 unfolding listTone
-refused-small m list {n = n} {p = p} q e = small (length list) n p m (readTone m) refl (sym e ∙ q .answer)
+refused-small m list {n = n} {p = p} q e =
+    then-elim Small (readTone m) (λ t _.
+    pick-elim Small (fitsNumbers (length list) (playingList t)) (λ _ h. let z : _≡_ {A = ℕ} 0 1 = cc in absurd (omega arith)) (λ _ h. let z : p ≡ place 0 = cc in rw z (lit≤ tt)))
+    (λ i j s h. let z : p ≡ place j = cc in rw z (place-most m i j s)) (sym e ∙ q .answer)
+  where
+    Small : Outcome Listing → Type 0
+    Small x = Refused n p ≡ listAnswer x → p .0 ≤ 32768
 
 -- ---- the text
 

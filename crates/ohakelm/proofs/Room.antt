@@ -9,7 +9,7 @@ use lib.ListN.{length, take}
 use lib.Dec.{leb, eqb}
 use borrow.Author.Tests.{le-leb, leb-true, leb-false, ne-eqb, eqb-false}
 use Rattle.bits.specs.Outcome.{Outcome, accepted, refused, andThen}
-use Rattle.bits.proofs.Choice.{pick-elim}
+use Rattle.bits.proofs.Choice.{pick-elim, then-elim}
 use Rattle.tone.specs.Tone.{Tone, Formed, entries}
 use Rattle.tone.specs.Writing.{toneLength, mostOctets}
 use Rattle.tone.specs.Reading.{readTone}
@@ -23,12 +23,12 @@ use Rattle.tone_write.specs.Judging.{songFine, titleFine, sized, toneOf, writeT
 use Rattle.tone_write.specs.Promise.{writeNumbers}
 use Rattle.list_rules.specs.declared.Entry.{Entry}
 use Rattle.list_rules.specs.Playing.{Listing, playingList}
-use Rattle.list_rules.specs.Listing.{fitted, fitsNumbers, fitsBoth, listTone}
+use Rattle.list_rules.specs.Listing.{fitsNumbers, fitsBoth, listTone}
 use Rattle.list_rules.proofs.Bounds.{list-most}
 use Rattle.list.specs.Promise.{listNumbers}
 use Rattle.edit_change.specs.declared.Edit.{Edit}
 use Rattle.edit_change.specs.Change.{carriesNew, isThere, empties, overfills}
-use Rattle.edit.specs.Editing.{Edited, bodyLength, editTone, inBuffer, withList, editMessage}
+use Rattle.edit.specs.Editing.{bodyLength, editTone, inBuffer, withList, editMessage}
 use Rattle.edit.specs.Promise.{editNumbers}
 use Rattle.edit.proofs.Demand3.{edit-grounds, edit-formed}
 use Rattle.bitmap.specs.Bitmap.{Bitmap, writingInto}
@@ -97,13 +97,11 @@ write-spared : (song : ℕ) (unicode : Bool) (title table : List ℕ) (room : �
 unfolding writeTone
 write-spared song unicode title table room h =
     pick-elim Spared (songFine song) (λ _.
-    pick-elim Spared (titleFine song unicode title) (λ _. go (judgeTable table) refl)
+    pick-elim Spared (titleFine song unicode title) (λ _.
+    then-elim Spared (judgeTable table) (λ _ _. sized-spared room (toneOf song unicode title table) h)
+    (λ n p e. other n (ne-eqb n 11 (λ x. ⊎-elim (λ w. omega (arith, w .1, x)) (λ w. omega (arith, w, x)) (table-grounds table e)))))
     (λ _. other 17 refl))
     (λ _. other 4 refl)
-  where
-    go : (o : Outcome ℕ) → judgeTable table ≡ o → Spared (andThen o (λ _. sized room (toneOf song unicode title table)))
-    go (accepted c) e = sized-spared room (toneOf song unicode title table) h
-    go (refused n p) e = other n (ne-eqb n 11 (λ x. ⊎-elim (λ w. omega (arith, w .1, x)) (λ w. omega (arith, w, x)) (table-grounds table e)))
 
 -- `ohakelm_write`, with 4,096 octets
 pub write-room : (song : ℕ) (unicode : Bool) (title table out out′ : List ℕ) (r : WrittenAnswer) → WriteExport song unicode title table out out′ r
@@ -124,11 +122,7 @@ both-fit room rows t f h k = rw (numbers-fit room t f h) (le-leb (length (playin
 
 list-spared : (m : List ℕ) (fits : Listing → Bool) → ((t : Tone) → Formed t → fits (playingList t) ≡ true) → Spared (listTone m fits)
 unfolding listTone
-list-spared m fits h = go (readTone m) refl
-  where
-    go : (o : Outcome Tone) → readTone m ≡ o → Spared (andThen o (fitted fits))
-    go (accepted t) e = rw (h t (read-well-formed m t e .formed)) none
-    go (refused n p) e = unread m e
+list-spared m fits h = then-elim Spared (readTone m) (λ t e. rw (h t (read-well-formed m t e .formed)) none) (λ n p e. unread m e)
 
 -- `ohakelm_list`, with 1,950,750 numbers
 pub list-room : (m list list′ : List ℕ) (r : ListAnswer) → ListExport m list list′ r → listRoom ≤ length list → r .refusal ≡ 11 → ⊥
@@ -156,37 +150,30 @@ grounds-spared ed k i t =
     (λ _. other 12 refl))
     (λ _. other 6 refl)
 
-module _ (room cells : ℕ) (h : toneRoom ≤ room) (l : listRoom ≤ cells) where
-  -- a changed tone, in the buffer and with its list
-  abbrev finished : Tone → Outcome Edited
-  finished t = andThen (inBuffer room t) (withList cells)
-
-  changed-spared : (t : Tone) → Formed t → Spared (finished t)
-  changed-spared t f =
-      let n = toneLength t in
-      pick-elim (λ (o : Outcome Tone). Spared (andThen o (withList cells))) (leb n mostOctets) (λ a.
-      pick-elim (λ (o : Outcome Tone). Spared (andThen o (withList cells))) (leb n room)
-      (λ _. rw (numbers-fit cells t f l) none)
-      (λ b. let z : ⊥ = omega (arith, leb-true n mostOctets a, leb-false n room b) in absurd z))
-      (λ _. other 1 refl)
-
-  grounded-spared : (ed : Edit) (k i : ℕ) (t : Tone) → Formed t → Spared (andThen (editTone ed k i t) finished)
-  grounded-spared ed k i t f = go (editTone ed k i t) refl (grounds-spared ed k i t)
-    where
-      go : (o : Outcome Tone) → editTone ed k i t ≡ o → Spared o → Spared (andThen o finished)
-      go (accepted t′) e s =
-          let g = edit-grounds ed k i t t′ e in
-          changed-spared t′ (subst Formed (sym (g .1)) (edit-formed ed k i t f (g .0)))
-      go (refused n p) e (other k s) = other k s
+-- a refusal is one of whatever was asked for
+spared-on : {A B : Type 0} {n p : ℕ} → Spared {A = A} (refused n p) → Spared {A = B} (refused n p)
+spared-on (other n h) = other n h
 
 edit-spared : (ed : Edit) (buf : List ℕ) (used k i cells : ℕ) → toneRoom ≤ length buf → listRoom ≤ cells → Spared (editMessage buf used ed k i cells)
 unfolding editMessage
 edit-spared ed buf used k i cells h l =
-    pick-elim Spared (leb used (length buf)) (λ _. go (readTone (take used buf)) refl) (λ _. other 1 refl)
+    pick-elim Spared (leb used (length buf)) (λ _.
+    then-elim (λ x. Spared (andThen (andThen x (inBuffer (length buf))) (withList cells))) (readTone (take used buf)) (λ t e.
+    then-elim (λ x. Spared (andThen x (withList cells))) (editTone ed k i t) (λ t′ a.
+    let g = edit-grounds ed k i t t′ a in
+    put t′ (subst Formed (sym (g .1)) (edit-formed ed k i t (read-well-formed (take used buf) t e .formed) (g .0))))
+    (λ n p a. spared-on (subst Spared a (grounds-spared ed k i t))))
+    (λ n p e. unread (take used buf) e))
+    (λ _. other 1 refl)
   where
-    go : (o : Outcome Tone) → readTone (take used buf) ≡ o → Spared (andThen o (λ t. andThen (editTone ed k i t) (λ t′. andThen (inBuffer (length buf) t′) (withList cells))))
-    go (accepted t) e = grounded-spared (length buf) cells h l ed k i t (read-well-formed (take used buf) t e .formed)
-    go (refused n p) e = unread (take used buf) e
+    -- a changed tone, in the buffer and with its list
+    put : (t : Tone) → Formed t → Spared (andThen (inBuffer (length buf) t) (withList cells))
+    put t f =
+        let n = toneLength t in
+        pick-elim (λ x. Spared (andThen x (withList cells))) (leb n mostOctets) (λ a.
+        pick-elim (λ x. Spared (andThen x (withList cells))) (leb n (length buf)) (λ _. rw (numbers-fit cells t f l) none)
+        (λ b. let z : ⊥ = omega (arith, leb-true n mostOctets a, leb-false n (length buf) b) in absurd z))
+        (λ _. other 1 refl)
 
 -- `ohakelm_replace`, `ohakelm_insert` and `ohakelm_delete`, with a buffer of 4,096 octets and 1,950,750 numbers
 pub edit-room : (ed : Edit) (buf : List ℕ) (used k i : ℕ) (list buf′ list′ : List ℕ) (r : EditAnswer) → EditExport ed buf used k i list buf′ list′ r
