@@ -117,9 +117,9 @@ uint32_t ohakelm_version(void);
          "an octet ahead of a bitmap that its kind does not have there: "      \
          "version, network code digit, date, line feed")
 
-/* OHAKELM_TOO_LONG is 1, and so on. 19 is no longer given, nor to anything else:
- * it stood for a duration above 32 bits, and it is proved that no duration
- * exceeds 16,800,000 microseconds. */
+/* OHAKELM_TOO_LONG is 1, and so on. 19 is no longer given, and no other refusal
+ * takes it: it stood for a duration above 32 bits, and it is proved that no
+ * duration exceeds 16,800,000 microseconds. */
 enum ohakelm_refusal {
 #define OHAKELM_ITEM(number, name, words) name = number,
     OHAKELM_REFUSALS(OHAKELM_ITEM)

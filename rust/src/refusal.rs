@@ -5,8 +5,7 @@ use core::fmt;
 /// Why a call refused, by the number that the rules give it, and where.
 #[derive(Clone, Copy, Debug, PartialEq, Eq)]
 pub struct Refusal {
-    /// 1 to 20, as in the rules' table. 19 is no longer given: it stood for a
-    /// duration above 32 bits, and no duration exceeds 16,800,000 microseconds.
+    /// 1 to 20, as in the rules' table, but for 19 ([`Kind`] says why).
     pub number: u32,
     /// The bit of the tone message where the faulty element begins, for the
     /// numbers 2 to 10 met in a tone message. Else 0.
@@ -48,7 +47,9 @@ macro_rules! kinds {
     ($($number:literal $name:ident $words:literal)*) => {
         /// What a refusal's number means.
         ///
-        /// A later version may have more of them.
+        /// A later version may have more of them. 19 is no longer given, and no
+        /// other refusal takes it: it stood for a duration above 32 bits, and it
+        /// is proved that no duration exceeds 16,800,000 microseconds.
         ///
         /// ```
         /// use ohakelm::Kind;

@@ -18,7 +18,7 @@ use Rattle.edit_change.specs.Change.{changed}
 use Rattle.edit.specs.Editing.{Edited, editTone, inBuffer, withList, editMessage}
 use Rattle.edit.proofs.Demand3.{Grounds, edit-accepts, edit-grounds}
 
--- one condition for each ground of an edit, t being the tone that the message reads as.
+-- one condition for each ground of an edit, t being the tone that the message reads as
 pub record Conditions (buf : List ℕ) (used : ℕ) (ed : Edit) (k i cells : ℕ) (t : Tone) : Type 0 where
   pub within : used ≤ length buf
   pub reads : readTone (take used buf) ≡ accepted t

@@ -38,6 +38,7 @@ use Rattle.list.specs.Promise.{numbersOf, listNumbers, listAnswer, cells
 use Rattle.list_rules.proofs.Counts.{list-count}
 use Rattle.list_rules.proofs.Marks.{list-mark}
 use Rattle.list_rules.proofs.Bounds.{list-most}
+use Rattle.list_rules.proofs.Order.{message-first, room-last, list-made as made-where}
 
 -- ---- a message that is accepted
 
@@ -118,8 +119,7 @@ module _ (m : List ℕ) (old : List ℕ) (rows : ℕ) {v : Judged} (q : v ≡ ju
   fits = fitsBoth (length old) rows
 
   pub list-faulty : {n : ℕ} {f : BitPlace} → v ≡ Faulty n f → ListPromise m fits old old (Refused n f)
-  unfolding listTone
-  list-faulty g = promised m fits old (ap (λ (x : Outcome Tone). andThen x (fitted fits)) (refused-there (readTone m) (sym g ∙ q)))
+  list-faulty g = promised m fits old (message-first m fits (refused-there (readTone m) (sym g ∙ q)))
 
   module _ {s : ℕ} {f : BitPlace} {o : OctetCount} {n : ℕ} {y : Total} {u : Bool} (g : v ≡ Sound s f o n y u) where
     abbrev e : ℕ
@@ -134,11 +134,6 @@ module _ (m : List ℕ) (old : List ℕ) (rows : ℕ) {v : Judged} (q : v ≡ ju
     formed : Formed (there .tone)
     formed = accepted-formed m (there .tone) (there .there)
 
-    -- only the room counts
-    outcome : listTone m fits ≡ fitted fits (there .tone)
-    unfolding listTone
-    outcome = rw (there .there) refl
-
     count : length (playingList (there .tone) .entries) ≡ e
     unfolding playingList
     count = list-count atStart noBodies 0 (there .tone .patterns) ∙ sym (there .entries)
@@ -148,7 +143,7 @@ module _ (m : List ℕ) (old : List ℕ) (rows : ℕ) {v : Judged} (q : v ≡ ju
 
     -- where it does not fit
     no-room : fits (playingList (there .tone)) ≡ false → ListPromise m fits old old (Refused 11 (place 0))
-    no-room h = promised m fits old (outcome ∙ ap (λ (b : Bool). pick b (accepted (playingList (there .tone))) (refused 11 0)) h)
+    no-room h = promised m fits old (room-last m (there .there) fits h)
 
     pub list-cells-short : length old / 2 < e → ListPromise m fits old old (Refused 11 (place 0))
     list-cells-short h = no-room (rw (count, lt-leb (2 * e) (length old) (omega arith)))
@@ -173,7 +168,7 @@ module _ (m : List ℕ) (old : List ℕ) (rows : ℕ) {v : Judged} (q : v ≡ ju
       unfolding playingList
       list-made {new} l z =
           let g = playingList (there .tone) in
-          let o : listTone m fits ≡ accepted g = outcome ∙ (rw (count, le-leb (2 * e) (length old) (omega arith), le-leb e rows l)) in
+          let o = made-where m (there .there) fits (rw (count, le-leb (2 * e) (length old) (omega arith), le-leb e rows l)) in
           let a : Made e k ≡ listAnswer (accepted g) = ap₂ Made (sym count) (there .mark ∙ sym (list-mark atStart noBodies 0 (there .tone .patterns))) in
           let b : new ≡ cellsAfter (accepted g) old = z ∙ ap (λ (ps : List Pattern). over (numbers (play atStart noBodies 0 ps .entries)) old) patterns-are in
           rw (a, b) (promised m fits old o)

@@ -46,7 +46,7 @@ beats-known : (tempo : ℕ) → 0 < beats tempo → tempo < 32
 unfolding beats
 beats-known tempo h = ⊎-elim (λ e. absurd (omega (arith, h, List·getD-eq-default tempos 0 {n = tempo} (omega (arith, e))))) (λ l. omega (arith, l)) (eq-zero-or-pos (32 - tempo))
 
--- no duration exceeds 16,800,000 microseconds, whatever fraction of one is left over from before it: that is below the beats
+-- no duration exceeds 16,800,000 microseconds, though a fraction is left over from before it: that is less than a microsecond, of which the beats are the parts
 pub longest-duration : (d s tempo fraction : ℕ) → fraction < beats tempo → (fraction + units d s * 625000) / beats tempo ≤ 16800000
 longest-duration d s tempo fraction h =
     let some : 0 < beats tempo = omega arith in
@@ -56,10 +56,10 @@ longest-duration d s tempo fraction h =
     omega arith
 
 -- so every duration fits 32 bits
-pub duration-fits : (d s tempo fraction : ℕ) → fraction < beats tempo → Fits w32 ((fraction + units d s * 625000) / beats tempo)
-duration-fits d s tempo fraction h = let l = longest-duration d s tempo fraction h in record { fits = omega arith }
+pub duration-fits : (d s tempo fraction : ℕ) → fraction < beats tempo → (fraction + units d s * 625000) / beats tempo < 2 ^ 32
+duration-fits d s tempo fraction h = let l = longest-duration d s tempo fraction h in omega arith
 
--- as the rule has it, with no fraction left over; a number that is no tempo code gives 0
+-- as the rule has it: nothing is left over, and a number that is no tempo code gives 0
 pub duration-most : (d s tempo : ℕ) → microseconds (units d s) (beats tempo) ≤ 16800000
 unfolding microseconds
 duration-most d s tempo =

@@ -6,7 +6,6 @@ pub mod Recalls
 pub mod Counts
 pub mod Marks
 pub mod Bounds
-pub mod Grounds
 pub mod Order
 pub mod Packing
 pub mod Settling

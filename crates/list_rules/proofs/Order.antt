@@ -1,15 +1,18 @@
 -- Where two grounds against a list meet, which of them is given: those of reading, then 11.
 use Prim.Native.Nat.{ℕ, _*_, _≤_, _<_}
-use mathlib.Core.Path.{_≡_, refl}
+use native.Mathlib.Omega.{arith}
+use mathlib.Core.Path.{_≡_, refl, subst}
 use mathlib.Core.Bool.{Bool, true, false}
 use mathlib.Core.List.{List}
 use lib.ListN.{length}
 use lib.Dec.{leb}
 use borrow.Author.Tests.{le-leb, lt-leb}
 use Rattle.bits.specs.Outcome.{accepted, refused}
+use Rattle.bits.proofs.Choice.{pick-elim, then-elim}
 use Rattle.tone.specs.Tone.{Tone}
 use Rattle.tone.specs.Reading.{readTone}
 use Rattle.tone.proofs.Rows.{and-false}
+use Rattle.tone.proofs.Grounds.{Within, read-number-most}
 use Rattle.list_rules.specs.Playing.{Listing, playingList}
 use Rattle.list_rules.specs.Listing.{fitsNumbers, fitsBoth, listTone}
 
@@ -18,6 +21,14 @@ module _ (m : List ℕ) where
   pub message-first : (fits : Listing → Bool) {n p : ℕ} → readTone m ≡ refused n p → listTone m fits ≡ refused n p
   unfolding listTone
   message-first fits q = rw q refl
+
+  -- no number above 11
+  pub list-number-most : (fits : Listing → Bool) {n p : ℕ} → listTone m fits ≡ refused n p → n ≤ 11
+  unfolding listTone
+  list-number-most fits e =
+      subst (Within 11) e (then-elim (Within 11) (readTone m)
+      (λ t _. pick-elim (Within 11) (fits (playingList t)) (λ _. tt) (λ _. omega arith))
+      (λ n p q. omega (arith, read-number-most m n p q)))
 
   module _ {t : Tone} (q : readTone m ≡ accepted t) where
     -- then 11 where the list does not fit

@@ -160,6 +160,7 @@ fn body_of<'a>(pattern: &'a Pattern, earlier: &'a [Pattern]) -> &'a [Instruction
     definition.map_or(&[], |other| &other.body)
 }
 
+/// At most 672 units, so the product fits 32 bits.
 fn microseconds(duration: u32, specifier: u32, tempo: u32) -> u32 {
     units(duration, specifier) * 625_000 / BEATS[tempo as usize]
 }

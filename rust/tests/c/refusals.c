@@ -7,7 +7,7 @@ struct refusal {
     const char *words;
 };
 
-/* As the rules have them. */
+/* As the rules have them. 19 is no longer given. */
 static const struct refusal expected[] = {
     {1, OHAKELM_TOO_LONG,
      "an edit's used length beyond its lent buffer, or a tone above 4,096 octets"},
@@ -52,8 +52,8 @@ int main(void)
     CHECK(sizeof expected / sizeof expected[0] == 19);
     CHECK(sizeof listed == sizeof expected);
     for (uint32_t i = 0; i < 19; i++) {
-        uint32_t number = i < 18 ? i + 1 : i + 2; /* 19 is not given */
-        CHECK(expected[i].number == number && expected[i].name == number);
+        uint32_t number = expected[i].number;
+        CHECK(expected[i].name == number);
         CHECK(listed[i].number == number && listed[i].name == number);
         CHECK(same(listed[i].words, expected[i].words));
         CHECK(same(ohakelm_words(number), expected[i].words));
