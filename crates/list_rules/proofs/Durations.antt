@@ -46,7 +46,7 @@ beats-known : (tempo : ℕ) → 0 < beats tempo → tempo < 32
 unfolding beats
 beats-known tempo h = ⊎-elim (λ e. absurd (omega (arith, h, List·getD-eq-default tempos 0 {n = tempo} (omega (arith, e))))) (λ l. omega (arith, l)) (eq-zero-or-pos (32 - tempo))
 
--- no duration exceeds 16,800,000 microseconds, though a fraction is left over from before it: that is less than a microsecond, of which the beats are the parts
+-- no duration exceeds 16,800,000 microseconds, whatever fraction below the beats is left over from before it
 pub longest-duration : (d s tempo fraction : ℕ) → fraction < beats tempo → (fraction + units d s * 625000) / beats tempo ≤ 16800000
 longest-duration d s tempo fraction h =
     let some : 0 < beats tempo = omega arith in
