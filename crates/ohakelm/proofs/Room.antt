@@ -150,7 +150,7 @@ grounds-spared ed k i t =
     (λ _. other 12 refl))
     (λ _. other 6 refl)
 
--- a refusal is one of whatever was asked for
+-- a refusal of one rule is the same of the next
 spared-on : {A B : Type 0} {n p : ℕ} → Spared {A = A} (refused n p) → Spared {A = B} (refused n p)
 spared-on (other n h) = other n h
 
