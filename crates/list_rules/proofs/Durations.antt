@@ -23,10 +23,15 @@ pub slowest : (tempo : ℕ) → tempo < 32 → 25 ≤ beats tempo
 unfolding beats
 slowest tempo h = leb-true 25 (beats tempo) (at-each (λ k. leb 25 (beats k)) 32 refl tempo h)
 
--- none is faster than 900
-pub fastest : (tempo : ℕ) → tempo < 32 → beats tempo ≤ 900
+-- a number that has beats is a tempo code
+beats-known : (tempo : ℕ) → 0 < beats tempo → tempo < 32
 unfolding beats
-fastest tempo h = leb-true (beats tempo) 900 (at-each (λ k. leb (beats k) 900) 32 refl tempo h)
+beats-known tempo h = ⊎-elim (λ e. absurd (omega (arith, h, List·getD-eq-default tempos 0 {n = tempo} (omega (arith, e))))) (λ l. omega (arith, l)) (eq-zero-or-pos (32 - tempo))
+
+-- no tempo is faster than 900
+pub fastest : (tempo : ℕ) → beats tempo ≤ 900
+unfolding beats
+fastest tempo = ⊎-elim (λ e. omega (arith, e)) (λ h. leb-true (beats tempo) 900 (at-each (λ k. leb (beats k) 900) 32 refl tempo (beats-known tempo h))) (eq-zero-or-pos (beats tempo))
 
 -- a full note is the longest plain one
 pub plain-most : (d : ℕ) → plainUnits d ≤ 384
@@ -40,11 +45,6 @@ units-most d s =
     pick-elim (λ (n : ℕ). n ≤ 672) (eqb s 1) (λ _. omega arith) (λ _.
     pick-elim (λ (n : ℕ). n ≤ 672) (eqb s 2) (λ _. omega arith) (λ _.
     pick-elim (λ (n : ℕ). n ≤ 672) (eqb s 3) (λ _. omega arith) (λ _. omega arith)))
-
--- a number that has beats is a tempo code
-beats-known : (tempo : ℕ) → 0 < beats tempo → tempo < 32
-unfolding beats
-beats-known tempo h = ⊎-elim (λ e. absurd (omega (arith, h, List·getD-eq-default tempos 0 {n = tempo} (omega (arith, e))))) (λ l. omega (arith, l)) (eq-zero-or-pos (32 - tempo))
 
 -- no duration exceeds 16,800,000 microseconds, whatever fraction below the beats is left over from before it
 pub longest-duration : (d s tempo fraction : ℕ) → fraction < beats tempo → (fraction + units d s * 625000) / beats tempo ≤ 16800000
@@ -191,7 +191,7 @@ full-most s e = rw e (units-most 0 s)
 module _ {tempo k : ℕ} (h : tempo ≤ 31) (e : (k ≡ paceOf (beats tempo)) × (k ≤ 26214400001)) where
   full : (s : ℕ) {u x : ℕ} → u ≡ units 0 s → x ≡ u * k / 2 ^ 20 → x ≡ microseconds (units 0 s) (beats tempo)
   full s a b =
-      b ∙ ap₂ (λ (y z : ℕ). y * z / 2 ^ 20) a (e .0) ∙ pace-exact (units 0 s) (beats tempo) (units-most 0 s) (slowest tempo (omega arith)) (fastest tempo (omega arith))
+      b ∙ ap₂ (λ (y z : ℕ). y * z / 2 ^ 20) a (e .0) ∙ pace-exact (units 0 s) (beats tempo) (units-most 0 s) (slowest tempo (omega arith)) (fastest tempo)
 
   pub lasts-set : (old : List ℕ) {u v w t x y z q : ℕ} → length old ≡ 4 → u ≡ units 0 0 → x ≡ u * k / 2 ^ 20 → v ≡ units 0 1 → y ≡ v * k / 2 ^ 20 → w ≡ units 0 2 → z ≡ w * k / 2 ^ 20
       → t ≡ units 0 3 → q ≡ t * k / 2 ^ 20 → set (set (set (set old 0 x) 1 y) 2 z) 3 q ≡ lastsOf (beats tempo)
