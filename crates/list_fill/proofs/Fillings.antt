@@ -38,7 +38,6 @@ use Rattle.list_count.proofs.Bodies.{isKnown, knownOf, remember-length, body-so
 use Rattle.list_count.proofs.Parts.{AllFor, parts-kept, part-sounds, known-sounding}
 use Rattle.list_rules.proofs.Joining.{play-one, play-last}
 use Rattle.list_rules.proofs.Packing.{length-numbers}
-use Rattle.list_fill.proofs.Stepping.{ready-four}
 use Rattle.list_fill.proofs.Walking.{and-then, advanced-long}
 
 -- ---- the four parts are the places of the bodies that are remembered
@@ -91,7 +90,7 @@ unknown-there m (Known at n) r h e k = let y : _≡_ {A = ℕ} 0 1 = cc in omega
 -- ---- the loop
 
 -- with `left` patterns to come at p, from the bodies that are remembered and the settings of the walk
-pub record ListWalk (m : List ℕ) (ps : List Pattern) (old new lasts : List ℕ) (parts : List Part) (p : ℕ) (w : Walk) (left : ℕ) : Type 0 where
+pub record ListWalk (m : List ℕ) (ps : List Pattern) (old new : List ℕ) (parts : List Part) (p : ℕ) (w : Walk) (left : ℕ) : Type 0 where
   pub within : Within m p
   pub bodies : List Remembered
   pub four : length bodies ≡ 4
@@ -100,12 +99,12 @@ pub record ListWalk (m : List ℕ) (ps : List Pattern) (old new lasts : List ℕ
   pub end : ℕ
   pub reads : patternsDue left (knownOf bodies) (bitsOf m) p ≡ got others end
   pub done : List Entry
-  pub advanced : Advanced 0 (record { entries = done; after = w .settings }) (w .at .0) old new lasts w
+  pub advanced : Advanced 0 (record { entries = done; after = w .settings }) (w .at .0) old new w
   pub goes : play atStart noBodies 0 ps .entries ≡ done ++ play (w .settings) bodies (length done) others .entries
   pub room : 2 * entryCount noBodies ps ≤ length old
 
-pub list-begins : {m : List ℕ} {at n : ℕ} {ps : List Pattern} {q : ℕ} {old lasts : List ℕ} {w : Walk} {p : BitPlace} → PatternsAt m at n ps q → 2 * entryCount noBodies ps ≤ length old
-    → Ready w lasts × (w .settings ≡ atStart) × (w .at ≡ p) × (w .cells ≡ 0) → ListWalk m ps old old lasts (replicate 4 Unknown) at w n
+pub list-begins : {m : List ℕ} {at n : ℕ} {ps : List Pattern} {q : ℕ} {old : List ℕ} {w : Walk} {p : BitPlace} → PatternsAt m at n ps q → 2 * entryCount noBodies ps ≤ length old
+    → Ready w × (w .settings ≡ atStart) × (w .at ≡ p) × (w .cells ≡ 0) → ListWalk m ps old old (replicate 4 Unknown) at w n
 list-begins {ps = ps} {q} {w = w} h k s = record {
   within = h .within;
   bodies = noBodies;
@@ -124,12 +123,9 @@ list-begins {ps = ps} {q} {w = w} h k s = record {
 over-sets : (old : List ℕ) (rs : List Entry) → 2 * length rs ≤ length old → sets old 0 (numbers rs) ≡ over (numbers rs) old
 over-sets old rs h = sets-eq (numbers rs) old 0 (omega (arith, length-numbers rs)) ∙ ap (λ (n : ℕ). numbers rs ++ drop n old) (zero-add (length (numbers rs)))
 
-module _ {m : List ℕ} {ps : List Pattern} {old new lasts : List ℕ} {parts : List Part} {p : ℕ} {w : Walk} {left : ℕ} (v : ListWalk m ps old new lasts parts p w left) where
+module _ {m : List ℕ} {ps : List Pattern} {old new : List ℕ} {parts : List Part} {p : ℕ} {w : Walk} {left : ℕ} (v : ListWalk m ps old new parts p w left) where
   pub list-same : length new ≡ length old
   list-same = advanced-long (v .advanced)
-
-  pub list-four : length lasts ≡ 4
-  list-four = ready-four (v .advanced .ready)
 
   -- all entries
   count : 2 * length (play atStart noBodies 0 ps .entries) ≤ length old
@@ -232,13 +228,13 @@ module _ {m : List ℕ} {ps : List Pattern} {old new lasts : List ℕ} {parts : 
                 let f : notes (bodyIn m (from .0) n) * times ≡ notes (bodyOf (v .bodies) one) * passesOf (loopOf cell) = ap₂ (λ (b : List ℕ) (y : ℕ). notes b * y) body-is (x .0) in
                 omega (arith, ap (entryCount (v .bodies)) others, v .room, v .advanced .cells, list-same)
 
-            module _ {new′ lasts′ : List ℕ} {w′ : Walk} (a : Advanced (w .cells) (passes times (w .settings) (bodyIn m (from .0) n)) (behindIn m (from .0) n) new new′ lasts′ w′) where
+            module _ {new′ : List ℕ} {w′ : Walk} (a : Advanced (w .cells) (passes times (w .settings) (bodyIn m (from .0) n)) (behindIn m (from .0) n) new new′ w′) where
               d : Played
               d = patternPlayed (w .settings) (v .bodies) one
 
-              both : Advanced 0 (ahead (v .done) d) (behindIn m (from .0) n) old new′ lasts′ w′
+              both : Advanced 0 (ahead (v .done) d) (behindIn m (from .0) n) old new′ w′
               unfolding d
-              both = and-then (v .advanced) (subst (λ (y : Played). Advanced (w .cells) y (behindIn m (from .0) n) new new′ lasts′ w′) played a)
+              both = and-then (v .advanced) (subst (λ (y : Played). Advanced (w .cells) y (behindIn m (from .0) n) new new′ w′) played a)
 
               -- listing stops with a loop 15
               pub list-ends : loopOf cell ≡ 15 → new′ ≡ over (numbers (play atStart noBodies 0 ps .entries)) old
@@ -263,7 +259,7 @@ module _ {m : List ℕ} {ps : List Pattern} {old new lasts : List ℕ} {parts : 
                       let e₂ : specifier cell ≡ n = cc in
                       a .place ∙ ap₂ (λ (u : BitPlace) (c : ℕ). behindIn m (u .0) c) (sym e₁) (sym e₂) ∙ ap behindOr reads
 
-              pub list-on : {place′ : BitPlace} → (loopOf cell ≡ 15 → ⊥) → place′ ≡ behindPattern cell next (w′ .at) → ListWalk m ps old new′ lasts′ (set parts (partOf cell) part) (place′ .0) w′ (left - 1)
+              pub list-on : {place′ : BitPlace} → (loopOf cell ≡ 15 → ⊥) → place′ ≡ behindPattern cell next (w′ .at) → ListWalk m ps old new′ (set parts (partOf cell) part) (place′ .0) w′ (left - 1)
               unfolding d one
               list-on {place′} other z =
                   let q = behind-is z in
@@ -286,7 +282,7 @@ module _ {m : List ℕ} {ps : List Pattern} {old new lasts : List ℕ} {parts : 
                   }
 
 -- the list keeps its length in a turn
-pub list-long : {m : List ℕ} {ps : List Pattern} {old new new′ lasts lasts′ : List ℕ} {parts : List Part} {p : ℕ} {w w′ : Walk} {left i q : ℕ} {d : Played} → ListWalk m ps old new lasts parts p w left → Advanced i d q new new′ lasts′ w′ → length new′ ≡ length old
+pub list-long : {m : List ℕ} {ps : List Pattern} {old new new′ : List ℕ} {parts : List Part} {p : ℕ} {w w′ : Walk} {left i q : ℕ} {d : Played} → ListWalk m ps old new parts p w left → Advanced i d q new new′ w′ → length new′ ≡ length old
 list-long v a = advanced-long a ∙ list-same v
 
-pub ruleset listings = (list-begins, list-same, list-four, list-long, list-done, list-entry, list-unknown, list-body, list-fits, list-ends, list-on)
+pub ruleset listings = (list-begins, list-same, list-long, list-done, list-entry, list-unknown, list-body, list-fits, list-ends, list-on)

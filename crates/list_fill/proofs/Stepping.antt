@@ -3,9 +3,9 @@ use Prim.Native.Nat.{ℕ, _+_, _-_, _*_, _/_, _%_, _^_, _≤_, _<_}
 use native.Mathlib.Omega.{arith}
 use native.Mathlib.Nat.{add-zero}
 use native.Mathlib.Numerals.{add-one}
-use mathlib.Core.Path.{_≡_, refl, sym, ap, _∙_}
+use mathlib.Core.Path.{_≡_, refl, sym, ap, ap₂, _∙_}
 use mathlib.Core.List.{List}
-use lib.ListN.{length, getD, set, length-set}
+use lib.ListN.{length, set, length-set}
 use lib.Pow.{shr-shr}
 use lib.Dec.{eqb, leb}
 use borrow.Author.Tests.{eq-eqb, ne-eqb, leb-true}
@@ -24,16 +24,16 @@ use Rattle.list_rules.specs.Duration.{beats, units, microseconds}
 use Rattle.list_rules.specs.Sounding.{atStart, applied, sounded, packed}
 use Rattle.list_rules.specs.Ranges.{InRange}
 use Rattle.list_rules.specs.Playing.{step}
-use Rattle.list_rules.specs.Tempo.{lastsOf, baseOf}
+use Rattle.list_rules.specs.Tempo.{paceOf, baseOf}
 use Rattle.list_fill.specs.Filling.{entrySeen, Ready, Advanced}
 use Rattle.list_rules.proofs.Bounds.{range-start, range-applied}
-use Rattle.list_rules.proofs.Durations.{lasts-exact}
+use Rattle.list_rules.proofs.Durations.{slowest, pace-most, units-short, pace-lasts}
 use Rattle.list_fill.proofs.Seeing.{seen-kind, seen-note, seen-entry, seen-small, width-some}
 
 -- ---- the start
 
-pub start-ready : {s : Settings} {b : ℕ} {lasts : List ℕ} (p : BitPlace) → s ≡ atStart → b ≡ baseOf s → lasts ≡ lastsOf (beats (s .tempo)) → Ready (record { settings = s; base = b; at = p; cells = 0 }) lasts
-start-ready p e f g = record { range = rw e range-start; based = f; tuned = g }
+pub start-ready : {s : Settings} {b k : ℕ} (p : BitPlace) → s ≡ atStart → b ≡ baseOf s → k ≡ paceOf (beats (s .tempo)) → Ready (record { settings = s; base = b; pace = k; at = p; cells = 0 })
+start-ready p e f g = record { range = rw e range-start; based = f; paced = g }
 
 pub start-range : {s : Settings} → s ≡ atStart → InRange s
 start-range e = rw e range-start
@@ -63,15 +63,9 @@ applied-base : (s : Settings) (e : ℕ) → kind e ≡ 4 → baseOf (applied s e
 unfolding applied
 applied-base s e h = rw h
 
--- a table that is ready has four numbers
-pub ready-four : {w : Walk} {lasts : List ℕ} → Ready w lasts → length lasts ≡ 4
-ready-four r = ap length (r .tuned)
-
-pub ready-same : {v w : Walk} {lasts lasts′ : List ℕ} → Ready v lasts → Ready w lasts′ → length lasts ≡ length lasts′
-ready-same r s = ready-four r ∙ sym (ready-four s)
-
-pub step-specifier : (n : ℕ) {w : Walk} {lasts : List ℕ} → Ready w lasts → n % 4 < length lasts
-step-specifier n r = omega (arith, ready-four r)
+-- no pace is longer than that of the slowest tempo
+pub step-pace : {w : Walk} → Ready w → w .pace ≤ 26214400001
+step-pace {w} r = rw (r .paced) (pace-most (beats (w .settings .tempo)) (slowest (w .settings .tempo) (omega (arith, r .range .tempo))))
 
 pub step-kind : (x : ℕ) → Instruction (entrySeen x) → x / 2 ^ 61 ≤ 5
 step-kind x i = omega (arith, seen-kind x, i .inTable .known)
@@ -104,6 +98,9 @@ module _ (x : ℕ) (h : x / 2 ^ 61 ≡ 1) where
       rw (← seen-note x h)
       (leb-true (durationOf (payload (entrySeen x))) 5 (both (leb (noteOf (payload (entrySeen x))) 12) (leb (durationOf (payload (entrySeen x))) 5) (rw note at (i .inTable .code)) .1))
 
+  pub step-duration : Instruction (entrySeen x) → x / 2 ^ 54 % 8 ≤ 5
+  step-duration i = rw (duration-seen x) (duration i)
+
   twelve : length (entryBits (entrySeen x)) ≡ 12
   unfolding width
   twelve = length-entryBits (entrySeen x) ∙ ap (λ (k : ℕ). 3 + width k) note
@@ -115,23 +112,24 @@ module _ (x : ℕ) (h : x / 2 ^ 61 ≡ 1) where
     pub step-second : (v : ℕ) → w .cells + 1 < length (set old (w .cells) v)
     step-second v = rw (length-set old (w .cells) v) (omega (arith, i .1, one-note))
 
-    pub step-note : {lasts : List ℕ} → Ready w lasts
+    pub step-note : {u v : ℕ} → Ready w → u ≡ units (x / 2 ^ 54 % 8) (x / 2 ^ 52 % 4) → v ≡ u * w .pace / 2 ^ 20
         → Advanced (w .cells) (step (w .settings) (entrySeen x)) (w .at .0 + length (entryBits (entrySeen x))) old
-        (set (set old (w .cells) (x / 2 ^ 57 % 16 * 1024 + w .base)) (w .cells + 1) (getD lasts (x / 2 ^ 52 % 4) 0 / 2 ^ (x / 2 ^ 54 % 8))) lasts
-        (record { settings = w .settings; base = w .base; at = place (w .at .0 + 12); cells = w .cells + 2 })
+        (set (set old (w .cells) (x / 2 ^ 57 % 16 * 1024 + w .base)) (w .cells + 1) v)
+        (record { settings = w .settings; base = w .base; pace = w .pace; at = place (w .at .0 + 12); cells = w .cells + 2 })
     unfolding step sounded
-    step-note {lasts} r =
+    step-note {u} {v} r f g =
         let b = beats (w .settings .tempo) in
         let first : noteOf (noteSeen x) * 1024 + w .base ≡ packed (sounded (w .settings) (payload (entrySeen x))) = omega (arith, r .based, seen-note x h) in
-        let second : getD lasts (specifierOf (noteSeen x)) 0 / 2 ^ durationOf (noteSeen x) ≡ sounded (w .settings) (payload (entrySeen x)) .microseconds =
-        ap (λ (l : List ℕ). getD l (specifierOf (noteSeen x)) 0 / 2 ^ durationOf (noteSeen x)) (r .tuned) ∙ lasts-exact (durationOf (noteSeen x)) (specifierOf (noteSeen x)) b (duration (i .0)) (omega arith)
+        let second : v ≡ sounded (w .settings) (payload (entrySeen x)) .microseconds =
+        g ∙ ap₂ (λ (y z : ℕ). y * z / 2 ^ 20) (f ∙ ap₂ units (duration-seen x) (specifier-seen x)) (r .paced)
+        ∙ pace-lasts (durationOf (noteSeen x)) (specifierOf (noteSeen x)) (w .settings .tempo) (r .range .tempo)
         ∙ ap (λ (y : ℕ). microseconds (units (durationOf y) (specifierOf y)) b) (sym (seen-note x h)) in
         record {
           settings = sym (applied-note (w .settings) (entrySeen x) note);
-          ready = record { range = r .range; based = r .based; tuned = r .tuned };
+          ready = record { range = r .range; based = r .based; paced = r .paced };
           place = ap (λ (n : ℕ). w .at .0 + n) (sym twelve);
           cells = rw (eq-eqb (kind (entrySeen x)) 1 note) refl;
-          list = rw (pitch-seen x, duration-seen x, specifier-seen x, eq-eqb (kind (entrySeen x)) 1 note, first, second, add-one (w .cells)) refl;
+          list = rw (pitch-seen x, eq-eqb (kind (entrySeen x)) 1 note, first, second, add-one (w .cells)) refl;
         }
 
 -- any other
@@ -147,7 +145,7 @@ step-cast x b = record { fits = omega (arith, seen-small x b) }
 pub step-sum : (x : ℕ) {n : ℕ} → n ≤ 14 → Instruction (entrySeen x) → Fits w32 (x / 2 ^ 61 * 65536 + restSeen x n)
 step-sum x b i = record { fits = omega (arith, seen-small x b, step-kind x i) }
 
-module _ {w : Walk} (x : ℕ) {n : ℕ} {s : Settings} (after : s ≡ applied (w .settings) (x / 2 ^ 61 * 65536 + restSeen x n)) (b : (n ≡ width (x / 2 ^ 61)) × (n ≤ 14)) (i : Instruction (entrySeen x)) {lasts : List ℕ} (r : Ready w lasts) where
+module _ {w : Walk} (x : ℕ) {n : ℕ} {s : Settings} (after : s ≡ applied (w .settings) (x / 2 ^ 61 * 65536 + restSeen x n)) (b : (n ≡ width (x / 2 ^ 61)) × (n ≤ 14)) (i : Instruction (entrySeen x)) (r : Ready w) where
   same : s ≡ applied (w .settings) (entrySeen x)
   same = after ∙ ap (applied (w .settings)) (seen-entry x b)
 
@@ -158,25 +156,25 @@ module _ {w : Walk} (x : ℕ) {n : ℕ} {s : Settings} (after : s ≡ applied (w
   step-slow = step-range .tempo
 
   module _ (h : x / 2 ^ 61 ≡ 1 → ⊥) (old : List ℕ) where
-    moved : {c : ℕ} {lasts′ : List ℕ} → c ≡ baseOf s → lasts′ ≡ lastsOf (beats (s .tempo))
-        → Advanced (w .cells) (step (w .settings) (entrySeen x)) (w .at .0 + length (entryBits (entrySeen x))) old old lasts′ (record { settings = s; base = c; at = place (w .at .0 + 3 + n); cells = w .cells })
+    moved : {c k : ℕ} → c ≡ baseOf s → k ≡ paceOf (beats (s .tempo))
+        → Advanced (w .cells) (step (w .settings) (entrySeen x)) (w .at .0 + length (entryBits (entrySeen x))) old old (record { settings = s; base = c; pace = k; at = place (w .at .0 + 3 + n); cells = w .cells })
     unfolding step
     moved f g =
         let other : kind (entrySeen x) ≡ 1 → ⊥ = λ z. h (sym (seen-kind x) ∙ z) in
         record {
           settings = same;
-          ready = record { range = step-range; based = f; tuned = g };
+          ready = record { range = step-range; based = f; paced = g };
           place = omega (arith, length-entryBits (entrySeen x), ap width (seen-kind x), b .0);
           cells = rw (ne-eqb (kind (entrySeen x)) 1 other) (sym (add-zero (w .cells)));
           list = rw (ne-eqb (kind (entrySeen x)) 1 other) refl;
         }
 
-    pub step-tempo : {lasts′ : List ℕ} → x / 2 ^ 61 ≡ 4 → lasts′ ≡ lastsOf (beats (s .tempo))
-        → Advanced (w .cells) (step (w .settings) (entrySeen x)) (w .at .0 + length (entryBits (entrySeen x))) old old lasts′ (record { settings = s; base = w .base; at = place (w .at .0 + 3 + n); cells = w .cells })
+    pub step-tempo : {k : ℕ} → x / 2 ^ 61 ≡ 4 → k ≡ paceOf (beats (s .tempo))
+        → Advanced (w .cells) (step (w .settings) (entrySeen x)) (w .at .0 + length (entryBits (entrySeen x))) old old (record { settings = s; base = w .base; pace = k; at = place (w .at .0 + 3 + n); cells = w .cells })
     step-tempo z g = moved (r .based ∙ sym (ap baseOf same ∙ applied-base (w .settings) (entrySeen x) (seen-kind x ∙ z))) g
 
     pub step-other : {c : ℕ} → (x / 2 ^ 61 ≡ 4 → ⊥) → c ≡ baseOf s
-        → Advanced (w .cells) (step (w .settings) (entrySeen x)) (w .at .0 + length (entryBits (entrySeen x))) old old lasts (record { settings = s; base = c; at = place (w .at .0 + 3 + n); cells = w .cells })
-    step-other z f = moved f (r .tuned ∙ ap (λ (t : ℕ). lastsOf (beats t)) (sym (ap (λ (t : Settings). t .tempo) same ∙ applied-tempo (w .settings) (entrySeen x) (λ y. z (sym (seen-kind x) ∙ y)))))
+        → Advanced (w .cells) (step (w .settings) (entrySeen x)) (w .at .0 + length (entryBits (entrySeen x))) old old (record { settings = s; base = c; pace = w .pace; at = place (w .at .0 + 3 + n); cells = w .cells })
+    step-other z f = moved f (r .paced ∙ ap (λ (t : ℕ). paceOf (beats t)) (sym (ap (λ (t : Settings). t .tempo) same ∙ applied-tempo (w .settings) (entrySeen x) (λ y. z (sym (seen-kind x) ∙ y)))))
 
-pub ruleset steps = (ready-four, ready-same, step-specifier, step-kind, step-first, step-second, step-note, step-shift, step-cast, step-sum, step-range, step-slow, step-tempo, step-other)
+pub ruleset steps = (units-short, step-pace, step-kind, step-duration, step-first, step-second, step-note, step-shift, step-cast, step-sum, step-range, step-slow, step-tempo, step-other)

@@ -25,7 +25,6 @@ use Rattle.list_fill.specs.Filling.{entrySeen, Ready, Advanced}
 use Rattle.tone_elements.specs.Standing.{bodyIn, behindIn, BodyAt}
 use Rattle.list_rules.proofs.Packing.{length-numbers, numbers-append}
 use Rattle.list_rules.proofs.Counts.{pass-count, passes-count}
-use Rattle.list_fill.proofs.Stepping.{ready-same}
 use Rattle.tone_elements.proofs.Seeing.{instruction-width}
 use Rattle.tone_elements.proofs.Steps.{onward-got, onward-made}
 use Rattle.tone_elements.proofs.Walks.{InSight, sight-begins, sight-near, sight-here, sight-next, body-more, notes-more}
@@ -39,11 +38,11 @@ sets-append l i (v ∷ a) b =
     let e : i + suc (length a) ≡ suc i + length a = omega arith in
     ap (λ (n : ℕ). sets (sets (set l i v) (suc i) a) n b) e ∙ sets-append (set l i v) (suc i) a b
 
-nothing-yet : (w : Walk) (old lasts : List ℕ) → Ready w lasts → Advanced (w .cells) (record { entries = []; after = w .settings }) (w .at .0) old old lasts w
-nothing-yet w old lasts h = record { settings = refl; ready = h; place = refl; cells = sym (add-zero (w .cells)); list = refl }
+nothing-yet : (w : Walk) (old : List ℕ) → Ready w → Advanced (w .cells) (record { entries = []; after = w .settings }) (w .at .0) old old w
+nothing-yet w old h = record { settings = refl; ready = h; place = refl; cells = sym (add-zero (w .cells)); list = refl }
 
 -- what is played next is written next
-pub and-then : {i : ℕ} {d f : Played} {q q′ : ℕ} {old mid new lasts lasts′ : List ℕ} {w w′ : Walk} → Advanced i d q old mid lasts w → Advanced (w .cells) f q′ mid new lasts′ w′ → Advanced i (ahead (d .entries) f) q′ old new lasts′ w′
+pub and-then : {i : ℕ} {d f : Played} {q q′ : ℕ} {old mid new : List ℕ} {w w′ : Walk} → Advanced i d q old mid w → Advanced (w .cells) f q′ mid new w′ → Advanced i (ahead (d .entries) f) q′ old new w′
 and-then {i} {d} {f} {old = old} {w = w} a b =
     let k = length-append (d .entries) (f .entries) in
     let n : i + length (numbers (d .entries)) ≡ w .cells = ap (λ (x : ℕ). i + x) (length-numbers (d .entries)) ∙ sym (a .cells) in
@@ -57,14 +56,14 @@ and-then {i} {d} {f} {old = old} {w = w} a b =
     }
 
 -- the list keeps its length
-pub advanced-long : {i : ℕ} {d : Played} {q : ℕ} {old new lasts : List ℕ} {w : Walk} → Advanced i d q old new lasts w → length new ≡ length old
+pub advanced-long : {i : ℕ} {d : Played} {q : ℕ} {old new : List ℕ} {w : Walk} → Advanced i d q old new w → length new ≡ length old
 advanced-long {i} {d} {old = old} a = ap length (a .list) ∙ length-sets old i (numbers (d .entries))
 
 ahead-twice : (a b : List Entry) (d : Played) → ahead a (ahead b d) ≡ ahead (a ++ b) d
 ahead-twice a b d = λ i. record { entries = sym (append-assoc a b (d .entries)) i; after = d .after }
 
 -- with nothing more to play
-all-played : {i : ℕ} {d f : Played} {q q′ : ℕ} {old new lasts : List ℕ} {w : Walk} → Advanced i d q old new lasts w → f ≡ ahead (d .entries) (record { entries = []; after = w .settings }) → q ≡ q′ → Advanced i f q′ old new lasts w
+all-played : {i : ℕ} {d f : Played} {q q′ : ℕ} {old new : List ℕ} {w : Walk} → Advanced i d q old new w → f ≡ ahead (d .entries) (record { entries = []; after = w .settings }) → q ≡ q′ → Advanced i f q′ old new w
 all-played {i} {d} {old = old} a e z =
     let n = append-nil (d .entries) in
     rw e (record {
@@ -75,7 +74,7 @@ all-played {i} {d} {old = old} a e z =
       list = a .list ∙ ap (λ (rs : List Entry). sets old i (numbers rs)) (sym n);
     })
 
-here-now : {i : ℕ} {d : Played} {q : ℕ} {old new lasts : List ℕ} {w : Walk} → Advanced i d q old new lasts w → Advanced i d (w .at .0) old new lasts w
+here-now : {i : ℕ} {d : Played} {q : ℕ} {old new : List ℕ} {w : Walk} → Advanced i d q old new w → Advanced i d (w .at .0) old new w
 here-now a = record { settings = a .settings; ready = a .ready; place = refl; cells = a .cells; list = a .list }
 
 -- ---- the instructions of a body
@@ -125,23 +124,23 @@ pass-append s (e ∷ a) b =
 -- ---- one pass
 
 -- with `left` instructions to come at the walk's place, of the body b that began behind the first i cells with the settings s
-pub record PassWalk (m : List ℕ) (s : Settings) (b : List ℕ) (i q : ℕ) (old new lasts : List ℕ) (w : Walk) (left : ℕ) : Type 0 where
+pub record PassWalk (m : List ℕ) (s : Settings) (b : List ℕ) (i q : ℕ) (old new : List ℕ) (w : Walk) (left : ℕ) : Type 0 where
   pub done : Played
   pub others : List ℕ
   pub stands : BodyAt m (w .at .0) left others q
-  pub advanced : Advanced i done (w .at .0) old new lasts w
+  pub advanced : Advanced i done (w .at .0) old new w
   pub goes : pass s b ≡ ahead (done .entries) (pass (w .settings) others)
   pub room : i + 2 * notes b ≤ length old
 
-begins : {m : List ℕ} {b : List ℕ} {q n : ℕ} {old lasts : List ℕ} (w : Walk) → Ready w lasts → BodyAt m (w .at .0) n b q → w .cells + 2 * notes b ≤ length old
-    → PassWalk m (w .settings) b (w .cells) q old old lasts w n
-begins {b = b} {old = old} {lasts} w r h k = record { done = record { entries = []; after = w .settings }; others = b; stands = h; advanced = nothing-yet w old lasts r; goes = refl; room = k }
+begins : {m : List ℕ} {b : List ℕ} {q n : ℕ} {old : List ℕ} (w : Walk) → Ready w → BodyAt m (w .at .0) n b q → w .cells + 2 * notes b ≤ length old
+    → PassWalk m (w .settings) b (w .cells) q old old w n
+begins {b = b} {old = old} w r h k = record { done = record { entries = []; after = w .settings }; others = b; stands = h; advanced = nothing-yet w old r; goes = refl; room = k }
 
-pub pass-begins : {m : List ℕ} {b : List ℕ} {q n : ℕ} {old lasts : List ℕ} (w : Walk) (from : BitPlace) → Ready w lasts → BodyAt m (from .0) n b q → w .cells + 2 * notes b ≤ length old
-    → PassWalk m (w .settings) b (w .cells) q old old lasts (record { settings = w .settings; base = w .base; at = from; cells = w .cells }) n
-pass-begins w from r h k = begins (record { settings = w .settings; base = w .base; at = from; cells = w .cells }) (record { range = r .range; based = r .based; tuned = r .tuned }) h k
+pub pass-begins : {m : List ℕ} {b : List ℕ} {q n : ℕ} {old : List ℕ} (w : Walk) (from : BitPlace) → Ready w → BodyAt m (from .0) n b q → w .cells + 2 * notes b ≤ length old
+    → PassWalk m (w .settings) b (w .cells) q old old (record { settings = w .settings; base = w .base; pace = w .pace; at = from; cells = w .cells }) n
+pass-begins w from r h k = begins (record { settings = w .settings; base = w .base; pace = w .pace; at = from; cells = w .cells }) (record { range = r .range; based = r .based; paced = r .paced }) h k
 
-module _ {m : List ℕ} {s : Settings} {b : List ℕ} {i q : ℕ} {old new lasts : List ℕ} {w : Walk} {left : ℕ} (v : PassWalk m s b i q old new lasts w left) where
+module _ {m : List ℕ} {s : Settings} {b : List ℕ} {i q : ℕ} {old new : List ℕ} {w : Walk} {left : ℕ} (v : PassWalk m s b i q old new w left) where
   pub pass-long : length new ≡ length old
   pass-long = advanced-long (v .advanced)
 
@@ -154,8 +153,8 @@ module _ {m : List ℕ} {s : Settings} {b : List ℕ} {i q : ℕ} {old new lasts
       omega (arith, v .advanced .cells, v .room, pass-long)
 
   -- what is played next, and what is left then
-  go-on : {d : Played} {p n : ℕ} {rest : List ℕ} {new′ lasts′ : List ℕ} {w′ : Walk} → Advanced (w .cells) d p new new′ lasts′ w′ → pass (w .settings) (v .others) ≡ ahead (d .entries) (pass (d .after) rest)
-      → bodyDue n (bitsOf m) p ≡ got rest q → p ≤ length (bitsOf m) → n ≤ 255 → PassWalk m s b i q old new′ lasts′ w′ n
+  go-on : {d : Played} {p n : ℕ} {rest : List ℕ} {new′ : List ℕ} {w′ : Walk} → Advanced (w .cells) d p new new′ w′ → pass (w .settings) (v .others) ≡ ahead (d .entries) (pass (d .after) rest)
+      → bodyDue n (bitsOf m) p ≡ got rest q → p ≤ length (bitsOf m) → n ≤ 255 → PassWalk m s b i q old new′ w′ n
   go-on {d} {rest = rest} a e more inside short = record {
     done = ahead (v .done .entries) d;
     others = rest;
@@ -187,14 +186,14 @@ module _ {m : List ℕ} {s : Settings} {b : List ℕ} {i q : ℕ} {old new lasts
     pub pass-fits : w .cells + 2 * notes (bodyIn m (w .at .0) k) ≤ length new
     pass-fits = omega (arith, left-room, ap notes (split .body) ∙ notes-more (split .front) (split .others), ap notes front)
 
-    pub pass-on : {new′ lasts′ : List ℕ} {w′ : Walk} → Advanced (w .cells) (pass (w .settings) (bodyIn m (w .at .0) k)) (behindIn m (w .at .0) k) new new′ lasts′ w′
-        → PassWalk m s b i q old new′ lasts′ w′ (left - k)
+    pub pass-on : {new′ : List ℕ} {w′ : Walk} → Advanced (w .cells) (pass (w .settings) (bodyIn m (w .at .0) k)) (behindIn m (w .at .0) k) new new′ w′
+        → PassWalk m s b i q old new′ w′ (left - k)
     pass-on a =
         let read = body-exact k .sound (bitsOf m) (w .at .0) (rw (length-bitsOf m) (v .stands .within .inside)) (split .first) in
         go-on {rest = split .others} a (ap (pass (w .settings)) (split .body) ∙ pass-append (w .settings) (split .front) (split .others) ∙ ap (λ (x : List ℕ). ahead (pass (w .settings) x .entries) (pass (pass (w .settings) x .after) (split .others))) (sym front))
         (rw behind (split .more)) (rw behind (read .inside)) (omega (arith, v .stands .short))
 
-pub pass-done : {m : List ℕ} {s : Settings} {b : List ℕ} {i q : ℕ} {old new lasts : List ℕ} {w : Walk} {left : ℕ} → PassWalk m s b i q old new lasts w left → left ≤ 0 → Advanced i (pass s b) q old new lasts w
+pub pass-done : {m : List ℕ} {s : Settings} {b : List ℕ} {i q : ℕ} {old new : List ℕ} {w : Walk} {left : ℕ} → PassWalk m s b i q old new w left → left ≤ 0 → Advanced i (pass s b) q old new w
 unfolding bodyDue
 pass-done {m} {s} {b} {q = q} {w = w} {left} v h =
     let z : left ≡ 0 = omega arith in
@@ -203,21 +202,21 @@ pass-done {m} {s} {b} {q = q} {w = w} {left} v h =
     let e₂ : w .at .0 ≡ q = cc in
     all-played (v .advanced) (v .goes ∙ ap (λ (x : List ℕ). ahead (v .done .entries) (pass (w .settings) x)) e₁) e₂
 
-pub ruleset passings = (ready-same, pass-begins, pass-long, pass-few, pass-fits, pass-on, pass-done)
+pub ruleset passings = (pass-begins, pass-long, pass-few, pass-fits, pass-on, pass-done)
 
 -- ---- some instructions in one sight
 
 -- the same within one sight, that was taken at a place
-pub record FewWalk (m : List ℕ) (s : Settings) (b : List ℕ) (at i q : ℕ) (old new lasts : List ℕ) (w : Walk) (left : ℕ) : Type 0 where
-  pub walked : PassWalk m s b i q old new lasts w left
+pub record FewWalk (m : List ℕ) (s : Settings) (b : List ℕ) (at i q : ℕ) (old new : List ℕ) (w : Walk) (left : ℕ) : Type 0 where
+  pub walked : PassWalk m s b i q old new w left
   pub seen : InSight at (w .at .0) left
 
-pub few-begins : {m : List ℕ} {b : List ℕ} {q n : ℕ} {old lasts : List ℕ} (w : Walk) → Ready w lasts × (n ≤ 4) → BodyAt m (w .at .0) n b q → w .cells + 2 * notes b ≤ length old
-    → FewWalk m (w .settings) b (w .at .0) (w .cells) q old old lasts w n
+pub few-begins : {m : List ℕ} {b : List ℕ} {q n : ℕ} {old : List ℕ} (w : Walk) → Ready w × (n ≤ 4) → BodyAt m (w .at .0) n b q → w .cells + 2 * notes b ≤ length old
+    → FewWalk m (w .settings) b (w .at .0) (w .cells) q old old w n
 few-begins {n = n} w r h k = record { walked = begins w (r .0) h k; seen = sight-begins (w .at .0) n (r .1) }
 
-module _ {m : List ℕ} {s : Settings} {b : List ℕ} {at i q : ℕ} {old new lasts : List ℕ} {w : Walk} {left : ℕ} (f : FewWalk m s b at i q old new lasts w left) where
-  pub few-ready : Ready w lasts
+module _ {m : List ℕ} {s : Settings} {b : List ℕ} {at i q : ℕ} {old new : List ℕ} {w : Walk} {left : ℕ} (f : FewWalk m s b at i q old new w left) where
+  pub few-ready : Ready w
   few-ready = f .walked .advanced .ready
 
   pub few-long : length new ≡ length old
@@ -257,30 +256,31 @@ module _ {m : List ℕ} {s : Settings} {b : List ℕ} {at i q : ℕ} {old new la
       pub few-room : w .cells + 2 * noteIn (entrySeen y) ≤ length new
       few-room = omega (arith, left-room (f .walked), ap notes (head .body), ap noteIn same)
 
-      pub few-on : {new′ lasts′ : List ℕ} {w′ : Walk} → Advanced (w .cells) (step (w .settings) (entrySeen y)) (w .at .0 + length (entryBits (entrySeen y))) new new′ lasts′ w′
-          → FewWalk m s b at i q old new′ lasts′ w′ (left - 1)
+      pub few-on : {new′ : List ℕ} {w′ : Walk} → Advanced (w .cells) (step (w .settings) (entrySeen y)) (w .at .0 + length (entryBits (entrySeen y))) new new′ w′
+          → FewWalk m s b at i q old new′ w′ (left - 1)
       unfolding step
-      few-on {new′} {lasts′} {w′} a =
+      few-on {new′} {w′} a =
           let z : w .at .0 + length (entryBits (entrySeen y)) ≡ head .behind = ap (λ (c : ℕ). w .at .0 + length (entryBits c)) same ∙ sym (taken .end) in
-          let d : Advanced (w .cells) (step (w .settings) (head .entry)) (head .behind) new new′ lasts′ w′ =
-          subst (λ (c : ℕ). Advanced (w .cells) (step (w .settings) c) (head .behind) new new′ lasts′ w′) same (subst (λ (p : ℕ). Advanced (w .cells) (step (w .settings) (entrySeen y)) p new new′ lasts′ w′) z a) in
+          let d : Advanced (w .cells) (step (w .settings) (head .entry)) (head .behind) new new′ w′ =
+          subst (λ (c : ℕ). Advanced (w .cells) (step (w .settings) c) (head .behind) new new′ w′) same (subst (λ (p : ℕ). Advanced (w .cells) (step (w .settings) (entrySeen y)) p new new′ w′) z a) in
           record {
             walked = go-on (f .walked) d (ap (pass (w .settings)) (head .body)) (head .more) (taken .inside) (omega (arith, f .walked .stands .short));
             seen = rw (d .place) (sight-next (f .seen) h m (f .walked .stands .within .inside) (head .first));
           }
 
-  pub few-done : left ≤ 0 → Advanced i (pass s b) q old new lasts w
+  pub few-done : left ≤ 0 → Advanced i (pass s b) q old new w
   few-done h = pass-done (f .walked) h
 
-pub ruleset seeings = (ready-same, few-begins, few-ready, few-long, few-back, few-near, few-place, few-instruction, few-room, few-on, few-done)
+pub ruleset seeings = (few-begins, few-ready, few-long, few-back, few-near, few-place, few-instruction, few-room, few-on, few-done)
 
 -- ---- so many passes
 
 -- with `left` of so many passes to come, of a body b that began behind the first i cells with the settings s
-pub record TimesWalk (s : Settings) (b : List ℕ) (i q : ℕ) (old new lasts : List ℕ) (w : Walk) (times left : ℕ) : Type 0 where
+pub record TimesWalk (s : Settings) (b : List ℕ) (i q : ℕ) (old new : List ℕ) (w : Walk) (times left : ℕ) : Type 0 where
   pub done : Played
-  pub advanced : Advanced i done q old new lasts w
+  pub advanced : Advanced i done (w .at .0) old new w
   pub goes : passes times s b ≡ ahead (done .entries) (passes left (w .settings) b)
+  pub behind : left < times → w .at .0 ≡ q
   pub room : i + 2 * (notes b * times) ≤ length old
 
 one-pass-more : (times : ℕ) (s : Settings) (b : List ℕ) → 1 ≤ times → passes times s b ≡ ahead (pass s b .entries) (passes (times - 1) (pass s b .after) b)
@@ -289,22 +289,22 @@ one-pass-more times s b h = let e : times ≡ suc (times - 1) = omega arith in a
 one-time-more : (k times : ℕ) → 1 ≤ times → k * times ≡ k + k * (times - 1)
 one-time-more k times h = let e : times ≡ suc (times - 1) = omega arith in ap (λ (n : ℕ). k * n) e ∙ mul-suc k (times - 1) ∙ omega arith
 
--- a pass fits where so many do
-pub times-fit : (k i n : ℕ) {times : ℕ} → (1 ≤ times) × (times ≤ 15) × (i + 2 * (k * times) ≤ n) → i + 2 * k ≤ n
-times-fit k i n {times} h = omega (arith, one-time-more k times (h .0), h .2)
-
--- the first pass
-pub times-begins : (s : Settings) (b : List ℕ) {i q : ℕ} {old new lasts : List ℕ} {w : Walk} {times : ℕ} → Advanced i (pass s b) q old new lasts w → (1 ≤ times) × (times ≤ 15) × (i + 2 * (notes b * times) ≤ length old)
-    → TimesWalk (w .settings) b (w .cells) q new new lasts w (times - 1) (times - 1)
-times-begins s b {i} {q} {old} {new} {lasts} {w} {times} a h = record {
+-- before the first pass
+pub times-begin : (w : Walk) (b : List ℕ) (q : ℕ) {old : List ℕ} {times : ℕ} → Ready w → (1 ≤ times) × (times ≤ 15) × (w .cells + 2 * (notes b * times) ≤ length old)
+    → TimesWalk (w .settings) b (w .cells) q old old w times times
+times-begin w b q {old} r h = record {
   done = record { entries = []; after = w .settings };
-  advanced = record { settings = refl; ready = a .ready; place = a .place; cells = sym (add-zero (w .cells)); list = refl };
+  advanced = nothing-yet w old r;
   goes = refl;
-  room = omega (arith, one-time-more (notes b) times (h .0), h .2, a .cells, pass-count s b, advanced-long a);
+  behind = λ l. absurd (omega arith);
+  room = h .2;
 }
 
-module _ {s : Settings} {b : List ℕ} {i q : ℕ} {old new lasts : List ℕ} {w : Walk} {times left : ℕ} (v : TimesWalk s b i q old new lasts w times left) where
-  times-long : length new ≡ length old
+module _ {s : Settings} {b : List ℕ} {i q : ℕ} {old new : List ℕ} {w : Walk} {times left : ℕ} (v : TimesWalk s b i q old new w times left) where
+  pub times-ready : Ready w
+  times-ready = v .advanced .ready
+
+  pub times-long : length new ≡ length old
   times-long = advanced-long (v .advanced)
 
   module _ (h : 0 < left) where
@@ -315,26 +315,21 @@ module _ {s : Settings} {b : List ℕ} {i q : ℕ} {old new lasts : List ℕ} {w
         ∙ ap (λ (x : ℕ). length (v .done .entries) + x) (passes-count left (w .settings) b) in
         omega (arith, one-time-more (notes b) left h, v .advanced .cells, v .room, times-long)
 
-    pub times-on : {new′ lasts′ : List ℕ} {w′ : Walk} → Advanced (w .cells) (pass (w .settings) b) q new new′ lasts′ w′ → TimesWalk s b i q old new′ lasts′ w′ times (left - 1)
+    pub times-on : {new′ : List ℕ} {w′ : Walk} → Advanced (w .cells) (pass (w .settings) b) q new new′ w′ → TimesWalk s b i q old new′ w′ times (left - 1)
     times-on a = record {
       done = ahead (v .done .entries) (pass (w .settings) b);
-      advanced = and-then (v .advanced) a;
+      advanced = here-now (and-then (v .advanced) a);
       goes = v .goes ∙ ap (ahead (v .done .entries)) (one-pass-more left (w .settings) b h)
           ∙ ahead-twice (v .done .entries) (pass (w .settings) b .entries) (passes (left - 1) (pass (w .settings) b .after) b)
           ∙ ap (λ (r : Settings). ahead (v .done .entries ++ pass (w .settings) b .entries) (passes (left - 1) r b)) (sym (a .settings));
+      behind = λ l. a .place;
       room = v .room;
     }
 
--- the list keeps its length
-pub times-same : {s′ : Settings} {d : Played} {b : List ℕ} {i i′ q q′ : ℕ} {old mid new lasts lasts′ : List ℕ} {w w′ : Walk} {times left : ℕ} → Advanced i d q old mid lasts w → TimesWalk s′ b i′ q′ mid new lasts′ w′ times left → length new ≡ length old
-times-same a v = times-long v ∙ advanced-long a
+  -- there is one pass at least, so the walk is behind the body
+  pub times-done : 1 ≤ times → left ≤ 0 → Advanced i (passes times s b) q old new w
+  times-done some l =
+      let z : left ≡ 0 = omega arith in
+      all-played (v .advanced) (v .goes ∙ ap (λ (n : ℕ). ahead (v .done .entries) (passes n (w .settings) b)) z) (v .behind (omega arith))
 
-pub times-done : (s : Settings) (b : List ℕ) {i q : ℕ} {old mid new lasts lasts′ : List ℕ} {w w′ : Walk} {times left : ℕ} → 1 ≤ times → Advanced i (pass s b) q old mid lasts w
-    → TimesWalk (w .settings) b (w .cells) q mid new lasts′ w′ (times - 1) left → left ≤ 0 → Advanced i (passes times s b) q old new lasts′ w′
-times-done s b {i} {q} {old} {mid} {new} {lasts} {lasts′} {w} {w′} {times} {left} h a v l =
-    let z : left ≡ 0 = omega arith in
-    let e = v .goes ∙ ap (λ (n : ℕ). ahead (v .done .entries) (passes n (w′ .settings) b)) z in
-    let rest = all-played (v .advanced) e refl in
-    subst (λ (d : Played). Advanced i d q old new lasts′ w′) (sym (one-pass-more times s b h ∙ ap (λ (r : Settings). ahead (pass s b .entries) (passes (times - 1) r b)) (sym (a .settings)))) (and-then a rest)
-
-pub ruleset timings = (ready-same, times-fit, times-begins, times-room, times-on, times-same, times-done)
+pub ruleset timings = (times-begin, times-ready, times-long, times-room, times-on, times-done)

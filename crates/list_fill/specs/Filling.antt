@@ -18,7 +18,7 @@ use Rattle.list_fill.specs.declared.Part.the-variants.{Known}
 use Rattle.list_fill.specs.declared.Walk.{Walk}
 use Rattle.list_count.specs.Parts.{soundingPart}
 use Rattle.list_rules.specs.Duration.{beats}
-use Rattle.list_rules.specs.Tempo.{lastsOf, baseOf}
+use Rattle.list_rules.specs.Tempo.{paceOf, baseOf}
 use Rattle.list_rules.specs.Sounding.{numbers}
 use Rattle.list_rules.specs.Ranges.{InRange}
 use Rattle.list_rules.specs.Playing.{Played}
@@ -52,16 +52,16 @@ behindPattern h next reached = pick (eqb (specifier h) 0) next reached
 unfoldable pub entrySeen : ℕ → ℕ
 entrySeen x = let w = width (x / 2 ^ 61) in entry (x / 2 ^ 61) (x / 2 ^ (61 - w) % 2 ^ w)
 
--- the settings are in range, the base is theirs, and the table is that of their tempo
-pub record Ready (w : Walk) (lasts : List ℕ) : Type 0 where
+-- the settings are in range, the base is theirs, and the pace is that of their tempo
+pub record Ready (w : Walk) : Type 0 where
   pub range : InRange (w .settings)
   pub based : w .base ≡ baseOf (w .settings)
-  pub tuned : lasts ≡ lastsOf (beats (w .settings .tempo))
+  pub paced : w .pace ≡ paceOf (beats (w .settings .tempo))
 
--- behind the first i cells d was played: its entries are written, the next place is q, and the table is that of its tempo
-pub record Advanced (i : ℕ) (d : Played) (q : ℕ) (old new lasts : List ℕ) (r : Walk) : Type 0 where
+-- behind the first i cells d was played: its entries are written, and the next place is q
+pub record Advanced (i : ℕ) (d : Played) (q : ℕ) (old new : List ℕ) (r : Walk) : Type 0 where
   pub settings : r .settings ≡ d .after
-  pub ready : Ready r lasts
+  pub ready : Ready r
   pub place : r .at .0 ≡ q
   pub cells : r .cells ≡ i + 2 * length (d .entries)
   pub list : new ≡ sets old i (numbers (d .entries))

@@ -20,27 +20,26 @@ pub enum Part {
     Known { at: BitPlace, count: u32 },
 }
 
-// How far filling has come: the settings, what they put in an entry's first number, the place in the message, and the
-// cells filled. Beside it goes a table: how long a full note sounds at the tempo set, for each specifier. Each duration
-// code halves it.
+// How far filling has come: the settings, what they put in an entry's first number, the pace of their tempo, the place in
+// the message, and the cells filled.
 pub struct Walk {
     pub settings: Settings,
     pub base: u32,
+    pub pace: u64,
     pub at: BitPlace,
     pub cells: usize,
 }
 
 impl Walk {
     // Nothing is filled, and the settings are those of the start.
-    fn start(at: BitPlace, lasts: &mut [u32]) -> Walk
-        requires { ⌜ length (now lasts) ≡ 4 ⌝ }
-        ensures { λ r. ⌜ Ready r (now (lasts .exit)) × (r .settings ≡ atStart) × (r .at ≡ at) × (r .cells ≡ 0) ⌝ }
+    fn start(at: BitPlace) -> Walk
+        ensures { λ r. ⌜ Ready r × (r .settings ≡ atStart) × (r .at ≡ at) × (r .cells ≡ 0) ⌝ }
     {
         let settings = Settings::at_start();
-        list_rules::set_lasts(settings.tempo, lasts);
         Walk {
             settings,
             base: list_rules::base(settings),
+            pace: list_rules::pace(settings.tempo),
             at,
             cells: 0,
         }
@@ -49,16 +48,17 @@ impl Walk {
     // One instruction, that on top of a sight: a note or pause adds its entry, any other changes the settings. Most are
     // notes: told first, the next place does not wait for a width. The walk is copied and its fields are changed, since a
     // new one laid out for each return is slower.
-    fn step(self, x: u64, list: &mut [u32], lasts: &mut [u32]) -> Walk
-        requires { ⌜ Ready self (now lasts) × (self .at .0 < 2 ^ 63) ⌝ }
+    fn step(self, x: u64, list: &mut [u32]) -> Walk
+        requires { ⌜ Ready self × (self .at .0 < 2 ^ 63) ⌝ }
         requires { ⌜ Instruction (entrySeen x) × (self .cells + 2 * noteIn (entrySeen x) ≤ length (now list)) ⌝ }
-        ensures { λ r. ⌜ Advanced (self .cells) (step (self .settings) (entrySeen x)) (self .at .0 + length (entryBits (entrySeen x))) (now (list .entry)) (now (list .exit)) (now (lasts .exit)) r ⌝ }
+        ensures { λ r. ⌜ Advanced (self .cells) (step (self .settings) (entrySeen x)) (self .at .0 + length (entryBits (entrySeen x))) (now (list .entry)) (now (list .exit)) r ⌝ }
     {
         let mut walk = self;
         let cells = self.cells;
         if x >> 61 == 1 {
             list[cells] = ((x >> 57) % 16) as u32 * 1024 + self.base;
-            list[cells + 1] = lasts[((x >> 52) % 4) as usize] >> ((x >> 54) % 8) as u32;
+            let units = list_rules::units(((x >> 54) % 8) as u32, ((x >> 52) % 4) as u32);
+            list[cells + 1] = list_rules::microseconds(units, self.pace);
             let next = BitPlace(self.at.0 + 12);
             walk.at = next;
             walk.cells = cells + 2;
@@ -72,7 +72,7 @@ impl Walk {
         walk.at = next;
         walk.settings = after;
         if kind == 4 {
-            list_rules::set_lasts(after.tempo, lasts);
+            walk.pace = list_rules::pace(after.tempo);
             return walk;
         }
         walk.base = list_rules::base(after);
@@ -82,11 +82,11 @@ impl Walk {
 
 // Fills in up to four instructions that stand at the walk's place. Each has at most 12 bits, so one sight of 57 holds
 // them all.
-fn fill_few(msg: &[u8], n: u32, list: &mut [u32], lasts: &mut [u32], w: Walk) -> Walk
-    requires { ⌜ Ready w (now lasts) × (n ≤ 4) ⌝ }
+fn fill_few(msg: &[u8], n: u32, list: &mut [u32], w: Walk) -> Walk
+    requires { ⌜ Ready w × (n ≤ 4) ⌝ }
     requires { ⌜ BodyAt (now msg) (w .at .0) n (bodyIn (now msg) (w .at .0) n) (behindIn (now msg) (w .at .0) n) ⌝ }
     requires { ⌜ w .cells + 2 * notesOf (bodyIn (now msg) (w .at .0) n) ≤ length (now list) ⌝ }
-    ensures { λ r. ⌜ Advanced (w .cells) (pass (w .settings) (bodyIn (now (msg .entry)) (w .at .0) n)) (behindIn (now (msg .entry)) (w .at .0) n) (now (list .entry)) (now (list .exit)) (now (lasts .exit)) r ⌝ }
+    ensures { λ r. ⌜ Advanced (w .cells) (pass (w .settings) (bodyIn (now (msg .entry)) (w .at .0) n)) (behindIn (now (msg .entry)) (w .at .0) n) (now (list .entry)) (now (list .exit)) r ⌝ }
 {
     let at = w.at;
     let s = bits::sight(msg, at);
@@ -94,56 +94,41 @@ fn fill_few(msg: &[u8], n: u32, list: &mut [u32], lasts: &mut [u32], w: Walk) ->
     let mut left = n;
     while 0 < left {
         let here = walk.at.0;
-        walk = walk.step(s << (here - at.0) as u32, list, lasts);
+        walk = walk.step(s << (here - at.0) as u32, list);
         left -= 1;
     }
     walk
 }
 
 // Fills in one pass of the `n` instructions that stand at a place.
-fn fill_pass(
-    msg: &[u8],
-    from: BitPlace,
-    n: u32,
-    list: &mut [u32],
-    lasts: &mut [u32],
-    w: Walk,
-) -> Walk
-    requires { ⌜ Ready w (now lasts) ⌝ }
+fn fill_pass(msg: &[u8], from: BitPlace, n: u32, list: &mut [u32], w: Walk) -> Walk
+    requires { ⌜ Ready w ⌝ }
     requires { ⌜ BodyAt (now msg) (from .0) n (bodyIn (now msg) (from .0) n) (behindIn (now msg) (from .0) n) ⌝ }
     requires { ⌜ w .cells + 2 * notesOf (bodyIn (now msg) (from .0) n) ≤ length (now list) ⌝ }
-    ensures { λ r. ⌜ Advanced (w .cells) (pass (w .settings) (bodyIn (now (msg .entry)) (from .0) n)) (behindIn (now (msg .entry)) (from .0) n) (now (list .entry)) (now (list .exit)) (now (lasts .exit)) r ⌝ }
+    ensures { λ r. ⌜ Advanced (w .cells) (pass (w .settings) (bodyIn (now (msg .entry)) (from .0) n)) (behindIn (now (msg .entry)) (from .0) n) (now (list .entry)) (now (list .exit)) r ⌝ }
 {
     let mut walk = w;
     walk.at = from;
     let mut left = n;
     while 0 < left {
         let k = tone_elements::turn(left);
-        walk = fill_few(msg, k, list, lasts, walk);
+        walk = fill_few(msg, k, list, walk);
         left -= k;
     }
     walk
 }
 
 // Fills in so many passes of the `n` instructions that stand at a place. The settings carry on.
-fn fill_passes(
-    msg: &[u8],
-    from: BitPlace,
-    n: u32,
-    times: u32,
-    list: &mut [u32],
-    lasts: &mut [u32],
-    w: Walk,
-) -> Walk
-    requires { ⌜ Ready w (now lasts) ⌝ }
+fn fill_passes(msg: &[u8], from: BitPlace, n: u32, times: u32, list: &mut [u32], w: Walk) -> Walk
+    requires { ⌜ Ready w ⌝ }
     requires { ⌜ BodyAt (now msg) (from .0) n (bodyIn (now msg) (from .0) n) (behindIn (now msg) (from .0) n) ⌝ }
     requires { ⌜ (1 ≤ times) × (times ≤ 15) × (w .cells + 2 * (notesOf (bodyIn (now msg) (from .0) n) * times) ≤ length (now list)) ⌝ }
-    ensures { λ r. ⌜ Advanced (w .cells) (passes times (w .settings) (bodyIn (now (msg .entry)) (from .0) n)) (behindIn (now (msg .entry)) (from .0) n) (now (list .entry)) (now (list .exit)) (now (lasts .exit)) r ⌝ }
+    ensures { λ r. ⌜ Advanced (w .cells) (passes times (w .settings) (bodyIn (now (msg .entry)) (from .0) n)) (behindIn (now (msg .entry)) (from .0) n) (now (list .entry)) (now (list .exit)) r ⌝ }
 {
-    let mut walk = fill_pass(msg, from, n, list, lasts, w);
-    let mut left = times - 1;
+    let mut walk = w;
+    let mut left = times;
     while 0 < left {
-        walk = fill_pass(msg, from, n, list, lasts, walk);
+        walk = fill_pass(msg, from, n, list, walk);
         left -= 1;
     }
     walk
@@ -175,10 +160,9 @@ pub fn fill_list(msg: &[u8], at: BitPlace, n: u32, list: &mut [u32])
     requires { ⌜ 2 * entryCount noBodies (patternsIn (now msg) (at .0) n) ≤ length (now list) ⌝ }
     ensures { λ _. ⌜ now (list .exit) ≡ over (numbers (play atStart noBodies 0 (patternsIn (now (msg .entry)) (at .0) n) .entries)) (now (list .entry)) ⌝ }
 {
-    let mut lasts = [0u32; 4];
     let mut parts = [Part::Unknown; 4];
     let mut place = at;
-    let mut walk = Walk::start(at, &mut lasts);
+    let mut walk = Walk::start(at);
     let mut left = n;
     while 0 < left {
         let head = tone_elements::entry_at(msg, place);
@@ -192,15 +176,7 @@ pub fn fill_list(msg: &[u8], at: BitPlace, n: u32, list: &mut [u32])
                 return;
             }
             Part::Known { at: from, count } => {
-                walk = fill_passes(
-                    msg,
-                    from,
-                    count,
-                    list_count::passes_of(value),
-                    list,
-                    &mut lasts,
-                    walk,
-                );
+                walk = fill_passes(msg, from, count, list_count::passes_of(value), list, walk);
             }
         }
         if value == 15 {

@@ -1,19 +1,18 @@
 -- No duration is longer than 16.8 seconds, and units are whole.
-use Prim.Native.Nat.{ℕ, zero, suc, _+_, _-_, _*_, _/_, _%_, _^_, _≤_, _<_}
+use Prim.Native.Nat.{ℕ, _+_, _-_, _*_, _/_, _%_, _^_, _≤_, _<_}
 use native.Mathlib.Omega.{arith}
-use native.Mathlib.Nat.{eq-zero-or-pos, zero-add, add-zero, mul-add, add-mul, mul-assoc, mul-right-comm, mul-le-mul, lt-of-le-of-lt, mod-lt, div-zero, div-le-self, div-le-of-le-mul, div-eq-of-lt, div-lt-iff-lt-mul, div-add-mod', mul-add-div, mul-div-mul-right, div-div-eq-div-mul}
+use native.Mathlib.Nat.{eq-zero-or-pos, zero-add, add-zero, mul-add, add-mul, mul-assoc, mul-le-mul, lt-of-le-of-lt, mod-lt, div-zero, div-le-self, div-le-of-le-mul, div-eq-of-lt, div-lt-iff-lt-mul, div-add-mod', mul-add-div, mul-div-mul-right, div-div-eq-div-mul}
 use mathlib.Core.Path.{_≡_, refl, sym, ap, ap₂, _∙_}
 use mathlib.Core.Logic.{⊎-elim}
-use mathlib.Core.List.{List, [], _∷_}
-use lib.ListN.{length, getD, set, List·getD-eq-default}
-use lib.Pow.{pow-pos}
+use lib.ListN.{List·getD-eq-default}
 use lib.Dec.{leb, eqb, lit<}
 use mir.Val.{Fits}
 use mir.Syntax.{w32, w64}
 use borrow.Author.Tests.{leb-true}
 use Rattle.bits.proofs.Choice.{pick-elim}
+use Rattle.tone.specs.Table.{durationOf, specifierOf}
 use Rattle.list_rules.specs.Duration.{tempos, beats, plainUnits, units, microseconds}
-use Rattle.list_rules.specs.Tempo.{paceOf, lastsOf}
+use Rattle.list_rules.specs.Tempo.{paceOf}
 use Rattle.list_rules.proofs.Below.{at-each, same-each}
 
 -- ---- bounds
@@ -94,14 +93,16 @@ two-thirds-whole d h = same-each (λ k. 3 * units k 3) (λ k. 2 * plainUnits k) 
 
 -- ---- how the code gets there
 
--- the units of a full note under each specifier as sixteen bits of one number, halved by each duration code
-pub units-packed : (d s : ℕ) → d ≤ 5 → s ≤ 3 → 72060480293699968 / 2 ^ (16 * s) % 65536 / 2 ^ d ≡ units d s
-unfolding units
-units-packed d zero h k = same-each (λ n. 384 / 2 ^ n) (λ n. units n 0) 6 refl d (omega arith)
-units-packed d (suc zero) h k = same-each (λ n. 576 / 2 ^ n) (λ n. units n 1) 6 refl d (omega arith)
-units-packed d (suc (suc zero)) h k = same-each (λ n. 672 / 2 ^ n) (λ n. units n 2) 6 refl d (omega arith)
-units-packed d (suc (suc (suc zero))) h k = same-each (λ n. 256 / 2 ^ n) (λ n. units n 3) 6 refl d (omega arith)
-units-packed d (suc (suc (suc (suc s)))) h k = absurd (omega arith)
+-- an entry's number on the sheet is the last five bits of a note
+pub sheet-number : (p : ℕ) → durationOf p * 4 + specifierOf p ≡ p % 32
+sheet-number p = omega arith
+
+-- a number that is the rule's for entry k of the sheet is the rule's for each duration code and specifier with that entry
+pub on-sheet : (d s : ℕ) {k u : ℕ} → s ≤ 3 → d * 4 + s ≡ k → u ≡ units (k / 4) (k % 4) → u ≡ units d s
+on-sheet d s {k} h z e =
+    let q : k / 4 ≡ d = omega arith in
+    let r : k % 4 ≡ s = omega arith in
+    e ∙ ap₂ units q r
 
 -- the pace of the slowest tempo is the longest
 pub pace-most : (b : ℕ) → 25 ≤ b → paceOf b ≤ 26214400001
@@ -115,8 +116,8 @@ module _ {b tempo : ℕ} (e : b ≡ beats tempo) (h : tempo ≤ 31) where
   pub pace-fits : Fits w64 (655360000000 / b + 1)
   pace-fits = let p = pace-most b beats-least in record { fits = omega arith }
 
-  pub pace-told : (655360000000 / b + 1 ≡ paceOf (beats tempo)) × (655360000000 / b + 1 ≤ 26214400001)
-  pace-told = (ap paceOf e, pace-most b beats-least)
+pub units-short : (d s : ℕ) {u : ℕ} → u ≡ units d s → u ≤ 672
+units-short d s e = rw e (units-most d s)
 
 module _ {u k : ℕ} (h : (u ≤ 672) × (k ≤ 26214400001)) where
   product-most : u * k ≤ 17616076800672
@@ -147,52 +148,6 @@ pace-exact u b hu low high =
     ∙ sym (div-div-eq-div-mul (1048576 * (u * 625000) + u * r) 1048576 b)
     ∙ ap (λ (x : ℕ). x / b) (mul-add-div (lit< tt) (u * 625000) (u * r) ∙ ap (λ (x : ℕ). u * 625000 + x) (div-eq-of-lt small) ∙ add-zero (u * 625000))
 
--- ---- the table of a tempo
-
--- the units of a note are those of a full one, halved by each duration code, and nothing is lost
-units-whole : (d s : ℕ) → d ≤ 5 → s ≤ 3 → units d s * 2 ^ d ≡ units 0 s
-unfolding units
-units-whole d zero h k = same-each (λ n. units n 0 * 2 ^ n) (λ n. 384) 6 refl d (omega arith)
-units-whole d (suc zero) h k = same-each (λ n. units n 1 * 2 ^ n) (λ n. 576) 6 refl d (omega arith)
-units-whole d (suc (suc zero)) h k = same-each (λ n. units n 2 * 2 ^ n) (λ n. 672) 6 refl d (omega arith)
-units-whole d (suc (suc (suc zero))) h k = same-each (λ n. units n 3 * 2 ^ n) (λ n. 256) 6 refl d (omega arith)
-units-whole d (suc (suc (suc (suc s)))) h k = absurd (omega arith)
-
--- each duration code halves what a full note takes: rounded down twice is rounded down once
-halved : (d s b : ℕ) → d ≤ 5 → s ≤ 3 → microseconds (units 0 s) b / 2 ^ d ≡ microseconds (units d s) b
-unfolding microseconds
-halved d s b h k =
-    let whole : units 0 s * 625000 ≡ units d s * 625000 * 2 ^ d = ap (λ (x : ℕ). x * 625000) (sym (units-whole d s h k)) ∙ mul-right-comm (units d s) (2 ^ d) 625000 in
-    div-div-eq-div-mul (units 0 s * 625000) b (2 ^ d) ∙ ap (λ (x : ℕ). x / (b * 2 ^ d)) whole ∙ mul-div-mul-right (units d s * 625000) b (pow-pos d)
-
-lasts-at : (s b : ℕ) → s ≤ 3 → getD (lastsOf b) s 0 ≡ microseconds (units 0 s) b
-lasts-at zero b k = refl
-lasts-at (suc zero) b k = refl
-lasts-at (suc (suc zero)) b k = refl
-lasts-at (suc (suc (suc zero))) b k = refl
-lasts-at (suc (suc (suc (suc s)))) b k = absurd (omega arith)
-
--- the table comes to the rule's quotient
-pub lasts-exact : (d s b : ℕ) → d ≤ 5 → s ≤ 3 → getD (lastsOf b) s 0 / 2 ^ d ≡ microseconds (units d s) b
-lasts-exact d s b h k = ap (λ (x : ℕ). x / 2 ^ d) (lasts-at s b k) ∙ halved d s b h k
-
-all-four : (l : List ℕ) (x y z u : ℕ) → length l ≡ 4 → set (set (set (set l 0 x) 1 y) 2 z) 3 u ≡ x ∷ y ∷ z ∷ u ∷ []
-all-four [] x y z u h = absurd (omega arith)
-all-four (a ∷ []) x y z u h = absurd (omega arith)
-all-four (a ∷ b ∷ []) x y z u h = absurd (omega arith)
-all-four (a ∷ b ∷ c ∷ []) x y z u h = absurd (omega arith)
-all-four (a ∷ b ∷ c ∷ d ∷ []) x y z u h = refl
-all-four (a ∷ b ∷ c ∷ d ∷ e ∷ l) x y z u h = absurd (omega arith)
-
--- in the code's terms
-pub full-most : (s : ℕ) {u : ℕ} → u ≡ units 0 s → u ≤ 672
-full-most s e = rw e (units-most 0 s)
-
-module _ {tempo k : ℕ} (h : tempo ≤ 31) (e : (k ≡ paceOf (beats tempo)) × (k ≤ 26214400001)) where
-  full : (s : ℕ) {u x : ℕ} → u ≡ units 0 s → x ≡ u * k / 2 ^ 20 → x ≡ microseconds (units 0 s) (beats tempo)
-  full s a b =
-      b ∙ ap₂ (λ (y z : ℕ). y * z / 2 ^ 20) a (e .0) ∙ pace-exact (units 0 s) (beats tempo) (units-most 0 s) (slowest tempo (omega arith)) (fastest tempo)
-
-  pub lasts-set : (old : List ℕ) {u v w t x y z q : ℕ} → length old ≡ 4 → u ≡ units 0 0 → x ≡ u * k / 2 ^ 20 → v ≡ units 0 1 → y ≡ v * k / 2 ^ 20 → w ≡ units 0 2 → z ≡ w * k / 2 ^ 20
-      → t ≡ units 0 3 → q ≡ t * k / 2 ^ 20 → set (set (set (set old 0 x) 1 y) 2 z) 3 q ≡ lastsOf (beats tempo)
-  lasts-set old {x = x} {y} {z} {q} l a a′ b b′ c c′ d d′ = rw (← full 0 a a′, ← full 1 b b′, ← full 2 c c′, ← full 3 d d′) (all-four old x y z q l)
+-- so at the pace of its tempo a note lasts as long as the rule says
+pub pace-lasts : (d s tempo : ℕ) → tempo ≤ 31 → units d s * paceOf (beats tempo) / 2 ^ 20 ≡ microseconds (units d s) (beats tempo)
+pace-lasts d s tempo h = pace-exact (units d s) (beats tempo) (units-most d s) (slowest tempo (omega arith)) (fastest tempo)

@@ -1,16 +1,10 @@
 -- What a tempo and the settings come to, told once for many notes.
 use Prim.Native.Nat.{ℕ, _+_, _*_, _/_}
-use mathlib.Core.List.{List, [], _∷_}
 use Rattle.list_rules.specs.declared.Settings.{Settings}
-use Rattle.list_rules.specs.Duration.{units, microseconds}
 
 -- how long a unit sounds at so many beats, in parts of a microsecond of which 2 ^ 20 make one, rounded up
 abbrev pub paceOf : ℕ → ℕ
 paceOf b = 655360000000 / b + 1
-
--- how long a full note sounds at so many beats, for each specifier
-abbrev pub lastsOf : ℕ → List ℕ
-lastsOf b = microseconds (units 0 0) b ∷ microseconds (units 0 1) b ∷ microseconds (units 0 2) b ∷ microseconds (units 0 3) b ∷ []
 
 -- what the settings put in an entry's first number
 abbrev pub baseOf : Settings → ℕ

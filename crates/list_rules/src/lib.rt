@@ -1,10 +1,9 @@
 ghost use mathlib.Core.Path.{_≡_};
 ghost use Prim.Native.Nat.{_+_, _*_, _/_, _^_, _≤_};
-ghost use lib.ListN.{length};
 ghost use Rattle.list_rules.specs.Duration.{beats as beatsOf, units as unitsOf};
 ghost use Rattle.list_rules.specs.Sounding.{atStart, applied as appliedTo, unpacked};
 ghost use Rattle.list_rules.specs.Ranges.{InRange};
-ghost use Rattle.list_rules.specs.Tempo.{paceOf, lastsOf, baseOf};
+ghost use Rattle.list_rules.specs.Tempo.{paceOf, baseOf};
 
 // The four settings, as codes.
 pub struct Settings {
@@ -108,43 +107,64 @@ fn beats(tempo: u32) -> u32
     BEATS[tempo as usize]
 }
 
-// The units of a note: a full one has 384, or 576 dotted, 672 double dotted, 256 with the last specifier, sixteen bits of
-// one number for each. Each duration code halves them.
-fn units(duration: u32, specifier: u32) -> u32
+// The units of a note, a sheet of 24: for each note length of 000 (3.7-7), plain, dotted, double dotted and 2/3 (3.7-8). An
+// entry's number is the duration code times 4, plus the specifier: the last five bits of a note. It is a `match`, since the
+// compiler makes read-only data of one; a constant array is laid out on the stack at each use.
+pub fn units(duration: u32, specifier: u32) -> u32
     requires { ⌜ (duration ≤ 5) × (specifier ≤ 3) ⌝ }
     ensures { λ r. ⌜ r ≡ unitsOf duration specifier ⌝ }
 {
-    let full = (0x0100_02A0_0240_0180u64 >> (16 * specifier)) % 65536;
-    full as u32 >> duration
+    match duration * 4 + specifier {
+        // Full note.
+        0 => 384,
+        1 => 576,
+        2 => 672,
+        3 => 256,
+        // 1/2 note.
+        4 => 192,
+        5 => 288,
+        6 => 336,
+        7 => 128,
+        // 1/4 note.
+        8 => 96,
+        9 => 144,
+        10 => 168,
+        11 => 64,
+        // 1/8 note.
+        12 => 48,
+        13 => 72,
+        14 => 84,
+        15 => 32,
+        // 1/16 note.
+        16 => 24,
+        17 => 36,
+        18 => 42,
+        19 => 16,
+        // 1/32 note.
+        20 => 12,
+        21 => 18,
+        22 => 21,
+        23 => 8,
+        // Duration codes 6 and 7 are reserved: no note has them.
+        _ => 0,
+    }
 }
 
 // How long a unit sounds at a tempo, in parts of a microsecond of which 2 ^ 20 make one, rounded up: 625,000 times
 // 2 ^ 20, divided by the beats. With it a note takes a product, where the rule has a division.
-fn pace(tempo: u32) -> u64
+pub fn pace(tempo: u32) -> u64
     requires { ⌜ tempo ≤ 31 ⌝ }
-    ensures { λ r. ⌜ (r ≡ paceOf (beatsOf tempo)) × (r ≤ 26214400001) ⌝ }
+    ensures { λ r. ⌜ r ≡ paceOf (beatsOf tempo) ⌝ }
 {
     655360000000 / beats(tempo) as u64 + 1
 }
 
 // From units and the pace of a tempo to microseconds, rounded down.
-fn microseconds(units: u32, pace: u64) -> u32
+pub fn microseconds(units: u32, pace: u64) -> u32
     requires { ⌜ (units ≤ 672) × (pace ≤ 26214400001) ⌝ }
     ensures { λ r. ⌜ r ≡ units * pace / 2 ^ 20 ⌝ }
 {
     ((units as u64 * pace) >> 20) as u32
-}
-
-// Sets the table of a tempo: how long a full note sounds, in microseconds, for each specifier.
-pub fn set_lasts(tempo: u32, lasts: &mut [u32])
-    requires { ⌜ (tempo ≤ 31) × (length (now lasts) ≡ 4) ⌝ }
-    ensures { λ _. ⌜ now (lasts .exit) ≡ lastsOf (beatsOf tempo) ⌝ }
-{
-    let pace = pace(tempo);
-    lasts[0] = microseconds(units(0, 0), pace);
-    lasts[1] = microseconds(units(0, 1), pace);
-    lasts[2] = microseconds(units(0, 2), pace);
-    lasts[3] = microseconds(units(0, 3), pace);
 }
 
 // What the settings put in an entry's first number.

@@ -6,10 +6,10 @@ use Rattle.tone_elements.specs.Standing.{bodyIn, behindIn}
 use Rattle.list_fill.proofs.Walking.{FewWalk, seeings}
 
 abbrev Inv-loop : tie.InvT-loop
-Inv-loop msg n list₀ lasts₀ at s walk₀ left₀ list lasts walk left = FewWalk msg (walk₀ .settings) (bodyIn msg (at .0) n) (at .0) (walk₀ .cells) (behindIn msg (at .0) n) list₀ list lasts walk left
+Inv-loop msg n list₀ at s walk₀ left₀ list walk left = FewWalk msg (walk₀ .settings) (bodyIn msg (at .0) n) (at .0) (walk₀ .cells) (behindIn msg (at .0) n) list₀ list walk left
 
 abbrev μ-loop : tie.MeasureT-loop
-μ-loop msg n list₀ lasts₀ at s walk₀ left₀ list lasts walk left = left
+μ-loop msg n list₀ at s walk₀ left₀ list walk left = left
 
 sight-requires : tie.Need-sight-requires Inv-loop μ-loop
 sight-requires c κs = search (seeings, needs)
@@ -44,9 +44,6 @@ loop-again c = search (seeings, needs)
 same-length : tie.Need-same-length Inv-loop μ-loop
 same-length c = search (seeings, needs)
 
-same-length-2 : tie.Need-same-length-2 Inv-loop μ-loop
-same-length-2 c = search (seeings, needs)
-
 returns : tie.Need-returns Inv-loop μ-loop
 returns c = search (seeings, needs)
 
@@ -67,5 +64,4 @@ fill-few-spec =
     loop-less
     loop-again
     same-length
-    same-length-2
     returns)

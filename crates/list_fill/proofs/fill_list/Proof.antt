@@ -3,22 +3,19 @@ use Rattle.list_fill.proofs.fill_list.Statement.{statement}
 use Rattle.list_fill.proofs.fill_list.Tie as tie
 use borrow.Author.Needs.{needs}
 use Rattle.list_fill.specs.Filling.{patternsIn}
-use Rattle.list_fill.proofs.Fillings.{ListWalk, list-begins, list-body, list-fits, list-four, list-on, listings}
+use Rattle.list_fill.proofs.Fillings.{ListWalk, list-begins, list-body, list-fits, list-on, listings}
 
 abbrev Inv-loop : tie.InvT-loop
-Inv-loop msg n list₀ lasts₀ parts₀ place₀ walk₀ left₀ list lasts parts place walk left = ListWalk msg (patternsIn msg (place₀ .0) n) list₀ list lasts parts (place .0) walk left
+Inv-loop msg n list₀ parts₀ place₀ walk₀ left₀ list parts place walk left = ListWalk msg (patternsIn msg (place₀ .0) n) list₀ list parts (place .0) walk left
 
 abbrev μ-loop : tie.MeasureT-loop
-μ-loop msg n list₀ lasts₀ parts₀ place₀ walk₀ left₀ list lasts parts place walk left = left
-
-slice-aggregate-start : tie.Need-slice-aggregate-start Inv-loop μ-loop
-slice-aggregate-start c = search (listings, needs)
+μ-loop msg n list₀ parts₀ place₀ walk₀ left₀ list parts place walk left = left
 
 start-requires : tie.Need-start-requires Inv-loop μ-loop
 start-requires c κs = search (listings, needs)
 
 loop-holds : tie.Need-loop-holds Inv-loop μ-loop
-loop-holds c = let p = c .before .before .before .before .before .pre in list-begins (p .0) (p .1) (c .before .start .ensures)
+loop-holds c = let p = c .before .before .before .pre in list-begins (p .0) (p .1) (c .start .ensures)
 
 entry-at-requires : tie.Need-entry-at-requires Inv-loop μ-loop
 entry-at-requires c κs = search (listings, needs)
@@ -56,9 +53,6 @@ enum-known-part c = search (listings, needs)
 passes-of-requires : tie.Need-passes-of-requires Inv-loop μ-loop
 passes-of-requires c κs = search (listings, needs)
 
-slice-aggregate-fill-passes : tie.Need-slice-aggregate-fill-passes Inv-loop μ-loop
-slice-aggregate-fill-passes c = search (list-four, needs)
-
 fill-passes-requires : tie.Need-fill-passes-requires Inv-loop μ-loop
 fill-passes-requires c κs = (search needs, (search (list-body, needs), (search needs, search needs, search (list-fits, needs))))
 
@@ -79,9 +73,9 @@ loop-less c = search (listings, needs)
 
 loop-again : tie.Need-loop-again Inv-loop μ-loop
 loop-again c =
-    let filled = c .before .before .before .before .before in
-    let turn = filled .before .before .before .before .before .before .before in
-    list-on (turn .before .before .before .before .loop .inv) (search needs) (turn .before .before .entry-at .ensures) (turn .part-after .ensures) (search needs) (filled .before .before .before .passes-of .ensures) (filled .fill-passes .ensures) (search needs) (c .behind-pattern .ensures)
+    let filled = c .before .before .before .before in
+    let turn = filled .before .before .before .before .before .before in
+    list-on (turn .before .before .before .before .loop .inv) (search needs) (turn .before .before .entry-at .ensures) (turn .part-after .ensures) (search needs) (filled .before .before .passes-of .ensures) (filled .fill-passes .ensures) (search needs) (c .behind-pattern .ensures)
 
 same-length-3 : tie.Need-same-length-3 Inv-loop μ-loop
 same-length-3 c = search (listings, needs)
@@ -95,7 +89,6 @@ fill-list-spec =
     (tie.spec
     Inv-loop
     μ-loop
-    slice-aggregate-start
     start-requires
     loop-holds
     entry-at-requires
@@ -110,7 +103,6 @@ fill-list-spec =
     returns
     enum-known-part
     passes-of-requires
-    slice-aggregate-fill-passes
     fill-passes-requires
     same-length-2
     returns-2

@@ -6,10 +6,10 @@ use Rattle.tone_elements.specs.Standing.{bodyIn, behindIn}
 use Rattle.list_fill.proofs.Walking.{PassWalk, passings}
 
 abbrev Inv-loop : tie.InvT-loop
-Inv-loop msg n list₀ lasts₀ walk₀ left₀ list lasts walk left = PassWalk msg (walk₀ .settings) (bodyIn msg (walk₀ .at .0) n) (walk₀ .cells) (behindIn msg (walk₀ .at .0) n) list₀ list lasts walk left
+Inv-loop msg n list₀ walk₀ left₀ list walk left = PassWalk msg (walk₀ .settings) (bodyIn msg (walk₀ .at .0) n) (walk₀ .cells) (behindIn msg (walk₀ .at .0) n) list₀ list walk left
 
 abbrev μ-loop : tie.MeasureT-loop
-μ-loop msg n list₀ lasts₀ walk₀ left₀ list lasts walk left = left
+μ-loop msg n list₀ walk₀ left₀ list walk left = left
 
 loop-holds : tie.Need-loop-holds Inv-loop μ-loop
 loop-holds c = search (passings, needs)
@@ -32,9 +32,6 @@ loop-again c = search (passings, needs)
 same-length : tie.Need-same-length Inv-loop μ-loop
 same-length c = search (passings, needs)
 
-same-length-2 : tie.Need-same-length-2 Inv-loop μ-loop
-same-length-2 c = search (passings, needs)
-
 returns : tie.Need-returns Inv-loop μ-loop
 returns c = search (passings, needs)
 
@@ -51,5 +48,4 @@ fill-pass-spec =
     loop-less
     loop-again
     same-length
-    same-length-2
     returns)

@@ -3,28 +3,22 @@ use Rattle.list_fill.proofs.fill_passes.Statement.{statement}
 use Rattle.list_fill.proofs.fill_passes.Tie as tie
 use borrow.Author.Needs.{needs}
 use Rattle.tone_elements.specs.Standing.{bodyIn, behindIn}
-use Rattle.list_fill.proofs.Walking.{TimesWalk, times-fit, times-room, timings}
+use Rattle.list_fill.proofs.Walking.{TimesWalk, timings}
 
 abbrev Inv-loop : tie.InvT-loop
-Inv-loop msg from n times list₀ lasts₀ walk₀ left₀ list lasts walk left = TimesWalk (walk₀ .settings) (bodyIn msg (from .0) n) (walk₀ .cells) (behindIn msg (from .0) n) list₀ list lasts walk left₀ left
+Inv-loop msg from n times list₀ walk₀ left₀ list walk left = TimesWalk (walk₀ .settings) (bodyIn msg (from .0) n) (walk₀ .cells) (behindIn msg (from .0) n) list₀ list walk times left
 
 abbrev μ-loop : tie.MeasureT-loop
-μ-loop msg from n times list₀ lasts₀ walk₀ left₀ list lasts walk left = left
-
-fill-pass-requires : tie.Need-fill-pass-requires Inv-loop μ-loop
-fill-pass-requires c κs = (search needs, (search needs, times-fit _ _ _ (c .before .before .before .before .before .pre .1 .1)))
-
-sub-left : tie.Need-sub-left Inv-loop μ-loop
-sub-left c = search (timings, needs)
+μ-loop msg from n times list₀ walk₀ left₀ list walk left = left
 
 loop-holds : tie.Need-loop-holds Inv-loop μ-loop
 loop-holds c = search (timings, needs)
 
-fill-pass-requires-2 : tie.Need-fill-pass-requires-2 Inv-loop μ-loop
-fill-pass-requires-2 c κs = (search needs, (search needs, times-room (c .before .before .before .loop .inv) (search needs)))
+fill-pass-requires : tie.Need-fill-pass-requires Inv-loop μ-loop
+fill-pass-requires c κs = search (timings, needs)
 
-sub-left-2 : tie.Need-sub-left-2 Inv-loop μ-loop
-sub-left-2 c = search (timings, needs)
+sub-left : tie.Need-sub-left Inv-loop μ-loop
+sub-left c = search (timings, needs)
 
 loop-less : tie.Need-loop-less Inv-loop μ-loop
 loop-less c = search (timings, needs)
@@ -35,9 +29,6 @@ loop-again c = search (timings, needs)
 same-length : tie.Need-same-length Inv-loop μ-loop
 same-length c = search (timings, needs)
 
-same-length-2 : tie.Need-same-length-2 Inv-loop μ-loop
-same-length-2 c = search (timings, needs)
-
 returns : tie.Need-returns Inv-loop μ-loop
 returns c = search (timings, needs)
 
@@ -47,13 +38,10 @@ fill-passes-spec =
     (tie.spec
     Inv-loop
     μ-loop
+    loop-holds
     fill-pass-requires
     sub-left
-    loop-holds
-    fill-pass-requires-2
-    sub-left-2
     loop-less
     loop-again
     same-length
-    same-length-2
     returns)

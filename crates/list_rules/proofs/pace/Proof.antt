@@ -3,7 +3,9 @@ use borrow.Author.Needs.{needs}
 use Rattle.list_rules.proofs.pace.Statement.{statement}
 use Rattle.list_rules.proofs.pace.Tie as tie
 use native.Mathlib.Omega.{arith}
-use Rattle.list_rules.proofs.Durations.{beats-least, pace-fits, pace-told}
+use mathlib.Core.Path.{ap}
+use Rattle.list_rules.specs.Tempo.{paceOf}
+use Rattle.list_rules.proofs.Durations.{beats-least, pace-fits}
 
 beats-requires : tie.Need-beats-requires
 beats-requires c κs = search needs
@@ -18,7 +20,7 @@ add-result : tie.Need-add-result
 add-result c = search (pace-fits, needs)
 
 returns : tie.Need-returns
-returns c = pace-told (c .beats .ensures) (search needs)
+returns c = ap paceOf (c .beats .ensures)
 
 pub pace-spec : {M : Type 1} → statement M
 pace-spec = tie.close (tie.spec beats-requires cast-result div-result add-result returns)

@@ -2,25 +2,33 @@
 use borrow.Author.Needs.{needs}
 use Rattle.list_rules.proofs.units.Statement.{statement}
 use Rattle.list_rules.proofs.units.Tie as tie
-use Rattle.list_rules.proofs.Durations.{units-packed}
+use Rattle.list_rules.specs.Duration.{units}
+use Rattle.list_rules.proofs.Durations.{on-sheet}
+use Rattle.list_rules.proofs.Below.{none-below}
+use native.Mathlib.Omega.{arith}
 
-mul-full : tie.Need-mul-full
-mul-full c = search needs
+mul-match : tie.Need-mul-match
+mul-match c = search needs
 
-cast-full : tie.Need-cast-full
-cast-full c = search needs
+add-match : tie.Need-add-match
+add-match c = search needs
 
-shr-full : tie.Need-shr-full
-shr-full c = search needs
+-- no note comes to the last arm
+off-sheet : tie.Need-returns-25
+off-sheet c = absurd (omega (arith, none-below 24 (c .match .rest)))
 
-cast-result : tie.Need-cast-result
-cast-result c = search needs
-
-shr-result : tie.Need-shr-result
-shr-result c = search needs
-
-returns : tie.Need-returns
-returns c = search (units-packed, needs)
-
+-- each arm's number is the rule's for its entry, in the rows of the sheet
 pub units-spec : {M : Type 1} → statement M
-units-spec = tie.close (tie.spec mul-full cast-full shr-full cast-result shr-result returns)
+unfolding units
+units-spec =
+    tie.close
+    (tie.spec
+    mul-match
+    add-match
+    (λ c. search (on-sheet, needs)) (λ c. search (on-sheet, needs)) (λ c. search (on-sheet, needs)) (λ c. search (on-sheet, needs))
+    (λ c. search (on-sheet, needs)) (λ c. search (on-sheet, needs)) (λ c. search (on-sheet, needs)) (λ c. search (on-sheet, needs))
+    (λ c. search (on-sheet, needs)) (λ c. search (on-sheet, needs)) (λ c. search (on-sheet, needs)) (λ c. search (on-sheet, needs))
+    (λ c. search (on-sheet, needs)) (λ c. search (on-sheet, needs)) (λ c. search (on-sheet, needs)) (λ c. search (on-sheet, needs))
+    (λ c. search (on-sheet, needs)) (λ c. search (on-sheet, needs)) (λ c. search (on-sheet, needs)) (λ c. search (on-sheet, needs))
+    (λ c. search (on-sheet, needs)) (λ c. search (on-sheet, needs)) (λ c. search (on-sheet, needs)) (λ c. search (on-sheet, needs))
+    off-sheet)

@@ -1,4 +1,4 @@
--- `Walk::start` meets its contract.
+-- `list_fill::Walk::start` meets its contract.
 use borrow.Author.Needs.{needs}
 use Rattle.list_fill.proofs.Walk.start.Statement.{statement}
 use Rattle.list_fill.proofs.Walk.start.Tie as tie
@@ -7,18 +7,14 @@ use Rattle.list_fill.proofs.Stepping.{starts}
 at-start-requires : tie.Need-at-start-requires
 at-start-requires c κs = search needs
 
-set-lasts-requires : tie.Need-set-lasts-requires
-set-lasts-requires c κs = search (starts, needs)
-
 base-requires : tie.Need-base-requires
 base-requires c κs = search (starts, needs)
 
-same-length : tie.Need-same-length
-same-length c = search needs
+pace-requires : tie.Need-pace-requires
+pace-requires c κs = search (starts, needs)
 
 returns : tie.Need-returns
 returns c = search (starts, needs)
 
 pub start-spec : {M : Type 1} → statement M
-start-spec =
-    tie.close (tie.spec at-start-requires set-lasts-requires base-requires same-length returns)
+start-spec = tie.close (tie.spec at-start-requires base-requires pace-requires returns)

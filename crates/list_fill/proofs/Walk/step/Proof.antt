@@ -19,23 +19,23 @@ mul-list-2 c = search needs
 slice-write-list : tie.Need-slice-write-list
 slice-write-list c = search (steps, needs)
 
-mul-list-3 : tie.Need-mul-list-3
-mul-list-3 c = search needs
+cast-units : tie.Need-cast-units
+cast-units c = search (steps, needs)
 
-slice-read-list : tie.Need-slice-read-list
-slice-read-list c = search (steps, needs)
+cast-units-2 : tie.Need-cast-units-2
+cast-units-2 c = search (steps, needs)
 
-cast-list-2 : tie.Need-cast-list-2
-cast-list-2 c = search (steps, needs)
+units-requires : tie.Need-units-requires
+units-requires c κs = search (steps, needs)
 
-shr-list : tie.Need-shr-list
-shr-list c = search needs
+microseconds-requires : tie.Need-microseconds-requires
+microseconds-requires c κs = search (steps, needs)
 
 add-list-2 : tie.Need-add-list-2
 add-list-2 c = search needs
 
-mul-list-4 : tie.Need-mul-list-4
-mul-list-4 c = search needs
+mul-list-3 : tie.Need-mul-list-3
+mul-list-3 c = search needs
 
 slice-write-list-2 : tie.Need-slice-write-list-2
 slice-write-list-2 c = search (steps, needs)
@@ -79,20 +79,17 @@ add-applied c = search (steps, needs)
 applied-requires : tie.Need-applied-requires
 applied-requires c κs = search needs
 
-add-t33 : tie.Need-add-t33
-add-t33 c = search (steps, needs)
+add-t30 : tie.Need-add-t30
+add-t30 c = search (steps, needs)
 
-cast-t34 : tie.Need-cast-t34
-cast-t34 c = search (steps, needs)
+cast-t31 : tie.Need-cast-t31
+cast-t31 c = search (steps, needs)
 
-add-t35 : tie.Need-add-t35
-add-t35 c = search (steps, needs)
+add-t32 : tie.Need-add-t32
+add-t32 c = search (steps, needs)
 
-set-lasts-requires : tie.Need-set-lasts-requires
-set-lasts-requires c κs = search (steps, needs)
-
-same-length-2 : tie.Need-same-length-2
-same-length-2 c = search needs
+pace-requires : tie.Need-pace-requires
+pace-requires c κs = search (steps, needs)
 
 returns-2 : tie.Need-returns-2
 returns-2 c = search (steps, needs)
@@ -112,12 +109,12 @@ step-spec =
     add-list
     mul-list-2
     slice-write-list
-    mul-list-3
-    slice-read-list
-    cast-list-2
-    shr-list
+    cast-units
+    cast-units-2
+    units-requires
+    microseconds-requires
     add-list-2
-    mul-list-4
+    mul-list-3
     slice-write-list-2
     add-t20
     add-walk
@@ -132,11 +129,10 @@ step-spec =
     mul-applied
     add-applied
     applied-requires
-    add-t33
-    cast-t34
-    add-t35
-    set-lasts-requires
-    same-length-2
+    add-t30
+    cast-t31
+    add-t32
+    pace-requires
     returns-2
     base-requires
     returns-3)
