@@ -1,4 +1,4 @@
--- `list_rules::units` meets its contract.
+-- `list_rules::units` meets its contract: each entry of the sheet is the rule's.
 use borrow.Author.Needs.{needs}
 use Rattle.list_rules.proofs.units.Statement.{statement}
 use Rattle.list_rules.proofs.units.Tie as tie
