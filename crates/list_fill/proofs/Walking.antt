@@ -275,7 +275,8 @@ pub ruleset seeings = (few-begins, few-ready, few-long, few-back, few-near, few-
 
 -- ---- so many passes
 
--- with `left` of so many passes to come, of a body b that began behind the first i cells with the settings s
+-- with `left` of so many passes to come, of a body b that began behind the first i cells with the settings s; behind a pass the walk
+-- is behind the body, at q
 pub record TimesWalk (s : Settings) (b : List ℕ) (i q : ℕ) (old new : List ℕ) (w : Walk) (times left : ℕ) : Type 0 where
   pub done : Played
   pub advanced : Advanced i done (w .at .0) old new w
