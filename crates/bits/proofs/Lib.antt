@@ -1,7 +1,9 @@
 pub mod Choice
+pub mod Below
 pub mod Numbers
 pub mod Places
 pub mod Octets
+pub mod Lanes
 pub mod Looking
 pub mod Putting
 pub mod Filled

@@ -4,6 +4,7 @@ use mathlib.Core.Path.{_≡_}
 use mathlib.Core.Bool.{Bool}
 use mathlib.Core.List.{List, [], _∷_, _++_}
 use lib.ListN.{length, getD}
+use lib.Bits.{bitAnd, bitOr}
 use Rattle.bits.specs.Bits.{field}
 
 -- the four octets at i, 0 past the end
@@ -23,3 +24,7 @@ pub record Look (b : List Bool) (x : ℕ) : Type 0 where
 pub record Sight (n : ℕ) (b : List Bool) (x : ℕ) : Type 0 where
   pub at : (o w : ℕ) → o + w ≤ n → o + w ≤ length b → field b o w ≡ x / 2 ^ (64 - (o + w)) % 2 ^ w
   pub small : x < 2 ^ 64
+
+-- a number of lanes of which `low` has all bits but the highest: with this the highest bit of a lane is set where the lane is not 0
+abbrev pub fills : ℕ → ℕ → ℕ
+fills low x = bitOr (bitAnd x low + low) x

@@ -13,7 +13,7 @@ use Rattle.bits.proofs.Choice.{pick-elim}
 use Rattle.tone.specs.Table.{durationOf, specifierOf}
 use Rattle.list_rules.specs.Duration.{tempos, beats, plainUnits, units, microseconds}
 use Rattle.list_rules.specs.Tempo.{paceOf}
-use Rattle.list_rules.proofs.Below.{at-each, same-each}
+use Rattle.bits.proofs.Below.{at-each, same-each}
 
 -- ---- bounds
 

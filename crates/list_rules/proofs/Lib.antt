@@ -1,4 +1,3 @@
-pub mod Below
 pub mod Durations
 pub mod Joining
 pub mod Loops

@@ -2,17 +2,18 @@
 use Prim.Native.Nat.{ℕ, _*_, _≤_, _<_}
 use native.Mathlib.Omega.{arith}
 use mathlib.Core.Path.{_≡_, refl, subst}
+use mathlib.Core.Logic.{inl, inr, ⊎-elim}
 use mathlib.Core.Bool.{Bool, true, false}
 use mathlib.Core.List.{List}
 use lib.ListN.{length}
-use lib.Dec.{leb}
+use lib.Dec.{leb, lit≤}
 use borrow.Author.Tests.{le-leb, lt-leb}
 use Rattle.bits.specs.Outcome.{accepted, refused}
 use Rattle.bits.proofs.Choice.{pick-elim, then-elim}
 use Rattle.tone.specs.Tone.{Tone}
 use Rattle.tone.specs.Reading.{readTone}
 use Rattle.tone.proofs.Rows.{and-false}
-use Rattle.tone.proofs.Grounds.{Within, read-number-most}
+use Rattle.tone.proofs.Grounds.{Among, Numbered, read-number}
 use Rattle.list_rules.specs.Playing.{Listing, playingList}
 use Rattle.list_rules.specs.Listing.{fitsNumbers, fitsBoth, listTone}
 
@@ -22,13 +23,13 @@ module _ (m : List ℕ) where
   unfolding listTone
   message-first fits q = rw q refl
 
-  -- no number above 11
-  pub list-number-most : (fits : Listing → Bool) {n p : ℕ} → listTone m fits ≡ refused n p → n ≤ 11
+  -- 1 to 11, or 21
+  pub list-number : (fits : Listing → Bool) {n p : ℕ} → listTone m fits ≡ refused n p → Among 1 11 n
   unfolding listTone
-  list-number-most fits e =
-      subst (Within 11) e (then-elim (Within 11) (readTone m)
-      (λ t _. pick-elim (Within 11) (fits (playingList t)) (λ _. tt) (λ _. omega arith))
-      (λ n p q. omega (arith, read-number-most m n p q)))
+  list-number fits e =
+      subst (Numbered 11) e (then-elim (Numbered 11) (readTone m)
+      (λ t _. pick-elim (Numbered 11) (fits (playingList t)) (λ _. tt) (λ _. inl (lit≤ tt, lit≤ tt)))
+      (λ n p q. ⊎-elim (λ w. inl (w .0, omega (arith, w .1))) (λ w. inr w) (read-number m n p q)))
 
   module _ {t : Tone} (q : readTone m ≡ accepted t) where
     -- then 11 where the list does not fit

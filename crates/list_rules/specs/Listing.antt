@@ -22,6 +22,6 @@ fitsNumbers room g = leb (2 * length (g .entries)) room
 abbrev pub fitsBoth : ℕ → ℕ → Listing → Bool
 fitsBoth room rows g = fitsNumbers room g && leb (length (g .entries)) rows
 
--- a message's list, with 1 to 10 as in reading
+-- a message's list, with 1 to 10 and 21 as in reading
 unfoldable pub listTone : List ℕ → (Listing → Bool) → Outcome Listing
 listTone m fits = andThen (readTone m) (fitted fits)

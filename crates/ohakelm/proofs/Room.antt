@@ -10,11 +10,11 @@ use lib.Dec.{leb, eqb}
 use borrow.Author.Tests.{le-leb, leb-true, leb-false, ne-eqb, eqb-false}
 use Rattle.bits.specs.Outcome.{Outcome, accepted, refused, andThen}
 use Rattle.bits.proofs.Choice.{pick-elim, then-elim}
-use Rattle.tone.specs.Tone.{Tone, Formed, entries}
+use Rattle.tone.specs.Tone.{Tone, allowedTitle, Formed, entries}
 use Rattle.tone.specs.Writing.{toneLength, mostOctets}
 use Rattle.tone.specs.Reading.{readTone}
 use Rattle.tone.proofs.Demand2.{read-well-formed}
-use Rattle.tone.proofs.Grounds.{read-number-most}
+use Rattle.tone.proofs.Grounds.{read-number}
 use Rattle.tone.proofs.Largest.{title-most, entries-most}
 use Rattle.tone_read.specs.Promise.{readNumbers, roomed, readInto}
 use Rattle.tone_table.specs.Judging.{judgeTable}
@@ -61,7 +61,7 @@ not-eleven number z s (other n {p = p} h) e = eqb-false n 11 h (sym (s n p) ∙ 
 
 -- a refusal of reading
 unread : (m : List ℕ) {A : Type 0} {n p : ℕ} → readTone m ≡ refused n p → Spared {A = A} (refused n p)
-unread m {n = n} {p = p} e = other n (ne-eqb n 11 (λ x. omega (arith, read-number-most m n p e, x)))
+unread m {n = n} {p = p} e = other n (ne-eqb n 11 (λ x. ⊎-elim (λ w. omega (arith, w .1, x)) (λ w. omega (arith, w, x)) (read-number m n p e)))
 
 -- ---- reading a tone
 
@@ -98,8 +98,10 @@ unfolding writeTone
 write-spared song unicode title table room h =
     pick-elim Spared (songFine song) (λ _.
     pick-elim Spared (titleFine song unicode title) (λ _.
+    pick-elim Spared (allowedTitle unicode title) (λ _.
     then-elim Spared (judgeTable table) (λ _ _. sized-spared room (toneOf song unicode title table) h)
     (λ n p e. other n (ne-eqb n 11 (λ x. ⊎-elim (λ w. omega (arith, w .1, x)) (λ w. omega (arith, w, x)) (table-grounds table e)))))
+    (λ _. other 21 refl))
     (λ _. other 17 refl))
     (λ _. other 4 refl)
 

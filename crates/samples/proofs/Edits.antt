@@ -2,6 +2,7 @@
 use mathlib.Core.Path.{refl}
 use Rattle.bits.specs.Bits.{field, bitsN}
 use Rattle.tone.specs.Table as table
+use Rattle.tone.specs.Tone as tone
 use Rattle.tone.specs.Writing as writing
 use Rattle.tone.specs.Reading as reading
 use Rattle.list_rules.specs.Duration.{beats, units, microseconds}
@@ -12,7 +13,7 @@ use Rattle.edit.specs.Editing.{editMessage}
 use Rattle.samples.specs.Edits.{Edits}
 
 pub edits : Edits
-unfolding field bitsN table.width table.allowed writing.commandBits writing.titleBits writing.entryBits writing.frontBits writing.songBits writing.toneBits writing.toneOctets reading.element reading.filled reading.whetherUnicode reading.soundPart reading.parts reading.command reading.character reading.text reading.title reading.counted reading.titled reading.typed reading.front reading.headerDue reading.instructionDue reading.bodyDue reading.patternsDue reading.ending reading.rest reading.wholeTone reading.readTone beats units microseconds applied sounded step passesOf bodyOf remember patternPlayed playingList editMessage
+unfolding field bitsN table.width table.allowed tone.allowedCharacter writing.commandBits writing.titleBits writing.entryBits writing.frontBits writing.songBits writing.toneBits writing.toneOctets reading.element reading.filled reading.whetherUnicode reading.soundPart reading.parts reading.command reading.character reading.text reading.title reading.counted reading.titled reading.typed reading.front reading.headerDue reading.instructionDue reading.bodyDue reading.patternsDue reading.ending reading.rest reading.wholeTone reading.readTone beats units microseconds applied sounded step passesOf bodyOf remember patternPlayed playingList editMessage
 edits = record {
   used = refl;
   messageFirst = refl;

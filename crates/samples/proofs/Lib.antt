@@ -1,6 +1,7 @@
 pub mod Shown
 pub mod Message
 pub mod Table
+pub mod Titles
 pub mod Label
 pub mod List
 pub mod Edits

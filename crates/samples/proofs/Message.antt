@@ -2,11 +2,12 @@
 use mathlib.Core.Path.{refl}
 use Rattle.bits.specs.Bits.{field, bitsN}
 use Rattle.tone.specs.Table as table
+use Rattle.tone.specs.Tone as tone
 use Rattle.tone.specs.Reading as reading
 use Rattle.samples.specs.Message.{Messages}
 
 pub messages : Messages
-unfolding field bitsN table.width table.allowed reading.element reading.filled reading.whetherUnicode reading.soundPart reading.parts reading.command reading.character reading.text reading.title reading.counted reading.titled reading.typed reading.front reading.headerDue reading.instructionDue reading.bodyDue reading.patternsDue reading.ending reading.rest reading.wholeTone reading.readTone
+unfolding field bitsN table.width table.allowed tone.allowedCharacter reading.element reading.filled reading.whetherUnicode reading.soundPart reading.parts reading.command reading.character reading.text reading.title reading.counted reading.titled reading.typed reading.front reading.headerDue reading.instructionDue reading.bodyDue reading.patternsDue reading.ending reading.rest reading.wholeTone reading.readTone
 messages = record {
   cut = refl;
   cutTitle = refl;

@@ -5,6 +5,7 @@ use Rattle.list_rules.proofs.Samples as lengths
 use Rattle.samples.specs.Pinned.{Pinned}
 use Rattle.samples.proofs.Message.{messages}
 use Rattle.samples.proofs.Table.{readings, writings}
+use Rattle.samples.proofs.Titles.{titles}
 use Rattle.samples.proofs.Label.{labels}
 use Rattle.samples.proofs.List.{lists}
 use Rattle.samples.proofs.Edits.{edits}
@@ -16,6 +17,7 @@ pinned = record {
   messages = messages;
   readings = readings;
   writings = writings;
+  titles = titles;
   labels = labels;
   lists = lists;
   durations = lengths.durations;

@@ -24,6 +24,9 @@ pub record Labels : Type 0 where
   -- and under UNICODE 8192, whose high octet is 32, and 288, whose low octet is
   pub highOctet : labelOf true (0x00 ∷ 0x41 ∷ 0x20 ∷ 0x00 ∷ []) car ≡ 0x00 ∷ 0x41 ∷ 0x20 ∷ 0x00 ∷ []
   pub lowOctet : labelOf true (0x00 ∷ 0x41 ∷ 0x01 ∷ 0x20 ∷ []) car ≡ 0x00 ∷ 0x41 ∷ 0x01 ∷ 0x20 ∷ []
+  -- the label takes any octets, also those that no title of a message has: a tab and a bell, and under UNICODE 9 and 127
+  pub anyOctets : labelOf false (0x41 ∷ 9 ∷ 7 ∷ 32 ∷ []) car ≡ 0x41 ∷ 9 ∷ 7 ∷ []
+  pub wideAnyOctets : labelOf true (0 ∷ 9 ∷ 0 ∷ 127 ∷ 0 ∷ 32 ∷ []) car ≡ 0 ∷ 9 ∷ 0 ∷ 127 ∷ []
   -- nothing is left: no title, and nothing but spaces
   pub empty : labelOf false [] car ≡ car
   pub spaces : labelOf false (32 ∷ 32 ∷ []) car ≡ car

@@ -4,6 +4,7 @@ use Rattle.bitmap_kinds.specs.Samples.{KindSamples}
 use Rattle.list_rules.specs.Samples.{Durations}
 use Rattle.samples.specs.Message.{Messages}
 use Rattle.samples.specs.Table.{Readings, Writings}
+use Rattle.samples.specs.Titles.{Titles}
 use Rattle.samples.specs.Label.{Labels}
 use Rattle.samples.specs.List.{Lists}
 use Rattle.samples.specs.Edits.{Edits}
@@ -15,6 +16,7 @@ pub record Pinned : Type 0 where
   pub messages : Messages
   pub readings : Readings
   pub writings : Writings
+  pub titles : Titles
   pub labels : Labels
   pub lists : Lists
   pub durations : Durations

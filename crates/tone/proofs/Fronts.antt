@@ -6,18 +6,19 @@ use mathlib.Core.Path.{_≡_, refl, sym, ap, ap₂, subst, _∙_}
 use mathlib.Core.Bool.{Bool, true, false, _||_}
 use mathlib.Core.List.{List, [], _∷_, _++_, append-assoc, append-nil}
 use mathlib.Core.Logic.{_⊎_, inl, inr, ⊎-elim}
-use lib.ListN.{length, getD, drop, take, length-append, length-drop, take-append-drop}
+use lib.ListN.{length, getD, drop, take, length-append, length-drop, take-append-drop, drop-of-length-le}
 use lib.Seq.{take-at, drop-at, length-take-le}
-use lib.Dec.{leb, eqb, lit<}
+use lib.Dec.{leb, eqb, lit<, lit≤}
 use borrow.Author.Tests.{eqb-true, eqb-false, leb-true, le-leb}
 use Rattle.bits.specs.Choice.{pick}
-use Rattle.bits.specs.Bits.{bitsN, bitsOf, Octets}
-use Rattle.bits.proofs.Choice.{pick-elim}
+use Rattle.bits.specs.Bits.{bitsN, bitsOf, octets, Octets}
+use Rattle.bits.proofs.Choice.{pick-elim, both}
 use Rattle.bits.proofs.Numbers.{bits-append}
-use Rattle.bits.proofs.Octets.{bitsOf-append, octets-append, octets-take, octets-drop}
-use Rattle.tone.specs.Tone.{Front, perCharacter, characters, Titled, FrontFormed}
+use Rattle.bits.proofs.Octets.{length-bitsOf, octets-bits, bitsOf-append, octets-append, octets-take, octets-drop}
+use Rattle.tone.specs.Tone.{Front, perCharacter, characters, allowedCharacter, allowedTitle, Titled, FrontFormed}
 use Rattle.tone.specs.Writing.{programming, unicodePart, sound, commandLength, filledPart, commandBits, titleBits, frontBits}
-use Rattle.tone.specs.Reading.{Reader, _>>=_, _>>_, return, anyOf, part, fillerBit, filled, whetherUnicode, soundPart, parts, command, allowedCharacter, character, text, title, counted, titled, typed, front}
+use Rattle.tone.specs.Reading.{got, Reader, _>>=_, _>>_, return, anyOf, part, fillerBit, filled, whetherUnicode, soundPart, parts, command, character, text, title, counted, titled, typed, front}
+use Rattle.tone.proofs.Titles.{value, allowed-low, allowed-append}
 use Rattle.tone.proofs.Exact.{Exact, Fine, exact-as, return-exact, element-exact, then-exact, then-assoc, fixed-exact}
 
 pub or-true : (a b : Bool) → (a || b) ≡ true → (a ≡ true) ⊎ (b ≡ true)
@@ -88,11 +89,7 @@ command-exact =
 pub record Character (unicode : Bool) (c : List ℕ) : Type 0 where
   pub octets : Octets c
   pub size : length c ≡ perCharacter unicode
-
--- the number that they are
-abbrev value : Bool → List ℕ → ℕ
-value true c = getD c 0 0 * 256 + getD c 1 0
-value false c = getD c 0 0
+  pub allowed : allowedCharacter (value unicode c) ≡ true
 
 one-octet : (c : List ℕ) → length c ≡ 1 → c ≡ getD c 0 0 ∷ []
 one-octet [] h = let z : ⊥ = omega arith in absurd z
@@ -114,22 +111,24 @@ pub character-exact : (unicode : Bool) → Exact (character unicode) (Character 
 unfolding character
 character-exact false =
     exact-as
-    (then-exact (value false) {GC = Character false} (element-exact 8 allowedCharacter 0 0 (lit< tt, refl))
-    (λ v h. exact-as (return-exact (v ∷ [])) (λ c e. rw e (record { octets = (h .0, tt); size = refl }, refl)) (λ c k. one-octet c (k .0 .size) ∙ ap (λ (x : ℕ). x ∷ []) (k .1)) (λ at c e. refl))
-    (λ c k. (octet-at c 0 (k .octets), refl)))
+    (then-exact (value false) {GC = Character false} (element-exact 8 allowedCharacter 21 32 (lit< tt, allowed-low 32 (lit≤ tt) (lit≤ tt)))
+    (λ v h. exact-as (return-exact (v ∷ [])) (λ c e. rw e (record { octets = (h .0, tt); size = refl; allowed = h .1 }, refl)) (λ c k. one-octet c (k .0 .size) ∙ ap (λ (x : ℕ). x ∷ []) (k .1)) (λ at c e. refl))
+    (λ c k. (octet-at c 0 (k .octets), k .allowed)))
     (λ c k. k) (λ c k. k)
     (λ at c k. sym (ap bitsOf (one-octet c (k .size))))
 character-exact true =
     exact-as
-    (then-exact (value true) {GC = Character true} (element-exact 16 allowedCharacter 0 0 (lit< tt, refl))
+    (then-exact (value true) {GC = Character true} (element-exact 16 allowedCharacter 21 32 (lit< tt, allowed-low 32 (lit≤ tt) (lit≤ tt)))
     (λ v h. exact-as (return-exact (v / 256 ∷ v % 256 ∷ []))
-    (λ c e. rw e (record { octets = (omega (arith, h .0), (omega arith, tt)); size = refl }, omega arith))
+    (λ c e.
+    let same : v / 256 * 256 + v % 256 ≡ v = omega arith in
+    rw e (record { octets = (omega (arith, h .0), (omega arith, tt)); size = refl; allowed = rw same (h .1) }, same))
     (λ c k.
     let h₀ = octet-at c 0 (k .0 .octets) in
     let h₁ = octet-at c 1 (k .0 .octets) in
     two-octets c (k .0 .size) ∙ ap₂ (λ (x y : ℕ). x ∷ y ∷ []) (omega (arith, k .1)) (omega (arith, k .1)))
     (λ at c e. refl))
-    (λ c k. let h₀ = octet-at c 0 (k .octets) in let h₁ = octet-at c 1 (k .octets) in (omega arith, refl)))
+    (λ c k. let h₀ = octet-at c 0 (k .octets) in let h₁ = octet-at c 1 (k .octets) in (omega arith, k .allowed)))
     (λ c k. k) (λ c k. k)
     (λ at c k.
     let h₀ = octet-at c 0 (k .octets) in
@@ -141,6 +140,7 @@ character-exact true =
 pub record Text (unicode : Bool) (n : ℕ) (t : List ℕ) : Type 0 where
   pub octets : Octets t
   pub size : length t ≡ perCharacter unicode * n
+  pub allowed : allowedTitle unicode t ≡ true
 
 no-text : (unicode : Bool) (t : List ℕ) → length t ≡ perCharacter unicode * 0 → t ≡ []
 no-text unicode [] h = refl
@@ -148,8 +148,8 @@ no-text true (x ∷ t) h = let z : ⊥ = omega arith in absurd z
 no-text false (x ∷ t) h = let z : ⊥ = omega arith in absurd z
 
 zero-text : (unicode : Bool) → Text unicode 0 []
-zero-text true = record { octets = tt; size = refl }
-zero-text false = record { octets = tt; size = refl }
+zero-text true = record { octets = tt; size = refl; allowed = refl }
+zero-text false = record { octets = tt; size = refl; allowed = refl }
 
 text-size : (unicode : Bool) (n : ℕ) → perCharacter unicode * suc n ≡ perCharacter unicode + perCharacter unicode * n
 text-size true n = omega arith
@@ -165,13 +165,36 @@ text-exact unicode (suc n) =
     (then-exact (take k) {GC = Text unicode (suc n)} (character-exact unicode)
     (λ c h. then-exact (drop k) {GC = λ t. Text unicode (suc n) t × (take k t ≡ c)} (text-exact unicode n)
     (λ r g. exact-as (return-exact (c ++ r))
-    (λ t e. rw e ((record { octets = octets-append c r (h .octets) (g .octets); size = length-append c r ∙ ap₂ (λ (x y : ℕ). x + y) (h .size) (g .size) ∙ sym s }, take-at c r k (h .size)), drop-at c r k (h .size)))
+    (λ t e. rw e ((record { octets = octets-append c r (h .octets) (g .octets); size = length-append c r ∙ ap₂ (λ (x y : ℕ). x + y) (h .size) (g .size) ∙ sym s; allowed = rw (allowed-append unicode c r (h .size), h .allowed) (g .allowed) }, take-at c r k (h .size)), drop-at c r k (h .size)))
     (λ t f. sym (take-append-drop k t) ∙ ap₂ (λ (x y : List ℕ). x ++ y) (f .0 .1) (f .1))
     (λ at t e. refl))
-    (λ t f. record { octets = octets-drop k t (f .0 .octets); size = length-drop k t ∙ omega (arith, f .0 .size) }))
-    (λ t f. record { octets = octets-take k t (f .octets); size = length-take-le k t (omega (arith, f .size)) }))
+    (λ t f. record { octets = octets-drop k t (f .0 .octets); size = length-drop k t ∙ omega (arith, f .0 .size); allowed = split t (f .0) .1 }))
+    (λ t f. record { octets = octets-take k t (f .octets); size = length-take-le k t (omega (arith, f .size)); allowed = split t f .0 }))
     (λ t f. f) (λ t f. f)
     (λ at t f. ap (λ (y : List Bool). bitsOf (take k t) ++ y) (append-nil (bitsOf (drop k t))) ∙ sym (bitsOf-append (take k t) (drop k t)) ∙ ap bitsOf (take-append-drop k t))
+  where
+    -- its first character, and the others
+    split : (t : List ℕ) → Text unicode (suc n) t → (allowedCharacter (value unicode (take (perCharacter unicode) t)) ≡ true) × (allowedTitle unicode (drop (perCharacter unicode) t) ≡ true)
+    split t f =
+        let k = perCharacter unicode in
+        let l : length (take k t) ≡ k = length-take-le k t (omega (arith, f .size, text-size unicode n)) in
+        both (allowedCharacter (value unicode (take k t))) (allowedTitle unicode (drop k t)) (sym (allowed-append unicode (take k t) (drop k t) l) ∙ ap (allowedTitle unicode) (take-append-drop k t) ∙ f .allowed)
+
+-- a title's own octets, read as characters
+module _ (unicode : Bool) (n : ℕ) (title : List ℕ) (o : Octets title) (size : length title ≡ perCharacter unicode * n) where
+  -- where all are allowed, they are read
+  pub own-reads : allowedTitle unicode title ≡ true → text unicode n (bitsOf title) 0 ≡ got title (0 + length (bitsOf title))
+  own-reads a = text-exact unicode n .complete (bitsOf title) 0 title [] (omega arith) (record { octets = o; size = size; allowed = a }) (sym (append-nil (bitsOf title)))
+
+  -- and only there
+  pub own-allowed : {t : List ℕ} {p : ℕ} → text unicode n (bitsOf title) 0 ≡ got t p → allowedTitle unicode title ≡ true
+  own-allowed {t} {p} q =
+      let s = text-exact unicode n .sound (bitsOf title) 0 (omega arith) q in
+      let l : length t ≡ length title = s .good .size ∙ sym size in
+      let e : p ≡ length (bitsOf title) = s .end ∙ omega (arith, length-bitsOf t, length-bitsOf title, l) in
+      let b : bitsOf title ≡ bitsOf t = s .here ∙ ap (λ (x : List Bool). bitsOf t ++ x) (drop-of-length-le (bitsOf title) {i = p} (omega arith)) ∙ append-nil (bitsOf t) in
+      let same : title ≡ t = sym (octets-bits title o) ∙ ap₂ octets (sym l) b ∙ octets-bits t (s .good .octets) in
+      rw same (s .good .allowed)
 
 text-characters : (unicode : Bool) (n : ℕ) (t : List ℕ) → length t ≡ perCharacter unicode * n → characters unicode t ≡ n
 text-characters true n t h = rw h (omega arith)
@@ -187,8 +210,8 @@ title-exact song unicode hs = go (eqb song 1) refl
         then-exact (characters unicode) {GC = Titled song unicode} (element-exact 4 (λ _. true) 0 0 (lit< tt, refl))
         (λ n g. exact-as (text-exact unicode n)
         (λ t k. let q = text-characters unicode n t (k .size) in
-        (record { octets = k .octets; whole = rw q (sym (k .size)); short = omega (arith, q, g .0); none = λ z. let y : ⊥ = omega arith in absurd y }, q))
-        (λ t k. record { octets = k .0 .octets; size = sym (k .0 .whole) ∙ ap (λ (x : ℕ). perCharacter unicode * x) (k .1) })
+        (record { octets = k .octets; whole = rw q (sym (k .size)); allowed = k .allowed; short = omega (arith, q, g .0); none = λ z. let y : ⊥ = omega arith in absurd y }, q))
+        (λ t k. record { octets = k .0 .octets; size = sym (k .0 .whole) ∙ ap (λ (x : ℕ). perCharacter unicode * x) (k .1); allowed = k .0 .allowed })
         (λ at t k. refl))
         (λ t k. (omega (arith, k .short), refl))
     go false h =
@@ -196,8 +219,8 @@ title-exact song unicode hs = go (eqb song 1) refl
         exact-as (return-exact []) (λ t q. rw q (empty song unicode)) (λ t k. k .none e) (λ at t q. refl)
       where
         empty : (song : ℕ) (unicode : Bool) → Titled song unicode []
-        empty song true = record { octets = tt; whole = refl; short = omega arith; none = λ _. refl }
-        empty song false = record { octets = tt; whole = refl; short = omega arith; none = λ _. refl }
+        empty song true = record { octets = tt; whole = refl; short = omega arith; allowed = refl; none = λ _. refl }
+        empty song false = record { octets = tt; whole = refl; short = omega arith; allowed = refl; none = λ _. refl }
 
 -- ---- the whole front
 

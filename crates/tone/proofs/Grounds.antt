@@ -1,21 +1,21 @@
--- The grounds on which a message is refused, 1 to 10, and the element that each of 2 to 9 is of.
+-- The grounds on which a message is refused, 1 to 10 and 21, and the element that each of 2 to 9 and 21 is of.
 use Prim.Native.Nat.{ℕ, zero, suc, _+_, _≤_, _<_}
 use native.Mathlib.Omega.{arith}
-use mathlib.Core.Path.{_≡_, refl, subst}
+use mathlib.Core.Path.{_≡_, refl, subst, _∙_}
 use mathlib.Core.Logic.{_⊎_, inl, inr, ⊎-elim}
-use mathlib.Core.Bool.{Bool, true, false, _||_}
+use mathlib.Core.Bool.{Bool, true, false, _||_, true≢false}
 use mathlib.Core.List.{List, []}
 use lib.ListN.{length}
-use lib.Dec.{leb, ltb, eqb}
+use lib.Dec.{leb, ltb, eqb, lit≤}
 use borrow.Author.Tests.{ltb-true, ltb-false}
 use Rattle.bits.specs.Choice.{pick}
 use Rattle.bits.specs.Bits.{bitsOf, field, fillerTo, placeAfter}
 use Rattle.bits.specs.Outcome.{Outcome, accepted, refused}
 use Rattle.bits.proofs.Choice.{pick-elim}
 use Rattle.tone.specs.Table.{width, allowed, isInstruction}
-use Rattle.tone.specs.Tone.{Tone, specifier, noneKnown, recallable, learn}
+use Rattle.tone.specs.Tone.{Tone, characterBits, allowedCharacter, specifier, noneKnown, recallable, learn}
 use Rattle.tone.specs.Writing.{programming, unicodePart, sound, mostOctets}
-use Rattle.tone.specs.Reading.{Got, got, bad, Reader, onward, _>>=_, return, element, filled, whetherUnicode, soundPart, parts, command, allowedCharacter, character, text, title, counted, titled, typed, front, headerDue, instructionDue, bodyDue, patternsDue, ending, rest, wholeTone, nothingMore, readTone}
+use Rattle.tone.specs.Reading.{Got, got, bad, Reader, onward, _>>=_, return, element, filled, whetherUnicode, soundPart, parts, command, character, text, title, counted, titled, typed, front, headerDue, instructionDue, bodyDue, patternsDue, ending, rest, wholeTone, nothingMore, readTone}
 
 -- ---- the elements of a message
 
@@ -46,7 +46,7 @@ widthOf soundDue p = 7
 widthOf fillerBit p = 1
 widthOf songType p = 3
 widthOf titleLength p = 4
-widthOf (titleCharacter unicode) p = pick unicode 16 8
+widthOf (titleCharacter unicode) p = characterBits unicode
 widthOf patternCount p = 8
 widthOf headerId p = 3
 widthOf (headerRest known) p = 14
@@ -82,7 +82,7 @@ numberOf soundDue = 3
 numberOf fillerBit = 8
 numberOf songType = 4
 numberOf titleLength = 0
-numberOf (titleCharacter unicode) = 0
+numberOf (titleCharacter unicode) = 21
 numberOf patternCount = 5
 numberOf headerId = 6
 numberOf (headerRest known) = 7
@@ -179,41 +179,46 @@ at-fault l q = subst (Blamed l) q (whole-blames .one l 0)
 
 -- ---- the numbers
 
-number-most : (x : Element) → numberOf x ≤ 9
-number-most lengthOctet = omega arith
-number-most programmingDue = omega arith
-number-most unicodeDue = omega arith
-number-most soundDue = omega arith
-number-most fillerBit = omega arith
-number-most songType = omega arith
-number-most titleLength = omega arith
-number-most (titleCharacter unicode) = omega arith
-number-most patternCount = omega arith
-number-most headerId = omega arith
-number-most (headerRest known) = omega arith
-number-most instructionId = omega arith
-number-most (instructionRest k) = omega arith
-number-most fillerRun = omega arith
-number-most endOctet = omega arith
+-- a number from `least` to `most`, or 21
+abbrev pub Among : ℕ → ℕ → ℕ → Type 0
+Among least most n = ((least ≤ n) × (n ≤ most)) ⊎ (n ≡ 21)
 
--- no element is refused with more than 9
-pub fault-most : {l : List Bool} {n p e : ℕ} → AtFault l n p e → n ≤ 9
-fault-most f = ⊎-elim (λ w. omega (arith, w .0)) (λ w. omega (arith, w .0, number-most (f .which))) (f .why)
+-- one that is judged is refused with 3 to 9 or 21
+element-number : (x : Element) (v : ℕ) → fineIn x v ≡ false → Among 3 9 (numberOf x)
+element-number lengthOctet v h = inl (lit≤ tt, lit≤ tt)
+element-number programmingDue v h = inl (lit≤ tt, lit≤ tt)
+element-number unicodeDue v h = inl (lit≤ tt, lit≤ tt)
+element-number soundDue v h = inl (lit≤ tt, lit≤ tt)
+element-number fillerBit v h = inl (lit≤ tt, lit≤ tt)
+element-number songType v h = inl (lit≤ tt, lit≤ tt)
+element-number titleLength v h = absurd (true≢false h)
+element-number (titleCharacter unicode) v h = inr refl
+element-number patternCount v h = inl (lit≤ tt, lit≤ tt)
+element-number headerId v h = inl (lit≤ tt, lit≤ tt)
+element-number (headerRest known) v h = inl (lit≤ tt, lit≤ tt)
+element-number instructionId v h = inl (lit≤ tt, lit≤ tt)
+element-number (instructionRest k) v h = inl (lit≤ tt, lit≤ tt)
+element-number fillerRun v h = inl (lit≤ tt, lit≤ tt)
+element-number endOctet v h = inl (lit≤ tt, lit≤ tt)
 
--- an outcome whose refusal has a number up to k
-abbrev pub Within : {A : Type 0} → ℕ → Outcome A → Type 0
-Within k (accepted a) = Unit {0}
-Within k (refused n p) = n ≤ k
-
--- reading gives no number above 10
-pub read-within : (m : List ℕ) → Within 10 (readTone m)
-unfolding readTone
-read-within m = pick-elim (Within 10) (ltb mostOctets (length m)) (λ _. omega arith) (λ _. go (wholeTone (bitsOf m) 0) refl)
+-- so an element is refused with 2 to 9 or 21
+pub fault-number : {l : List Bool} {n p e : ℕ} → AtFault l n p e → Among 2 9 n
+fault-number {l} {n} {p} f = ⊎-elim (λ w. inl (omega (arith, w .0), omega (arith, w .0))) (λ w. judged w (element-number (f .which) (field l p (widthOf (f .which) p)) (w .2))) (f .why)
   where
-    go : (g : Got Tone) → wholeTone (bitsOf m) 0 ≡ g → Within 10 (nothingMore (placeAfter (length m)) g)
-    go (got t p) q = pick-elim (Within 10) (eqb p (placeAfter (length m))) (λ _. tt) (λ _. omega arith)
-    go (bad n p e) q = omega (arith, fault-most (at-fault (bitsOf m) q))
+    judged : {x y : Type 0} → (n ≡ numberOf (f .which)) × x × y → Among 3 9 (numberOf (f .which)) → Among 2 9 n
+    judged w a = ⊎-elim (λ b. inl (omega (arith, w .0, b .0), omega (arith, w .0, b .1))) (λ b. inr (w .0 ∙ b)) a
 
--- so a refusal of reading has one of the first ten numbers
-pub read-number-most : (m : List ℕ) (n p : ℕ) → readTone m ≡ refused n p → n ≤ 10
-read-number-most m n p e = subst (Within 10) e (read-within m)
+-- an outcome whose refusal has a number up to `most`, or 21
+abbrev pub Numbered : {A : Type 0} → ℕ → Outcome A → Type 0
+Numbered most (accepted a) = Unit {0}
+Numbered most (refused n p) = Among 1 most n
+
+-- reading gives 1 to 10, or 21
+pub read-number : (m : List ℕ) (n p : ℕ) → readTone m ≡ refused n p → Among 1 10 n
+unfolding readTone
+read-number m n p e =
+    subst (Numbered 10) e (pick-elim (Numbered 10) (ltb mostOctets (length m)) (λ _. inl (lit≤ tt, lit≤ tt)) (λ _. go (wholeTone (bitsOf m) 0) refl))
+  where
+    go : (g : Got Tone) → wholeTone (bitsOf m) 0 ≡ g → Numbered 10 (nothingMore (placeAfter (length m)) g)
+    go (got t p) q = pick-elim (Numbered 10) (eqb p (placeAfter (length m))) (λ _. tt) (λ _. inl (lit≤ tt, lit≤ tt))
+    go (bad n p e) q = ⊎-elim (λ w. inl (omega (arith, w .0), omega (arith, w .1))) (λ w. inr w) (fault-number (at-fault (bitsOf m) q))

@@ -1,4 +1,5 @@
 pub mod Exact
+pub mod Titles
 pub mod Fronts
 pub mod Rows
 pub mod Grounds

@@ -2,7 +2,7 @@
 use Prim.Native.Nat.{ℕ, _-_, _*_, _/_, _≤_, _<_}
 use native.Mathlib.Omega.{arith}
 use mathlib.Core.Path.{_≡_, refl, sym, ap, subst, _∙_}
-use mathlib.Core.Logic.{_⊎_, ⊎-elim, _↔_}
+use mathlib.Core.Logic.{_⊎_, inl, inr, ⊎-elim, _↔_}
 use mathlib.Core.Bool.{Bool}
 use mathlib.Core.List.{List, [], _++_, append-nil}
 use lib.ListN.{length, drop, take, take-append-drop}
@@ -15,7 +15,7 @@ use Rattle.tone.specs.Tone.{Tone, Formed}
 use Rattle.tone.specs.Writing.{toneBits, toneLength, toneOctets, mostOctets, WellFormed}
 use Rattle.tone.specs.Reading.{Got, got, bad, wholeTone, readTone}
 use Rattle.tone.proofs.Rows.{whole-exact}
-use Rattle.tone.proofs.Grounds.{AtFault, at-fault, fault-most}
+use Rattle.tone.proofs.Grounds.{AtFault, at-fault, Among, fault-number}
 use Rattle.tone.proofs.Demand2.{Says, Cut, Followed, read-says, bits-from-start, core-reads, core-alone, bits-accepted, read-formed, accepted-is-written, written-is-accepted, length-toneBits, length-toneOctets}
 
 -- the outcome that a refusal comes from
@@ -37,7 +37,7 @@ pub long-first : (m : List ℕ) → mostOctets < length m → readTone m ≡ ref
 unfolding readTone
 long-first m h = rw (lt-ltb mostOctets (length m) h)
 
--- ---- 2 to 9: the element at fault
+-- ---- 2 to 9 and 21: the element at fault
 
 -- where an element at fault ends, as the rules say it; 0 where none is
 abbrev pub endIn : Got Tone → ℕ
@@ -55,11 +55,11 @@ pub record OfElement (m : List ℕ) (n p : ℕ) : Type 0 where
   pub rules : wholeTone (bitsOf m) 0 ≡ bad n p (faultEnd m)
   pub element : AtFault (bitsOf m) n p (faultEnd m)
 
--- for 2 to 9: the bits from the place to the end are the element at fault
-pub refused-element : (m : List ℕ) (n p : ℕ) → 2 ≤ n → n ≤ 9 → readTone m ≡ refused n p → OfElement m n p
-refused-element m n p h k q =
-    ⊎-elim (λ w. let z : ⊥ = omega (arith, w .0) in absurd z)
-    (λ w. ⊎-elim cut (λ f. let z : ⊥ = omega (arith, f .ten) in absurd z) w)
+-- for 2 to 9 and 21: the bits from the place to the end are the element at fault
+pub refused-element : (m : List ℕ) (n p : ℕ) → Among 2 9 n → readTone m ≡ refused n p → OfElement m n p
+refused-element m n p a q =
+    ⊎-elim (λ w. absurd (⊎-elim (λ b. omega (arith, w .0, b .0)) (λ b. omega (arith, w .0)) a))
+    (λ w. ⊎-elim cut (λ f. absurd (⊎-elim (λ b. omega (arith, f .ten, b .1)) (λ b. omega (arith, f .ten)) a)) w)
     (refusal-says m q)
   where
     cut : Cut m n p → OfElement m n p
@@ -68,19 +68,19 @@ refused-element m n p h k q =
         let r : wholeTone (bitsOf m) 0 ≡ bad n p (faultEnd m) = c .refuses ∙ ap (λ (x : ℕ). bad n p x) e in
         record { bound = c .bound; inside = whole-exact .refusal (bitsOf m) 0 (omega arith) (c .refuses) .inside; rules = r; element = at-fault (bitsOf m) r }
 
--- for 3 to 9: the element is whole, and every message that shares the bits up to its end is refused alike
+-- for 3 to 9 and 21: the element is whole, and every message that shares the bits up to its end is refused alike
 pub record Faulty (m : List ℕ) (n p : ℕ) : Type 0 where
   pub element : AtFault (bitsOf m) n p (faultEnd m)
   pub whole : faultEnd m ≤ length (bitsOf m)
   pub alike : (m′ : List ℕ) → length m′ ≤ mostOctets → faultEnd m ≤ length (bitsOf m′) → take (faultEnd m) (bitsOf m′) ≡ take (faultEnd m) (bitsOf m) → readTone m′ ≡ refused n p
 
 -- so it is
-pub refused-alike : (m : List ℕ) (n p : ℕ) → 3 ≤ n → n ≤ 9 → readTone m ≡ refused n p → Faulty m n p
+pub refused-alike : (m : List ℕ) (n p : ℕ) → Among 3 9 n → readTone m ≡ refused n p → Faulty m n p
 unfolding readTone
-refused-alike m n p h k q =
-    let r = refused-element m n p (omega arith) k q in
+refused-alike m n p a q =
+    let r = refused-element m n p (⊎-elim (λ b. inl (omega (arith, b .0), b .1)) (λ b. inr b) a) q in
     let s = whole-exact .refusal (bitsOf m) 0 (omega arith) (r .rules) in
-    let two : n ≡ 2 → ⊥ = λ e. omega arith in
+    let two : n ≡ 2 → ⊥ = λ e. ⊎-elim (λ b. omega (arith, b .0)) (λ b. omega arith) a in
     record {
       element = r .element;
       whole = s .whole two;
@@ -88,12 +88,12 @@ refused-alike m n p h k q =
     }
 
 -- so no well-formed message begins with those bits
-pub none-begins : (m : List ℕ) (n p : ℕ) → 3 ≤ n → n ≤ 9 → readTone m ≡ refused n p → (t : Tone) → WellFormed t → faultEnd m ≤ length (bitsOf (toneOctets t))
+pub none-begins : (m : List ℕ) (n p : ℕ) → Among 3 9 n → readTone m ≡ refused n p → (t : Tone) → WellFormed t → faultEnd m ≤ length (bitsOf (toneOctets t))
     → take (faultEnd m) (bitsOf (toneOctets t)) ≡ take (faultEnd m) (bitsOf m) → ⊥
-none-begins m n p h k q t w l s =
-    let f = refused-alike m n p h k q in
+none-begins m n p a q t w l s =
+    let f = refused-alike m n p a q in
     let short : length (toneOctets t) ≤ mostOctets = rw (length-toneOctets t) (w .size) in
-    let a : accepted t ≡ refused n p = sym (written-is-accepted t w) ∙ f .alike (toneOctets t) short l s in
+    let e : accepted t ≡ refused n p = sym (written-is-accepted t w) ∙ f .alike (toneOctets t) short l s in
     let z : _≡_ {A = ℕ} 0 1 = cc in
     omega arith
 
@@ -137,7 +137,7 @@ ten-exactly m p = (λ q. to q, from)
     to : readTone m ≡ refused 10 p → GoesOn m p
     to q =
         ⊎-elim (λ w. let z : ⊥ = omega (arith, w .0) in absurd z)
-        (λ w. ⊎-elim (λ c. let z : ⊥ = omega (arith, fault-most (at-fault (bitsOf m) (c .refuses))) in absurd z) follows w)
+        (λ w. ⊎-elim (λ c. absurd (⊎-elim (λ b. omega (arith, b .1)) (λ b. omega (arith, b)) (fault-number (at-fault (bitsOf m) (c .refuses))))) follows w)
         (refusal-says m q)
 
     from : GoesOn m p → readTone m ≡ refused 10 p

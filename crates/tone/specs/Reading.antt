@@ -8,7 +8,7 @@ use Rattle.bits.specs.Choice.{pick}
 use Rattle.bits.specs.Bits.{field, bitsOf, fillerTo, placeAfter}
 use Rattle.bits.specs.Outcome.{Outcome, accepted, refused}
 use Rattle.tone.specs.Table.{entry, width, allowed, isInstruction}
-use Rattle.tone.specs.Tone.{Pattern, Tone, Front, specifier, pattern, noneKnown, recallable, learn}
+use Rattle.tone.specs.Tone.{Pattern, Tone, Front, characterBits, allowedCharacter, specifier, pattern, noneKnown, recallable, learn}
 use Rattle.tone.specs.Writing.{programming, unicodePart, sound, mostOctets}
 
 -- what reading gives: a value and the place behind it, or a refusal: its number, where the faulty element begins and where it ends
@@ -89,14 +89,10 @@ command = lengthOctet >>= parts
 abbrev pub songType : Reader ℕ
 songType = element 3 (λ n. eqb n 1 || eqb n 2) 4
 
--- which title characters are allowed: all
-abbrev pub allowedCharacter : ℕ → Bool
-allowedCharacter c = true
-
--- a title's character: one octet, or two, high octet first, under UNICODE
+-- a title's character, judged as one number: one octet, or two, high octet first, under UNICODE
 unfoldable pub character : Bool → Reader (List ℕ)
 character unicode = do
-  c ← element (pick unicode 16 8) allowedCharacter 0
+  c ← element (characterBits unicode) allowedCharacter 21
   return (pick unicode (c / 256 ∷ c % 256 ∷ []) (c ∷ []))
 
 -- so many characters

@@ -1,10 +1,10 @@
 -- What a tone is, when it is well formed, and its table.
 use Prim.Native.Nat.{ℕ, _+_, _*_, _/_, _%_, _≤_, _<_}
 use mathlib.Core.Path.{_≡_}
-use mathlib.Core.Bool.{Bool, true, false}
+use mathlib.Core.Bool.{Bool, true, false, not, _&&_, _||_}
 use mathlib.Core.List.{List, [], _∷_, _++_}
 use lib.ListN.{length, getD, set}
-use lib.Dec.{eqb}
+use lib.Dec.{leb, eqb}
 use Rattle.bits.specs.Choice.{pick}
 use Rattle.bits.specs.Bits.{Octets}
 use Rattle.tone.specs.Table.{kind, Instruction}
@@ -105,15 +105,40 @@ learn known h = pick (eqb (specifier h) 0) known (set known (partOf h) true)
 abbrev pub perCharacter : Bool → ℕ
 perCharacter unicode = pick unicode 2 1
 
--- a title's characters
+-- bits that it takes
+abbrev pub characterBits : Bool → ℕ
+characterBits unicode = pick unicode 16 8
+
+-- how many characters a title has
 abbrev pub characters : Bool → List ℕ → ℕ
 characters unicode title = length title / perCharacter unicode
 
--- a title of whole characters, at most fifteen; a temporary song has none
+-- the number of each character: its octet, or its two, high octet first, under UNICODE
+abbrev pub codes : Bool → List ℕ → List ℕ
+codes false title = title
+codes true [] = []
+codes true (half ∷ []) = []
+codes true (high ∷ low ∷ title) = (high * 256 + low) ∷ codes true title
+
+-- characters 0 to 31 and 127 to 159 wreck a menu line
+unfoldable pub allowedCharacter : ℕ → Bool
+allowedCharacter c = not (leb c 31 || (leb 127 c && leb c 159))
+
+-- each of them is allowed
+abbrev pub allAllowed : List ℕ → Bool
+allAllowed [] = true
+allAllowed (c ∷ cs) = allowedCharacter c && allAllowed cs
+
+-- each character of a title is allowed
+abbrev pub allowedTitle : Bool → List ℕ → Bool
+allowedTitle unicode title = allAllowed (codes unicode title)
+
+-- a title of whole characters, at most fifteen, each of them allowed; a temporary song has none
 pub record Titled (song : ℕ) (unicode : Bool) (title : List ℕ) : Type 0 where
   pub octets : Octets title
   pub whole : perCharacter unicode * characters unicode title ≡ length title
   pub short : characters unicode title ≤ 15
+  pub allowed : allowedTitle unicode title ≡ true
   pub none : song ≡ 2 → title ≡ []
 
 -- each is an instruction

@@ -4,4 +4,5 @@ pub mod Seeing
 pub mod Steps
 pub mod Walks
 pub mod Openings
+pub mod Titles
 pub mod Standing

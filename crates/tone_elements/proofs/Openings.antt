@@ -30,11 +30,11 @@ use Rattle.tone_elements.specs.declared.Step.the-variants.{Good, Bad}
 use Rattle.tone_elements.specs.declared.Command.{Command}
 use Rattle.tone_elements.specs.declared.Command.the-variants.{Announced, Withheld}
 use Rattle.tone_elements.specs.declared.Characters.{Characters}
-use Rattle.tone_elements.specs.declared.Characters.the-variants.{Present, Cut}
+use Rattle.tone_elements.specs.declared.Characters.the-variants.{Present, Faulty}
 use Rattle.tone_elements.specs.declared.Opening.{Opening}
 use Rattle.tone_elements.specs.declared.Opening.the-variants.{Opened, Closed}
 use Rattle.tone_elements.specs.Answers.{Within, stepAs, stepOf, commandOf, charactersOf, openingOf}
-use Rattle.tone_elements.proofs.Steps.{step-there, step-bad, step-cong, step-map, characters-as, characters-good, characters-cut}
+use Rattle.tone_elements.proofs.Steps.{step-there, step-bad, step-cong, step-map, characters-as, characters-good, characters-bad}
 use Rattle.tone_elements.proofs.Walks.{stays}
 
 -- ---- places stay within the message
@@ -99,14 +99,14 @@ module _ (m : List ℕ) (at n : ℕ) {s : Step} (q : s ≡ stepOf (filled progra
 
 -- what reading any code says of an element that is judged
 module _ (w number : ℕ) (fine : ℕ → Bool) (m : List ℕ) (at : ℕ) {s : Step} (q : s ≡ stepOf (anyOf w (bitsOf m) at)) where
-  cut-there : {n : ℕ} {f : BitPlace} → s ≡ Bad n f → (e : ℕ) × (element w fine number (bitsOf m) at ≡ bad n (f .0) e)
+  pub cut-there : {n : ℕ} {f : BitPlace} → s ≡ Bad n f → (e : ℕ) × (element w fine number (bitsOf m) at ≡ bad n (f .0) e)
   cut-there g = let b = step-bad (λ v. v) (anyOf w (bitsOf m) at) (sym g ∙ q) in (b .0, judged-cut w fine number (bitsOf m) at (b .1))
 
   module _ {v : ℕ} {f : BitPlace} (g : s ≡ Good v f) where
-    good-there : fine v ≡ true → element w fine number (bitsOf m) at ≡ got v (f .0)
+    pub good-there : fine v ≡ true → element w fine number (bitsOf m) at ≡ got v (f .0)
     good-there h = judged-good w fine number (bitsOf m) at (step-there (anyOf w (bitsOf m) at) (sym g ∙ q)) h
 
-    bad-there : fine v ≡ false → element w fine number (bitsOf m) at ≡ bad number at (at + w)
+    pub bad-there : fine v ≡ false → element w fine number (bitsOf m) at ≡ bad number at (at + w)
     bad-there h = judged-bad w fine number (bitsOf m) at (step-there (anyOf w (bitsOf m) at) (sym g ∙ q)) h
 
     -- the places stay within the message
@@ -178,65 +178,6 @@ command-within m at {c} {u} {f} i q g = go (command (bitsOf m) at) refl (sym g �
     go (got a p) y e = let z : f ≡ place p = cc in record { inside = rw z (stays command-exact m at (i .inside) y); counted = i .counted }
     go (bad n p e′) y e = let z : _≡_ {A = ℕ} 0 1 = cc in absurd (omega arith)
 
--- ---- the characters of a title
-
--- how many bits a character has
-abbrev across : Bool → ℕ
-across unicode = pick unicode 16 8
-
--- one character that is there, with c octets ahead of it
-text-step : (unicode : Bool) (n c : ℕ) (l : List Bool) (p : ℕ) → p + across unicode ≤ length l
-    → stepAs (λ t. c + length t) (text unicode (suc n) l p) ≡ stepAs (λ t. c + perCharacter unicode + length t) (text unicode n l (p + across unicode))
-unfolding text character
-text-step true n c l p h =
-    let v = field l p 16 in
-    rw (element-good 16 (λ _. true) 0 l p h refl) (step-map (λ t. c + length t) (λ t. v / 256 ∷ v % 256 ∷ t) (text true n l (p + 16)) ∙ step-cong (text true n l (p + 16)) (λ t. omega arith))
-text-step false n c l p h =
-    rw (element-good 8 (λ _. true) 0 l p h refl) (step-map (λ t. c + length t) (λ t. field l p 8 ∷ t) (text false n l (p + 8)) ∙ step-cong (text false n l (p + 8)) (λ t. omega arith))
-
--- k characters that are there, and n more
-text-more : (unicode : Bool) (k n c : ℕ) (l : List Bool) (p : ℕ) → p + k * across unicode ≤ length l
-    → stepAs (λ t. c + length t) (text unicode (k + n) l p) ≡ stepAs (λ t. c + k * perCharacter unicode + length t) (text unicode n l (p + k * across unicode))
-text-more unicode zero n c l p h = rw (zero-add n, zero-mul (across unicode), zero-mul (perCharacter unicode), add-zero p, add-zero c)
-text-more unicode (suc k) n c l p h =
-    let w = across unicode in
-    let o = perCharacter unicode in
-    let s : suc k + n ≡ suc (k + n) = omega arith in
-    let q : p + w + k * w ≡ p + suc k * w = omega (arith, suc-mul k w) in
-    let a : c + o + k * o ≡ c + suc k * o = omega (arith, suc-mul k o) in
-    rw (s, ← q, ← a) (text-step unicode (k + n) c l p (omega (arith, q)) ∙ text-more unicode k n (c + o) l (p + w) (rw q h))
-
--- r bits are left, and n characters of b bits are due
-module _ (m : List ℕ) (at : ℕ) (unicode : Bool) (n : ℕ) {r b : ℕ} (hr : r + at ≡ 8 * length m) (hb : (b ≡ pick unicode 16 8) × (b ≤ 16) × (1 ≤ b)) where
-  -- k of them are there
-  text-after : (k j : ℕ) → n ≡ k + j → k * b ≤ r → stepAs length (text unicode n (bitsOf m) at) ≡ stepAs (λ t. k * perCharacter unicode + length t) (text unicode j (bitsOf m) (at + k * b))
-  text-after k j e h =
-      let i : at + k * b ≤ length (bitsOf m) = rw (length-bitsOf m) (omega arith) in
-      rw (e, hb .0) (step-cong (text unicode (k + j) (bitsOf m) at) (λ t. sym (zero-add (length t))) ∙ text-more unicode k j 0 (bitsOf m) at (rw (hb .0) at i)
-      ∙ step-cong (text unicode j (bitsOf m) (at + k * across unicode)) (λ t. omega arith))
-
-  -- fewer are there than are due: the first that is cut short is refused
-  pub text-cut : r < n * b → Cut (place (at + (r - r % b))) 2 ≡ charactersOf (text unicode n (bitsOf m) at)
-  unfolding text character
-  text-cut h =
-      let k = r / b in
-      let s : r % b + k * b ≡ r = mod-add-div' r b in
-      let f : k < n = div-lt-iff-lt-mul (hb .2) .1 h in
-      let j = n - k - 1 in
-      let e : n ≡ k + suc j = omega arith in
-      let q : r - r % b ≡ k * b = omega arith in
-      let c : length (bitsOf m) < at + k * b + across unicode = rw (length-bitsOf m, ← hb .0) (omega (arith, lt-div-mul-add {a = r} (hb .2))) in
-      characters-as (text unicode n (bitsOf m) at) (Bad 2 (place (at + (r - r % b)))) (text-after k (suc j) e (omega arith) ∙ (rw (q, element-cut (across unicode) (λ _. true) 0 (bitsOf m) (at + k * b) c)))
-
-  -- all of them are there
-  pub text-good : {o : ℕ} → (o ≡ perCharacter unicode) × (o ≤ 2) × (1 ≤ o) → n * b ≤ r → Present (place (at + n * b)) (octetCount (n * o)) ≡ charactersOf (text unicode n (bitsOf m) at)
-  unfolding text
-  text-good {o} ho h = characters-as (text unicode n (bitsOf m) at) (Good (n * o) (place (at + n * b))) (text-after n 0 (sym (add-zero n)) h ∙ (rw (ho .0, add-zero (n * perCharacter unicode))))
-
--- a product fits where that of the bounds does
-pub product-fits : (w : Width) (n b p q : ℕ) → n ≤ p → b ≤ q → T (ltb (p * q) (2 ^ bits w)) → Fits w (n * b)
-product-fits w n b p q h k t = record { fits = lt-of-le-of-lt (mul-le-mul h k) (ltb→lt (p * q) (2 ^ bits w) t) }
-
 -- ---- the title
 
 pub title-none : (m : List ℕ) (song : ℕ) (unicode : Bool) (p : BitPlace) → (song ≡ 1 → ⊥) → Present p (octetCount 0) ≡ charactersOf (title song unicode (bitsOf m) (p .0))
@@ -250,7 +191,7 @@ title-short m at q g =
     omega arith
 
 module _ (m : List ℕ) (at song : ℕ) (unicode : Bool) {s : Step} (h : song ≡ 1) (q : s ≡ stepOf (anyOf 4 (bitsOf m) at)) where
-  pub title-cut : {n : ℕ} {f : BitPlace} → s ≡ Bad n f → Cut f n ≡ charactersOf (title song unicode (bitsOf m) at)
+  pub title-cut : {n : ℕ} {f : BitPlace} → s ≡ Bad n f → Faulty f n ≡ charactersOf (title song unicode (bitsOf m) at)
   unfolding title
   title-cut g = let b = step-bad (λ v. v) (anyOf 4 (bitsOf m) at) (sym g ∙ q) in rw (eq-eqb song 1 h, b .1)
 
@@ -272,9 +213,9 @@ title-within m at song unicode {o} {p} h = pick-elim (λ (r : Reader (List ℕ))
 -- ---- the title and the count
 
 module _ (m : List ℕ) (at song : ℕ) (unicode : Bool) {s : Characters} (q : s ≡ charactersOf (title song unicode (bitsOf m) at)) where
-  pub titled-bad : {n : ℕ} {f : BitPlace} → s ≡ Cut f n → Closed n f ≡ openingOf (titled song unicode (bitsOf m) at)
+  pub titled-bad : {n : ℕ} {f : BitPlace} → s ≡ Faulty f n → Closed n f ≡ openingOf (titled song unicode (bitsOf m) at)
   unfolding titled
-  titled-bad g = let b = characters-cut (title song unicode (bitsOf m) at) (sym g ∙ q) in rw (b .1)
+  titled-bad g = let b = characters-bad (title song unicode (bitsOf m) at) (sym g ∙ q) in rw (b .1)
 
   module _ {o : OctetCount} {f : BitPlace} (g : s ≡ Present f o) where
     title-there : (t : List ℕ) × (title song unicode (bitsOf m) at ≡ got t (f .0)) × (o ≡ octetCount (length t))
@@ -380,8 +321,6 @@ module _ (m : List ℕ) (at : ℕ) {x y : ℕ} (ey : y ≡ octetsTo at) (hy : y 
       rw (r, zeros f 8 9 (omega arith)) (ap (λ (q : ℕ). Good 0 (place q)) e)
 
 pub ruleset commands = (element-within, filled-bad, filled-next, filled-within, sound-bad, sound-good, parts-bad, parts-plain, parts-unicode-bad, parts-unicode, any-within, command-cut, command-two, command-three, command-other, command-plain)
-
-pub ruleset texts = (text-cut, text-good, product-fits, mod-le)
 
 pub ruleset titles = (any-within, title-none, title-short, title-cut, title-text, titled-bad, titled-within, titled-cut, titled-zero, titled-good)
 

@@ -10,7 +10,7 @@ use Rattle.bits.specs.Places.{place, octetCount}
 use Rattle.tone_elements.specs.declared.Step.{Step}
 use Rattle.tone_elements.specs.declared.Step.the-variants.{Good, Bad}
 use Rattle.tone_elements.specs.declared.Characters.{Characters}
-use Rattle.tone_elements.specs.declared.Characters.the-variants.{Present, Cut}
+use Rattle.tone_elements.specs.declared.Characters.the-variants.{Present, Faulty}
 use Rattle.tone.specs.Reading.{Got, got, bad, onward}
 use Rattle.tone_elements.specs.Answers.{stepAs, stepOf, charactersOf}
 
@@ -62,7 +62,7 @@ onward-made (bad n p e′) f e = let z : _≡_ {A = ℕ} 0 1 = cc in absurd (ome
 -- a number that was counted, as octets of a title
 abbrev asCharacters : Step → Characters
 asCharacters (Good v p) = Present p (octetCount v)
-asCharacters (Bad n p) = Cut p n
+asCharacters (Bad n p) = Faulty p n
 
 -- a title's octets are its length, counted
 pub characters-as : (x : Got (List ℕ)) (s : Step) → stepAs length x ≡ s → asCharacters s ≡ charactersOf x
@@ -81,9 +81,9 @@ characters-good (got t p) {q} {o} e =
 characters-good (bad n p e′) e = let z : _≡_ {A = ℕ} 0 1 = cc in absurd (omega arith)
 
 -- a refusal is there
-pub characters-cut : (x : Got (List ℕ)) {q : BitPlace} {n : ℕ} → Cut q n ≡ charactersOf x → (e : ℕ) × (x ≡ bad n (q .0) e)
-characters-cut (got t p) e = let z : _≡_ {A = ℕ} 0 1 = cc in absurd (omega arith)
-characters-cut (bad n′ p e′) {q} {n} e =
+pub characters-bad : (x : Got (List ℕ)) {q : BitPlace} {n : ℕ} → Faulty q n ≡ charactersOf x → (e : ℕ) × (x ≡ bad n (q .0) e)
+characters-bad (got t p) e = let z : _≡_ {A = ℕ} 0 1 = cc in absurd (omega arith)
+characters-bad (bad n′ p e′) {q} {n} e =
     let e₁ : n ≡ n′ = cc in
     let e₂ : q ≡ place p = cc in
     (e′, rw (e₁, e₂) refl)

@@ -1,12 +1,12 @@
 -- What the code answers of an element that was due.
-use Prim.Native.Nat.{ℕ, _+_, _^_, _≤_, _<_}
+use Prim.Native.Nat.{ℕ, _+_, _*_, _/_, _%_, _^_, _≤_, _<_}
 use mathlib.Core.Bool.{Bool, true}
 use mathlib.Core.Path.{_≡_}
 use mathlib.Core.List.{List, [], _∷_, _++_}
 use lib.ListN.{length, drop}
 use lib.Dec.{eqb}
 use Rattle.bits.specs.Choice.{pick}
-use Rattle.bits.specs.Bits.{bitsOf, placeAfter}
+use Rattle.bits.specs.Bits.{bitsOf, field, placeAfter}
 use Rattle.bits.specs.Window.{Sight}
 use Rattle.bits.specs.Places.{place, octetCount}
 use Rattle.tone_elements.specs.declared.Step.{Step}
@@ -14,11 +14,11 @@ use Rattle.tone_elements.specs.declared.Step.the-variants.{Good, Bad}
 use Rattle.tone_elements.specs.declared.Command.{Command}
 use Rattle.tone_elements.specs.declared.Command.the-variants.{Announced, Withheld}
 use Rattle.tone_elements.specs.declared.Characters.{Characters}
-use Rattle.tone_elements.specs.declared.Characters.the-variants.{Present, Cut}
+use Rattle.tone_elements.specs.declared.Characters.the-variants.{Present, Faulty}
 use Rattle.tone_elements.specs.declared.Opening.{Opening}
 use Rattle.tone_elements.specs.declared.Opening.the-variants.{Opened, Closed}
 use Rattle.tone.specs.Table.{kind, InTable}
-use Rattle.tone.specs.Tone.{Front}
+use Rattle.tone.specs.Tone.{Front, characterBits, allowedCharacter}
 use Rattle.tone.specs.Writing.{entryBits}
 use Rattle.tone.specs.Reading.{Got, got, bad, instructionDue}
 
@@ -61,7 +61,19 @@ commandOf (bad n p e) = Withheld n (place p)
 -- how many octets a title's characters are, or the refusal
 abbrev pub charactersOf : Got (List ℕ) → Characters
 charactersOf (got t p) = Present (place p) (octetCount (length t))
-charactersOf (bad n p e) = Cut (place p) n
+charactersOf (bad n p e) = Faulty (place p) n
+
+-- a test that is sure where it passes
+pub record Sure (r : Bool) (P : Type 0) : Type 0 where
+  pub so : r ≡ true → P
+
+-- the characters of w bits that a number of 64 bits holds are allowed
+pub record HoldsAllowed (w x : ℕ) : Type 0 where
+  pub each : (k : ℕ) → w * k + w ≤ 64 → allowedCharacter (x / 2 ^ (w * k) % 2 ^ w) ≡ true
+
+-- the n characters at a place are allowed
+pub record AllowedAt (m : List ℕ) (at : ℕ) (unicode : Bool) (n : ℕ) : Type 0 where
+  pub each : (i : ℕ) → i < n → allowedCharacter (field (bitsOf m) (at + i * characterBits unicode) (characterBits unicode)) ≡ true
 
 -- the front as the code answers it, or the refusal
 abbrev pub openingOf : Got Front → Opening

@@ -2,14 +2,15 @@ ghost use mathlib.Core.Path.{_≡_};
 ghost use Prim.Native.Nat.{ℕ, _+_, _-_, _*_, _/_, _%_, _^_, _≤_, _<_};
 ghost use lib.ListN.{length, drop};
 ghost use lib.Dec.{eqb};
-ghost use Rattle.bits.specs.Choice.{pick};
+ghost use lib.Bits.{bitAnd, bitXor};
 ghost use Rattle.bits.specs.Bits.{bitsOf, placeAfter};
-ghost use Rattle.bits.specs.Window.{Look};
+ghost use Rattle.bits.specs.Window.{Look, fills};
 ghost use Rattle.tone.specs.Table.{width as widthOf, allowed as allowedOf};
-ghost use Rattle.tone.specs.Tone.{perCharacter};
+ghost use Rattle.tone.specs.Tone.{perCharacter, characterBits, allowedCharacter};
 ghost use Rattle.tone.specs.Reading.{element, anyOf, filled, soundPart, parts as partsDue, command, text as textDue, title as titleDue, titled as titledDue, front};
 ghost use Rattle.tone.specs.Reading.{headerDue, instructionDue, bodyDue, ending as endingDue};
 ghost use Rattle.tone_elements.specs.Answers.{Within, allKnown, stepAs, stepOf, commandOf, noteIn, notes as notesOf, charactersOf, openingOf, Seen, SomeEntry, EntryAt, Passed};
+ghost use Rattle.tone_elements.specs.Answers.{Sure, HoldsAllowed, AllowedAt};
 ghost use mathlib.Core.Bool.{Bool};
 ghost use mathlib.Core.List.{List};
 use bits::BitPlace;
@@ -27,10 +28,10 @@ pub enum Command {
     Withheld { number: u32, at: BitPlace },
 }
 
-// The characters of a title: the place behind them and how many octets they are; or the refusal, where they are cut short.
+// The characters of a title: the place behind them and how many octets they are; or the refusal.
 pub enum Characters {
     Present { next: BitPlace, octets: OctetCount },
-    Cut { at: BitPlace, number: u32 },
+    Faulty { at: BitPlace, number: u32 },
 }
 
 // The front of a message: song type, the place behind it, the title's octets, the pattern count, UNICODE or not; or the
@@ -432,8 +433,8 @@ pub fn announced(msg: &[u8], at: BitPlace) -> Command
 }
 
 // The bits of a title's character.
-fn character_bits(unicode: bool) -> usize
-    ensures { λ r. ⌜ (r ≡ pick unicode 16 8) × (r ≤ 16) × (1 ≤ r) ⌝ }
+fn character_bits(unicode: bool) -> u32
+    ensures { λ r. ⌜ (r ≡ characterBits unicode) × (r ≤ 16) × (1 ≤ r) ⌝ }
 {
     if unicode { 16 } else { 8 }
 }
@@ -457,25 +458,161 @@ pub fn characters_in(octets: OctetCount, unicode: bool) -> u32
     octets.0 as u32 / character_octets(unicode).0 as u32
 }
 
-// `n` characters, told at once: every code is allowed.
-fn text(msg: &[u8], at: BitPlace, unicode: bool, n: u32) -> Characters
+// Is it a character that a title may have?
+fn allowed_character(c: u32) -> bool
+    ensures { λ r. ⌜ r ≡ allowedCharacter c ⌝ }
+{
+    if c <= 31 {
+        return false;
+    }
+    if 127 <= c {
+        return 159 < c;
+    }
+    true
+}
+
+// A title's character, judged once it is complete.
+fn character(msg: &[u8], at: BitPlace, unicode: bool) -> Step
+    requires { ⌜ Within (now msg) (at .0) ⌝ }
+    ensures { λ r. ⌜ r ≡ stepOf (element (characterBits unicode) allowedCharacter 21 (bitsOf (now (msg .entry))) (at .0)) ⌝ }
+{
+    match any(msg, at, character_bits(unicode)) {
+        Step::Bad { number, at: fault } => Step::Bad { number, at: fault },
+        Step::Good { value, next } => {
+            if allowed_character(value) {
+                return Step::Good { value, next };
+            }
+            Step::Bad { number: 21, at }
+        }
+    }
+}
+
+// `n` characters one by one.
+fn lettered(msg: &[u8], at: BitPlace, unicode: bool, n: u32) -> Characters
     requires { ⌜ Within (now msg) (at .0) ⌝ }
     requires { ⌜ n ≤ 15 ⌝ }
     ensures { λ r. ⌜ r ≡ charactersOf (textDue unicode n (bitsOf (now (msg .entry))) (at .0)) ⌝ }
 {
-    let bits = character_bits(unicode);
-    let rest = left(msg, at);
-    let all = n as usize * bits;
-    if rest < all {
-        return Characters::Cut {
-            at: BitPlace(at.0 + (rest - rest % bits)),
-            number: 2,
-        };
+    let mut place = at;
+    let mut more = n;
+    while 0 < more {
+        match character(msg, place, unicode) {
+            Step::Bad { number, at: fault } => {
+                return Characters::Faulty { at: fault, number };
+            }
+            Step::Good { value: _, next } => {
+                place = next;
+                more -= 1;
+            }
+        }
     }
     Characters::Present {
-        next: BitPlace(at.0 + all),
+        next: place,
         octets: OctetCount(n as usize * character_octets(unicode).0),
     }
+}
+
+// Lanes of a number, told at once: does each have a bit of `some`, and differ from `other`? `low` has the bits of each lane
+// but the highest, which `high` has.
+fn lanes_fine(x: u64, low: u64, high: u64, some: u64, other: u64) -> bool
+    requires { ⌜ low < 2 ^ 63 ⌝ }
+    ensures { λ r. ⌜ r ≡ eqb (bitAnd (bitAnd (fills low (bitAnd x some)) (fills low (bitXor x other))) high) high ⌝ }
+{
+    let a = x & some;
+    let b = x ^ other;
+    (((a & low) + low) | a) & (((b & low) + low) | b) & high == high
+}
+
+// Is each character allowed that a number holds, eight of an octet, or four of two under UNICODE? The characters without a
+// high octet and without either bit of 60 hexadecimal are 0 to 31 and 128 to 159. Beside them 127 is refused.
+fn each_allowed(x: u64, unicode: bool) -> bool
+    ensures { λ r. ⌜ Sure r (HoldsAllowed (characterBits unicode) x) ⌝ }
+{
+    if unicode {
+        return lanes_fine(
+            x,
+            0x7FFF_7FFF_7FFF_7FFF,
+            0x8000_8000_8000_8000,
+            0xFF60_FF60_FF60_FF60,
+            0x007F_007F_007F_007F,
+        );
+    }
+    lanes_fine(
+        x,
+        0x7F7F_7F7F_7F7F_7F7F,
+        0x8080_8080_8080_8080,
+        0x6060_6060_6060_6060,
+        0x7F7F_7F7F_7F7F_7F7F,
+    )
+}
+
+// How many of the characters to come one sight holds.
+fn characters_turn(unicode: bool, more: u32) -> u32
+    requires { ⌜ 0 < more ⌝ }
+    ensures { λ r. ⌜ (1 ≤ r) × (r ≤ more) × (r * characterBits unicode ≤ 56) ⌝ }
+{
+    if unicode {
+        return if 3 < more { 3 } else { more };
+    }
+    if 7 < more { 7 } else { more }
+}
+
+// The bits of so many characters.
+fn span(unicode: bool, n: u32) -> u32
+    requires { ⌜ n ≤ 15 ⌝ }
+    ensures { λ r. ⌜ (r ≡ n * characterBits unicode) × (r ≤ 240) ⌝ }
+{
+    if unicode { 16 * n } else { 8 * n }
+}
+
+// Are `k` characters allowed, which one sight holds? Below them it is filled with ones: a character of ones is allowed.
+fn turn_allowed(msg: &[u8], at: BitPlace, unicode: bool, k: u32) -> bool
+    requires { ⌜ Within (now msg) (at .0) ⌝ }
+    requires { ⌜ (k ≤ 15) × (k * characterBits unicode ≤ 56) × (at .0 + k * characterBits unicode ≤ placeAfter (length (now msg))) ⌝ }
+    ensures { λ r. ⌜ Sure r (AllowedAt (now (msg .entry)) (at .0) unicode k) ⌝ }
+{
+    let below = 0xFFFF_FFFF_FFFF_FFFFu64 >> span(unicode, k);
+    each_allowed(bits::sight(msg, at) | below, unicode)
+}
+
+// Are `n` characters allowed, which are there? A sight holds seven, or three under UNICODE.
+fn all_allowed(msg: &[u8], at: BitPlace, unicode: bool, n: u32) -> bool
+    requires { ⌜ Within (now msg) (at .0) ⌝ }
+    requires { ⌜ n ≤ 15 ⌝ }
+    requires { ⌜ at .0 + n * characterBits unicode ≤ placeAfter (length (now msg)) ⌝ }
+    ensures { λ r. ⌜ Sure r (AllowedAt (now (msg .entry)) (at .0) unicode n) ⌝ }
+{
+    let mut place = at;
+    let mut more = n;
+    while 0 < more {
+        let k = characters_turn(unicode, more);
+        if turn_allowed(msg, place, unicode, k) {
+            place = BitPlace(place.0 + span(unicode, k) as usize);
+            more -= k;
+        } else {
+            return false;
+        }
+    }
+    true
+}
+
+// `n` characters. Where all are there and allowed, they are told a few at a time.
+pub fn text(msg: &[u8], at: BitPlace, unicode: bool, n: u32) -> Characters
+    requires { ⌜ Within (now msg) (at .0) ⌝ }
+    requires { ⌜ n ≤ 15 ⌝ }
+    ensures { λ r. ⌜ r ≡ charactersOf (textDue unicode n (bitsOf (now (msg .entry))) (at .0)) ⌝ }
+{
+    let all = span(unicode, n) as usize;
+    if left(msg, at) < all {
+        return lettered(msg, at, unicode, n);
+    }
+    if all_allowed(msg, at, unicode, n) {
+        return Characters::Present {
+            next: BitPlace(at.0 + all),
+            octets: OctetCount(n as usize * character_octets(unicode).0),
+        };
+    }
+    lettered(msg, at, unicode, n)
 }
 
 // The title of a basic song; a temporary one has none.
@@ -490,7 +627,7 @@ fn title(msg: &[u8], at: BitPlace, song: u32, unicode: bool) -> Characters
         };
     }
     match any(msg, at, 4) {
-        Step::Bad { number, at: fault } => Characters::Cut { at: fault, number },
+        Step::Bad { number, at: fault } => Characters::Faulty { at: fault, number },
         Step::Good { value, next } => text(msg, next, unicode, value),
     }
 }
@@ -501,7 +638,7 @@ fn titled(msg: &[u8], at: BitPlace, song: u32, unicode: bool) -> Opening
     ensures { λ r. ⌜ r ≡ openingOf (titledDue song unicode (bitsOf (now (msg .entry))) (at .0)) ⌝ }
 {
     match title(msg, at, song, unicode) {
-        Characters::Cut { at: fault, number } => Opening::Closed { number, at: fault },
+        Characters::Faulty { at: fault, number } => Opening::Closed { number, at: fault },
         Characters::Present {
             next: behind,
             octets,

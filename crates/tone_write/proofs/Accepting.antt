@@ -11,7 +11,7 @@ use borrow.Author.Tests.{le-leb, eq-eqb, eqb-true, eqb-false, leb-true}
 use Rattle.bits.specs.Bits.{Octets}
 use Rattle.bits.specs.Outcome.{Outcome, accepted, refused, andThen}
 use Rattle.bits.proofs.Choice.{both}
-use Rattle.tone.specs.Tone.{Tone, frontOf, cells, patternsOf, perCharacter, characters, Titled, FrontFormed}
+use Rattle.tone.specs.Tone.{Tone, frontOf, cells, patternsOf, perCharacter, characters, allowedTitle, Titled, FrontFormed}
 use Rattle.tone.specs.Writing.{toneLength, mostOctets, WellFormed}
 use Rattle.tone.proofs.Fronts.{or-true, one-or-two, song-fine}
 use Rattle.tone.proofs.Rows.{and-is, length-none}
@@ -31,19 +31,20 @@ or-is {a} {b} h = ⊎-elim (λ p. rw p refl) (λ p. rw p (go a)) h
     go true = refl
     go false = refl
 
-whole-characters : (unicode : Bool) (title : List ℕ) → (length title % perCharacter unicode ≡ 0) ↔ (perCharacter unicode * characters unicode title ≡ length title)
+pub whole-characters : (unicode : Bool) (title : List ℕ) → (length title % perCharacter unicode ≡ 0) ↔ (perCharacter unicode * characters unicode title ≡ length title)
 whole-characters true title = (λ h. omega arith, λ h. omega arith)
 whole-characters false title = (λ h. omega arith, λ h. omega arith)
 
 module _ (song : ℕ) (unicode : Bool) (title : List ℕ) where
-  pub fine-is-titled : Octets title → titleFine song unicode title ≡ true → Titled song unicode title
-  fine-is-titled o h =
+  pub fine-is-titled : Octets title → titleFine song unicode title ≡ true → allowedTitle unicode title ≡ true → Titled song unicode title
+  fine-is-titled o h c =
       let a = both (leb (characters unicode title) 15) _ h in
       let b = both (eqb (length title % perCharacter unicode) 0) _ (a .1) in
       record {
         octets = o;
         whole = whole-characters unicode title .0 (eqb-true (length title % perCharacter unicode) 0 (b .0));
         short = leb-true (characters unicode title) 15 (a .0);
+        allowed = c;
         none = λ t. ⊎-elim (λ p. let e = eqb-true song 1 p in let z : ⊥ = omega arith in absurd z) (λ p. length-none title (eqb-true (length title) 0 p)) (or-true (eqb song 1) (eqb (length title) 0) (b .1));
       }
 
@@ -76,6 +77,7 @@ pub record Passed (song : ℕ) (unicode : Bool) (title table : List ℕ) (room :
   pub same : toneOf song unicode title table ≡ t
   pub basicOrTemporary : (1 ≤ song) × (song ≤ 2)
   pub titleGood : titleFine song unicode title ≡ true
+  pub charactersGood : allowedTitle unicode title ≡ true
   pub count : ℕ
   pub good : GoodTable table count
   pub most : toneLength (toneOf song unicode title table) ≤ mostOctets
@@ -98,23 +100,24 @@ module _ (song : ℕ) (unicode : Bool) (title table : List ℕ) (room : ℕ) whe
   -- what is accepted passed every rule
   pub passed : (t : Tone) → writeTone song unicode title table room ≡ accepted t → Passed song unicode title table room t
   unfolding writeTone
-  passed t q = go (songFine song) (titleFine song unicode title) (judgeTable table) refl refl refl q
+  passed t q = go (songFine song) (titleFine song unicode title) (allowedTitle unicode title) (judgeTable table) refl refl refl refl q
     where
-      go : (a b : Bool) (x : Outcome ℕ) → songFine song ≡ a → titleFine song unicode title ≡ b → judgeTable table ≡ x
-          → demand a 4 (demand b 17 (andThen x (λ _. sized room tone))) ≡ accepted t → Passed song unicode title table room t
-      go true true (accepted n) f g h r =
+      go : (a b c : Bool) (x : Outcome ℕ) → songFine song ≡ a → titleFine song unicode title ≡ b → allowedTitle unicode title ≡ c → judgeTable table ≡ x
+          → demand a 4 (demand b 17 (demand c 21 (andThen x (λ _. sized room tone)))) ≡ accepted t → Passed song unicode title table room t
+      go true true true (accepted n) f g k h r =
           let s = sized-fits t r in
-          record { same = s .0; basicOrTemporary = one-or-two song f; titleGood = g; count = n; good = judged-is-good table n h; most = s .1; fits = s .2 }
-      go true true (refused n p) f g h r = absurd (not-refused r)
-      go true false x f g h r = absurd (not-refused r)
-      go false b x f g h r = absurd (not-refused r)
+          record { same = s .0; basicOrTemporary = one-or-two song f; titleGood = g; charactersGood = k; count = n; good = judged-is-good table n h; most = s .1; fits = s .2 }
+      go true true true (refused n p) f g k h r = absurd (not-refused r)
+      go true true false x f g k h r = absurd (not-refused r)
+      go true false c x f g k h r = absurd (not-refused r)
+      go false b c x f g k h r = absurd (not-refused r)
 
   -- so it is a well-formed tone
   pub accepted-is-writable : (t : Tone) → Octets title → writeTone song unicode title table room ≡ accepted t → Writable song unicode title table room t
   accepted-is-writable t o q =
       let s = passed t q in
       let j = s .good in
-      let front : FrontFormed (frontOf tone) = record { basicOrTemporary = s .basicOrTemporary; titled = fine-is-titled song unicode title o (s .titleGood); some = rw (j .count) (j .some); most = rw (j .count) (j .most) } in
+      let front : FrontFormed (frontOf tone) = record { basicOrTemporary = s .basicOrTemporary; titled = fine-is-titled song unicode title o (s .titleGood) (s .charactersGood); some = rw (j .count) (j .some); most = rw (j .count) (j .most) } in
       let w : WellFormed tone = record { formed = record { front = front; sequence = j .sequence }; size = s .most } in
       let e = s .same in
       rw (← e) (record { wellFormed = w; itsSong = refl; itsUnicode = refl; itsTitle = refl; itsTable = j .cells; fits = s .fits })
@@ -129,7 +132,8 @@ module _ (song : ℕ) (unicode : Bool) (title table : List ℕ) (room : ℕ) whe
       let j : judgeTable table ≡ accepted (length (t .patterns)) = rw (← w .itsTable) (good-is-judged (t .patterns) (f .sequence) (f .front .some) (f .front .most)) in
       let p : patternsOf table ≡ t .patterns = sym (ap patternsOf (w .itsTable)) ∙ patterns-of-cells _ (t .patterns) (f .sequence) in
       let e : tone ≡ t = (λ i. record { song = sym (w .itsSong) i; unicode = sym (w .itsUnicode) i; title = sym (w .itsTitle) i; patterns = p i }) in
-      rw (s, h, j, e, le-leb (toneLength t) mostOctets (w .wellFormed .size), le-leb (toneLength t) room (w .fits))
+      let c : allowedTitle unicode title ≡ true = rw (← w .itsUnicode, ← w .itsTitle) (f .front .titled .allowed) in
+      rw (s, h, c, j, e, le-leb (toneLength t) mostOctets (w .wellFormed .size), le-leb (toneLength t) room (w .fits))
 
   -- so, exactly
   pub writes-exactly : (t : Tone) → Octets title → (writeTone song unicode title table room ≡ accepted t) ↔ Writable song unicode title table room t
@@ -144,6 +148,7 @@ write-place song unicode title table room q =
     place-zero
     (demand-zero (songFine song) 4
     (demand-zero (titleFine song unicode title) 17
+    (demand-zero (allowedTitle unicode title) 21
     (then-zero (λ _. sized room (toneOf song unicode title table)) (table-zero table)
-    (λ _. demand-zero (leb l mostOctets) 1 (demand-zero (leb l room) 11 none)))))
+    (λ _. demand-zero (leb l mostOctets) 1 (demand-zero (leb l room) 11 none))))))
     q

@@ -1,25 +1,32 @@
 -- What each return of `titled`, `fill`, `save` and `write` shows.
-use Prim.Native.Nat.{ℕ, _+_, _-_, _/_, _%_, _^_, _≤_, _<_}
+use Prim.Native.Nat.{ℕ, _+_, _-_, _*_, _/_, _%_, _^_, _≤_, _<_}
 use native.Mathlib.Omega.{arith}
 use mathlib.Core.Path.{_≡_, refl, sym, ap, ap₂, _∙_}
 use mathlib.Core.Bool.{Bool, true, false, _&&_}
 use mathlib.Core.List.{List}
-use lib.ListN.{length, length-append}
+use lib.ListN.{length, getD, length-append}
 use lib.Dec.{leb, eqb}
 use borrow.Author.Tests.{le-leb, lt-leb, eq-eqb, ne-eqb, eqb-true, leb-true, leb-false}
 use mir.Val.{Fits}
-use mir.Syntax.{w64}
+use mir.Syntax.{w8, w64}
 use Rattle.bits.specs.Choice.{pick}
-use Rattle.bits.specs.Bits.{placeAfter, octetsTo}
+use Rattle.bits.specs.Bits.{bitsOf, placeAfter, octetsTo}
 use Rattle.bits.specs.Lent.{over}
+use Rattle.bits.specs.declared.BitPlace.{BitPlace}
 use Rattle.bits.specs.declared.OctetCount.{OctetCount}
 use Rattle.bits.specs.Outcome.{Outcome, accepted, refused}
 use Rattle.bits.specs.Places.{place, octetCount}
-use Rattle.bits.proofs.Choice.{both}
-use Rattle.tone.specs.Tone.{Tone, frontOf, cells, patternsOf, perCharacter, characters}
+use Rattle.bits.proofs.Choice.{both, and-true}
+use Rattle.bits.proofs.Octets.{octets-of}
+use Rattle.tone.specs.Tone.{Tone, frontOf, cells, patternsOf, perCharacter, characters, allowedTitle}
 use Rattle.tone.specs.Writing.{tableBits, frontBits, songBits, toneLength, toneOctets, mostOctets}
 use Rattle.tone.proofs.Rows.{and-false}
-use Rattle.tone.proofs.Fronts.{song-fine}
+use Rattle.tone.specs.Reading.{got, bad, text}
+use Rattle.tone.proofs.Fronts.{song-fine, own-reads, own-allowed}
+use Rattle.tone_elements.specs.declared.Characters.{Characters}
+use Rattle.tone_elements.specs.declared.Characters.the-variants.{Present, Faulty}
+use Rattle.tone_elements.specs.Answers.{Within, charactersOf}
+use Rattle.tone_elements.proofs.Steps.{characters-good, characters-bad}
 use Rattle.tone_table.specs.declared.Judged.{Judged}
 use Rattle.tone_table.specs.declared.Judged.the-variants.{Sound, Faulty}
 use Rattle.tone_table.specs.Judging.{judgeTable}
@@ -33,12 +40,9 @@ use Rattle.tone_write.specs.Appending.{frontLength}
 use Rattle.tone_write.specs.Promise.{numbers, writeNumbers, writeAnswer, octetsAfter, WritePromise}
 use Rattle.tone_write.proofs.Pieces.{plus-ten}
 use Rattle.tone_write.proofs.Filling.{front-length}
+use Rattle.tone_write.proofs.Accepting.{whole-characters}
 
 -- ---- the title
-
-and-true : (a : Bool) → (a && true) ≡ a
-and-true true = refl
-and-true false = refl
 
 -- two tests that hold together
 same-test : (a b c d : ℕ) → (a ≤ b → c ≤ d) → (c ≤ d → a ≤ b) → leb a b ≡ leb c d
@@ -122,7 +126,53 @@ module _ (song : ℕ) (u : Bool) (title table out : List ℕ) where
 
 pub ruleset writings = (write-none, write-above, write-song, write-title, write-titled)
 
--- ---- once the song type and the title are fine
+-- ---- once the song type and the title are fine: the title's characters
+
+module _ (song : ℕ) (u : Bool) (title table out : List ℕ) (s : songFine song ≡ true) (t : titleFine song u title ≡ true) where
+  few-octets : length title ≤ 31
+  few-octets = go u (leb-true (characters u title) 15 (both (leb (characters u title) 15) _ t .0))
+    where
+      go : (u : Bool) → characters u title ≤ 15 → length title ≤ 31
+      go true h = omega arith
+      go false h = omega arith
+
+  pub spell-counted : length title < 2 ^ 32
+  spell-counted = omega (arith, few-octets)
+
+  pub spell-within : Within title 0
+  spell-within = record { inside = omega arith; counted = omega (arith, few-octets) }
+
+  module _ {n : ℕ} (en : n ≡ length title / perCharacter u) where
+    pub spell-few : n ≤ 15
+    spell-few = rw en (leb-true (characters u title) 15 (both (leb (characters u title) 15) _ t .0))
+
+    whole : length title ≡ perCharacter u * n
+    whole =
+        let b = both (eqb (length title % perCharacter u) 0) _ (both (leb (characters u title) 15) _ t .1) in
+        sym (whole-characters u title .0 (eqb-true (length title % perCharacter u) 0 (b .0))) ∙ ap (λ (x : ℕ). perCharacter u * x) (sym en)
+
+    module _ (each : (i : ℕ) → Fits w8 (getD title i 0)) {x : Characters} (q : x ≡ charactersOf (text u n (bitsOf title) 0)) where
+      pub spell-all : {f : BitPlace} {k : OctetCount} → x ≡ Present f k → allowedTitle u title ≡ true
+      spell-all g = let t = characters-good (text u n (bitsOf title) 0) (sym g ∙ q) in own-allowed u n title (octets-of title each) whole (t .1)
+
+      none : {f : BitPlace} {k : ℕ} → x ≡ Faulty f k → allowedTitle u title ≡ false
+      none g = go (allowedTitle u title) refl
+        where
+          go : (b : Bool) → allowedTitle u title ≡ b → b ≡ false
+          go false e = refl
+          go true e =
+              let t = characters-bad (text u n (bitsOf title) 0) (sym g ∙ q) in
+              let z : got title (0 + length (bitsOf title)) ≡ bad _ _ _ = sym (own-reads u n title (octets-of title each) whole e) ∙ t .1 in
+              let y : _≡_ {A = ℕ} 0 1 = cc in
+              absurd (omega arith)
+
+      pub spell-not : {f : BitPlace} {k : ℕ} → x ≡ Faulty f k → WritePromise song u title table out out (Refused 21 (place 0))
+      unfolding writeTone
+      spell-not g = promised song u title table out out (Refused 21 (place 0)) (refused 21 0) (rw (s, t, none g)) refl refl
+
+pub ruleset spellings = (spell-counted, spell-within, spell-few, spell-all, spell-not)
+
+-- ---- the table, and the size
 
 -- what an answer says of the table
 sound-table : (table : List ℕ) {p b : ℕ} (x : Outcome ℕ) → Sound p b ≡ judgedOf table x → (x ≡ accepted p) × (b ≡ atMost (length (tableBits table)))
@@ -133,7 +183,7 @@ faulty-table : (table : List ℕ) {m : ℕ} (x : Outcome ℕ) → Faulty m ≡ j
 faulty-table table (accepted n) q = let z : _≡_ {A = ℕ} 0 1 = cc in absurd (omega arith)
 faulty-table table {m} (refused n l) q = let e : m ≡ n = cc in (l, ap (λ (y : ℕ). refused y l) (sym e))
 
-module _ (song : ℕ) (u : Bool) (title table out : List ℕ) {j : Judged} (s : songFine song ≡ true) (t : titleFine song u title ≡ true) (q : j ≡ judgedOf table (judgeTable table)) where
+module _ (song : ℕ) (u : Bool) (title table out : List ℕ) {j : Judged} (s : songFine song ≡ true) (t : titleFine song u title ≡ true) (l : allowedTitle u title ≡ true) (q : j ≡ judgedOf table (judgeTable table)) where
   abbrev tone : Tone
   tone = toneOf song u title table
 
@@ -142,14 +192,10 @@ module _ (song : ℕ) (u : Bool) (title table out : List ℕ) {j : Judged} (s : 
   save-faulty {m} g =
       let b = faulty-table table (judgeTable table) (sym g ∙ q) in
       let z : judgeTable table ≡ refused m 0 = b .1 ∙ ap (λ (x : ℕ). refused m x) (table-place table (b .1)) in
-      promised song u title table out out (Refused m (place 0)) (refused m 0) (rw (s, t, z)) refl refl
+      promised song u title table out out (Refused m (place 0)) (refused m 0) (rw (s, t, l, z)) refl refl
 
   small : length title ≤ 31
-  small = go u (leb-true (characters u title) 15 (both (leb (characters u title) 15) _ t .0))
-    where
-      go : (u : Bool) → characters u title ≤ 15 → length title ≤ 31
-      go true h = omega arith
-      go false h = omega arith
+  small = few-octets song u title table out s t
 
   pub save-title : length title < 2 ^ 60
   save-title = omega (arith, small)
@@ -163,7 +209,7 @@ module _ (song : ℕ) (u : Bool) (title table out : List ℕ) {j : Judged} (s : 
 
     goes : writeTone song u title table (length out) ≡ sized (length out) tone
     unfolding writeTone
-    goes = rw (s, t, save-judged)
+    goes = rw (s, t, l, save-judged)
 
     size : length (songBits tone) ≡ frontLength song u (length title) + length (tableBits table)
     unfolding songBits

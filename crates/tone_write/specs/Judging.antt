@@ -5,7 +5,7 @@ use mathlib.Core.List.{List}
 use lib.ListN.{length}
 use lib.Dec.{leb, eqb}
 use Rattle.bits.specs.Outcome.{Outcome, accepted, andThen}
-use Rattle.tone.specs.Tone.{Tone, patternsOf, perCharacter, characters}
+use Rattle.tone.specs.Tone.{Tone, patternsOf, perCharacter, characters, allowedTitle}
 use Rattle.tone.specs.Writing.{toneLength, mostOctets}
 use Rattle.tone_table.specs.Judging.{demand, judgeTable}
 
@@ -33,9 +33,10 @@ sized room t =
 abbrev pub toneOf : ℕ → Bool → List ℕ → List ℕ → Tone
 toneOf song unicode title table = record { song = song; unicode = unicode; title = title; patterns = patternsOf table }
 
--- writing a tone into so many octets of room: 4, 17, the table's refusals, 1, 11
+-- writing a tone into so many octets of room: 4, 17, 21, the table's refusals, 1, 11
 unfoldable pub writeTone : ℕ → Bool → List ℕ → List ℕ → ℕ → Outcome Tone
 writeTone song unicode title table room =
     demand (songFine song) 4
     (demand (titleFine song unicode title) 17
-    (andThen (judgeTable table) (λ _. sized room (toneOf song unicode title table))))
+    (demand (allowedTitle unicode title) 21
+    (andThen (judgeTable table) (λ _. sized room (toneOf song unicode title table)))))

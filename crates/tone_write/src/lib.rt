@@ -9,7 +9,7 @@ ghost use Rattle.bits.specs.Lent.{over};
 ghost use Rattle.bits.specs.Outcome.{accepted};
 ghost use Rattle.bits.specs.Sink.{InHand};
 ghost use Rattle.tone.specs.Table.{InTable};
-ghost use Rattle.tone.specs.Tone.{characters};
+ghost use Rattle.tone.specs.Tone.{characters, allowedTitle};
 ghost use Rattle.tone.specs.Writing.{commandBits, titleBits, frontBits, entryBits, tableBits, toneLength, toneOctets};
 ghost use Rattle.tone_read.specs.Judging.{Entries};
 ghost use Rattle.tone_table.specs.Judging.{judgeTable};
@@ -19,6 +19,7 @@ ghost use Rattle.tone_write.specs.Promise.{WritePromise};
 use bits::BitPlace;
 use bits::OctetCount;
 use bits::Sink;
+use tone_elements::Characters;
 use tone_table::Judged;
 
 // What writing a tone answers.
@@ -182,9 +183,9 @@ fn front_end(song: u32, unicode: bool, octets: OctetCount) -> BitPlace
     BitPlace(lead + 18)
 }
 
-// Writes a tone whose song type and title are fine.
+// Writes a tone whose song type and title are fine, and the title's characters too.
 fn save(song: u32, unicode: bool, title: &[u8], table: &[u32], out: &mut [u8]) -> Writing
-    requires { ⌜ (songFine song ≡ true) × (titleFine song unicode (now title) ≡ true) ⌝ }
+    requires { ⌜ (songFine song ≡ true) × (titleFine song unicode (now title) ≡ true) × (allowedTitle unicode (now title) ≡ true) ⌝ }
     ensures { λ r. ⌜ WritePromise song unicode (now (title .entry)) (now (table .entry)) (now (out .entry)) (now (out .exit)) r ⌝ }
 {
     match tone_table::judge(table) {
@@ -215,6 +216,21 @@ fn save(song: u32, unicode: bool, title: &[u8], table: &[u32], out: &mut [u8]) -
     }
 }
 
+// Writes a tone whose song type is fine, and whose title but for its characters. They are judged as those of a message are.
+fn spell(song: u32, unicode: bool, title: &[u8], table: &[u32], out: &mut [u8]) -> Writing
+    requires { ⌜ (songFine song ≡ true) × (titleFine song unicode (now title) ≡ true) ⌝ }
+    ensures { λ r. ⌜ WritePromise song unicode (now (title .entry)) (now (table .entry)) (now (out .entry)) (now (out .exit)) r ⌝ }
+{
+    let n = tone_elements::characters_in(OctetCount(title.len()), unicode);
+    match tone_elements::text(title, BitPlace(0), unicode, n) {
+        Characters::Faulty { at: _, number: _ } => Writing::Refused {
+            number: 21,
+            place: BitPlace(0),
+        },
+        Characters::Present { next: _, octets: _ } => save(song, unicode, title, table, out),
+    }
+}
+
 // Writes a tone from its song type, its title and its table.
 pub fn write(song: u32, unicode: bool, title: &[u8], table: &[u32], out: &mut [u8]) -> Writing
     ensures { λ r. ⌜ WritePromise song unicode (now (title .entry)) (now (table .entry)) (now (out .entry)) (now (out .exit)) r ⌝ }
@@ -232,7 +248,7 @@ pub fn write(song: u32, unicode: bool, title: &[u8], table: &[u32], out: &mut [u
         };
     }
     if titled(song, unicode, title) {
-        return save(song, unicode, title, table, out);
+        return spell(song, unicode, title, table, out);
     }
     Writing::Refused {
         number: 17,

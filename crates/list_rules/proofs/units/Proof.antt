@@ -4,7 +4,7 @@ use Rattle.list_rules.proofs.units.Statement.{statement}
 use Rattle.list_rules.proofs.units.Tie as tie
 use Rattle.list_rules.specs.Duration.{units}
 use Rattle.list_rules.proofs.Durations.{on-sheet}
-use Rattle.list_rules.proofs.Below.{none-below}
+use Rattle.bits.proofs.Below.{none-below}
 use native.Mathlib.Omega.{arith}
 
 mul-match : tie.Need-mul-match

@@ -36,7 +36,7 @@ fill-requires c κs =
     let b = c .before .before .before .before .before .before .before .before .before .before .before .before .before .before in
     let a = b .args in
     let g = c .before .before .before .before .before .before .before .before .patterns .given .1 in
-    (save-accepted (a .song) (a .unicode) (a .title .now) (a .table .now) (a .out .now) (b .pre .0) (b .pre .1) (c .before .before .before .before .before .before .before .before .before .before .judge .ensures) g (c .before .before .before .before .before .before .front-end .ensures) (c .before .before .before .before .octets-to .ensures) (c .before .before .if1 .left) (c .before .if2 .left), search (savings, needs))
+    (save-accepted (a .song) (a .unicode) (a .title .now) (a .table .now) (a .out .now) (b .pre .0) (b .pre .1) (b .pre .2) (c .before .before .before .before .before .before .before .before .before .before .judge .ensures) g (c .before .before .before .before .before .before .front-end .ensures) (c .before .before .before .before .octets-to .ensures) (c .before .before .if1 .left) (c .before .if2 .left), search (savings, needs))
 
 returns-3 : tie.Need-returns-3
 returns-3 c = search (savings, needs)

@@ -13,8 +13,8 @@ returns-2 c = search (writings, needs)
 titled-requires : tie.Need-titled-requires
 titled-requires c κs = search needs
 
-save-requires : tie.Need-save-requires
-save-requires c κs = search (writings, needs)
+spell-requires : tie.Need-spell-requires
+spell-requires c κs = search (writings, needs)
 
 same-length : tie.Need-same-length
 same-length c = search needs
@@ -28,4 +28,4 @@ returns-4 c = search (writings, needs)
 pub write-spec : {M : Type 1} → statement M
 write-spec =
     tie.close
-    (tie.spec returns returns-2 titled-requires save-requires same-length returns-3 returns-4)
+    (tie.spec returns returns-2 titled-requires spell-requires same-length returns-3 returns-4)
