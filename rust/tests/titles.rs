@@ -216,20 +216,26 @@ fn each_octet_at_each_position() {
     each(|codec| {
         for length in 1..=15 {
             for position in 0..length {
-                let mut refused = 0;
-                for octet in 0..=255 {
-                    let mut title = vec![0x41; length];
-                    title[position] = octet;
-                    let message = written(1, false, &title, &SHORT);
-                    let answer = read(codec, &message);
-                    assert!([(0, 0), (21, 30 + 8 * position)].contains(&answer));
-                    assert_eq!(write(codec, 1, false, &title).0, answer.0);
-                    refused += (answer.0 == 21) as usize;
+                for table in [&SHORT[..], &LONG] {
+                    let refused = (0..=255).filter(|&octet| {
+                        let mut title = vec![0x41; length];
+                        title[position] = octet;
+                        is_refused(codec, &title, table, 30 + 8 * position)
+                    });
+                    assert_eq!(refused.count(), 65, "{position} of {length}");
                 }
-                assert_eq!(refused, 65, "{position} of {length}");
             }
         }
     });
+}
+
+/// Whether reading and writing refuse a title, both or none of them.
+fn is_refused(codec: &dyn Codec, title: &[u8], table: &[u32], place: usize) -> bool {
+    let (refusal, at) = read(codec, &written(1, false, title, table));
+    assert!([(0, 0), (21, place)].contains(&(refusal, at)));
+    let (other, _) = write_to(codec, 1, false, title, table, 80);
+    assert_eq!(other, refusal);
+    refusal == 21
 }
 
 /// Each number of 16 bits as the only character, which takes the bits from 38
