@@ -138,6 +138,7 @@ fn judge_title(
     title: usize,
     characters: usize,
 ) -> Result<usize, Refusal> {
+    // Spares the shortest messages, which mostly have no title, the slower way.
     if characters == 0 {
         return Ok(title);
     }
