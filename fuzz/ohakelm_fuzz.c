@@ -11,10 +11,11 @@
  *
  * Checks. Both must answer alike and leave the same octets. A refusal must
  * leave all as it was. What was read must write again, what an edit lists must
- * be the list of its octets, and a deletion must undo an insertion. An icon and
- * a logo that were written must read again. Buffers end at a page that cannot
- * be touched, and guard cells stand ahead of them, so a read or a write past
- * the end ends the run.
+ * be the list of its octets, and a deletion must undo an insertion. A title that
+ * was read or written must have no refused character. An icon and a logo that
+ * were written must read again. Buffers end at a page that cannot be touched,
+ * and guard cells stand ahead of them, so a read or a write past the end ends
+ * the run.
  *
  * Input. One octet names the call and whether a buffer of nothing is passed as
  * null to the library, some more are the call's numbers, and the rest is the
@@ -238,12 +239,24 @@ static size_t take_rest(struct input *in)
 #define AMPLE_LIST 8192   /* cells */
 #define AMPLE_ROWS 4096
 
+/* No character is 0 to 31 or 127 to 159. One of two octets is one number. */
+static void check_title(const uint8_t *title, size_t octets, bool unicode)
+{
+    size_t each = unicode ? 2 : 1;
+    for (size_t i = 0; i < octets; i += each) {
+        uint32_t character = unicode ? title[i] * 256u + title[i + 1] : title[i];
+        check(character > 31 && (character < 127 || character > 159),
+              "a title has no refused character");
+    }
+}
+
 /* What was read is written again to the same octets. */
 static void check_written_again(struct ohakelm_tone tone, const uint32_t *table,
                                 const uint8_t *title)
 {
     static uint8_t out[OHAKELM_LARGEST_TONE];
     size_t octets = tone.characters * (tone.unicode ? 2 : 1);
+    check_title(title, octets, tone.unicode);
     struct ohakelm_written done =
         ohakelm_write(tone.song, tone.unicode, title, octets, table, tone.entries, out,
                       sizeof out);
@@ -317,10 +330,12 @@ static void fuzz_write(struct input *in)
     check_lent(&first);
     check_lent(&second);
     check_lent(&third);
-    if (done.refusal != 0)
+    if (done.refusal != 0) {
         check_untouched(&third);
-    else
-        check_read_again(done, table, entries);
+        return;
+    }
+    check_title(title, title_len, unicode);
+    check_read_again(done, table, entries);
 }
 
 static void fuzz_label(struct input *in)

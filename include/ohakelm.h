@@ -16,9 +16,9 @@
  * is 0 where the call accepted. On a refusal it is one of the numbers below,
  * every number but `refusal` and `place` is 0, and nothing lent has changed.
  * `place` is the bit of the tone message where the faulty element begins,
- * counted from 0, for the refusals 2 to 10 met in a tone message. It is 0 for
- * all others. Where a call accepts, what lies beyond the part that it fills is
- * unchanged.
+ * counted from 0, for the refusals 2 to 10 and 21 met in a tone message. It is
+ * 0 for all others. Where a call accepts, what lies beyond the part that it
+ * fills is unchanged.
  *
  * Compare answers and rows field by field and not octet by octet: the octets
  * between their fields mean nothing.
@@ -41,6 +41,11 @@
  * id * 4096 + loop * 256 + specifier. Instructions have the kinds 1 note, 2
  * scale, 3 style, 4 tempo and 5 volume, and their bits after the id as payload.
  * Macros put an entry together and take it apart.
+ *
+ * A TITLE has up to 15 characters, each an octet of ISO-8859-1 or, under
+ * UNICODE, 16 bits with the high octet first. The characters 0 to 31 and 127 to
+ * 159 are refused. Under UNICODE the 16 bits are judged as one number: 0009 is
+ * refused, and 0900 is not.
  *
  * A LIST has two numbers an entry: note * 1024 + scale * 256 + style * 16 +
  * volume, and the duration in microseconds.
@@ -77,8 +82,8 @@ extern "C" {
  * refusal or a rule is new or another; CHANGELOG.md says what a caller must
  * change then. The third is raised where none is. A header goes with an archive
  * of the same first two numbers. */
-#define OHAKELM_VERSION_STRING "0.4.1"
-#define OHAKELM_VERSION 401 /* first * 10000 + second * 100 + third */
+#define OHAKELM_VERSION_STRING "0.5.0"
+#define OHAKELM_VERSION 500 /* first * 10000 + second * 100 + third */
 
 /* Answers the OHAKELM_VERSION of the archive that is linked. */
 uint32_t ohakelm_version(void);
@@ -115,7 +120,8 @@ uint32_t ohakelm_version(void);
          "reverse, a body cut short, more than 255 patterns")                  \
     ITEM(20, OHAKELM_AHEAD,                                                    \
          "an octet ahead of a bitmap that its kind does not have there: "      \
-         "version, network code digit, date, line feed")
+         "version, network code digit, date, line feed")                       \
+    ITEM(21, OHAKELM_CHARACTER, "a title character 0 to 31 or 127 to 159")
 
 /* OHAKELM_TOO_LONG is 1, and so on. 19 is no longer given, and no other refusal
  * takes it: it stood for a duration above 32 bits, and it is proved that no
@@ -292,14 +298,14 @@ struct ohakelm_entry {
 /* Reads a tone message. Fills the front of `table` with its entries and the
  * front of `title` with its title's octets. Answers the song type, whether
  * UNICODE is set, and how many title characters, patterns and table entries
- * there are. Refuses 1 to 11. */
+ * there are. Refuses 1 to 11 and 21. */
 struct ohakelm_tone ohakelm_read(const uint8_t *msg, size_t msg_len,
                                  uint32_t *table, size_t table_len,
                                  uint8_t *title, size_t title_len);
 
 /* Writes a tone message from a song type, a title and a table. Fills the front
- * of `out` with it. Answers the octets written. Refuses 4, 17, 6, 18, 7, 5, 1
- * and 11, all at place 0. */
+ * of `out` with it. Answers the octets written. Refuses 4, 17, 21, 6, 18, 7, 5,
+ * 1 and 11, all at place 0. */
 struct ohakelm_written ohakelm_write(uint32_t song, bool unicode,
                                      const uint8_t *title, size_t title_len,
                                      const uint32_t *table, size_t table_len,
@@ -307,6 +313,7 @@ struct ohakelm_written ohakelm_write(uint32_t song, bool unicode,
 
 /* Finds the label for the screen: the title without its trailing spaces, or
  * the stand-in name where nothing is left or the octets are odd under UNICODE.
+ * It takes any octets, also characters that the title of a tone may not have.
  * Changes nothing. Answers which buffer supplies it and which stretch of it. */
 struct ohakelm_label_stretch ohakelm_label(const uint8_t *title,
                                            size_t title_len, bool unicode,
@@ -316,13 +323,13 @@ struct ohakelm_label_stretch ohakelm_label(const uint8_t *title,
 /* Makes the playing list of a tone message. Fills the front of `list`, two
  * numbers an entry. `list_len` counts numbers and not entries: twelve have room
  * for six entries. Answers how many entries there are and where an endless part
- * returns to. Refuses 1 to 11. */
+ * returns to. Refuses 1 to 11 and 21. */
 struct ohakelm_listed ohakelm_list(const uint8_t *msg, size_t msg_len,
                                    uint32_t *list, size_t list_len);
 
 /* The same list in both forms. Fills the front of `list` and the front of
  * `rows`, one record an entry. `list_len` counts numbers, `rows_len` records.
- * Refuses 11 if either is too small. */
+ * Refuses as ohakelm_list does, and 11 if either is too small. */
 struct ohakelm_listed ohakelm_rows(const uint8_t *msg, size_t msg_len,
                                    uint32_t *list, size_t list_len,
                                    struct ohakelm_entry *rows,
@@ -337,7 +344,7 @@ struct ohakelm_listed ohakelm_rows(const uint8_t *msg, size_t msg_len,
  * front of `list` with the new list. `buf_len` is the whole buffer's, so that
  * the message can grow; `list_len` counts numbers and not entries. Answers the
  * new length, the list's entries and mark, and the change in octets. Refuses 1
- * to 12. */
+ * to 12 and 21. */
 struct ohakelm_edited ohakelm_replace(uint8_t *buf, size_t buf_len, size_t used,
                                       size_t pattern, size_t instruction,
                                       uint32_t entry, uint32_t *list,

@@ -115,8 +115,8 @@ pub enum Edit {
 ///
 /// # Errors
 ///
-/// Refuses 1, then 2 to 10 at the first element at fault, then 11 where the
-/// table or the title has no room.
+/// Refuses 1, then 2 to 10 or 21 at the first element at fault, then 11 where
+/// the table or the title has no room.
 ///
 /// ```
 /// use ohakelm::{Kind, LARGEST_TABLE, LARGEST_TITLE};
@@ -130,6 +130,14 @@ pub enum Edit {
 /// let cut = ohakelm::read(&message[..9], &mut table, &mut title);
 /// let cut = cut.map_err(|refusal| (refusal.kind(), refusal.place));
 /// assert_eq!(cut, Err((Kind::CutShort, 72)));
+///
+/// // A basic song whose title is a tab.
+/// let message = [
+///     0x02, 0x4A, 0x3A, 0x44, 0x24, 0x04, 0x00, 0x02, 0x45, 0x00, 0x00,
+/// ];
+/// let tab = ohakelm::read(&message, &mut table, &mut title);
+/// let tab = tab.map_err(|refusal| (refusal.kind(), refusal.place));
+/// assert_eq!(tab, Err((Kind::Character, 30)));
 /// # Ok::<(), ohakelm::Refusal>(())
 /// ```
 pub fn read(message: &[u8], table: &mut [u32], title: &mut [u8]) -> Result<Tone, Refusal> {
@@ -149,7 +157,8 @@ pub fn read(message: &[u8], table: &mut [u32], title: &mut [u8]) -> Result<Tone,
 ///
 /// # Errors
 ///
-/// Refuses 4, 17, 6, 18, 7, 5, 1 and 11.
+/// Refuses 4; 17, then 21, for the title; 6, 18, 7 and 5 for the table; then 1
+/// and 11.
 ///
 /// ```
 /// use ohakelm::{entry, Kind};
@@ -164,6 +173,10 @@ pub fn read(message: &[u8], table: &mut [u32], title: &mut [u8]) -> Result<Tone,
 /// // A temporary song has no title.
 /// let refused = ohakelm::write(2, false, b"Tune", &table, &mut out);
 /// assert_eq!(refused.map_err(|refusal| refusal.kind()), Err(Kind::Title));
+///
+/// // A tab would wreck a menu line.
+/// let refused = ohakelm::write(1, false, b"A\tune", &table, &mut out);
+/// assert_eq!(refused.map_err(|refusal| refusal.kind()), Err(Kind::Character));
 /// # Ok::<(), ohakelm::Refusal>(())
 /// ```
 pub fn write(
@@ -177,7 +190,8 @@ pub fn write(
 }
 
 /// The title without its trailing spaces, or the stand-in name where nothing is
-/// left or the octets are odd under UNICODE. It never refuses.
+/// left or the octets are odd under UNICODE. It never refuses, and takes any
+/// octets, also characters that the title of a tone may not have.
 ///
 /// ```
 /// assert_eq!(ohakelm::label(b"Tune  ", false, b"No name"), b"Tune");
@@ -209,7 +223,7 @@ pub fn label_stretch(title: &[u8], unicode: bool, stand_in: &[u8]) -> Label {
 ///
 /// # Errors
 ///
-/// Refuses 1 to 10 as [`read`] does, then 11 where the list has no room.
+/// Refuses 1 to 10 and 21 as [`read`] does, then 11 where the list has no room.
 ///
 /// ```
 /// use ohakelm::{entry, Kind};
@@ -233,7 +247,7 @@ pub fn list(message: &[u8], list: &mut [u32]) -> Result<Playing, Refusal> {
 ///
 /// # Errors
 ///
-/// Refuses 1 to 10 as [`read`] does, then 11 where either has no room.
+/// Refuses 1 to 10 and 21 as [`read`] does, then 11 where either has no room.
 ///
 /// ```
 /// use ohakelm::{Entry, Kind};
@@ -259,9 +273,9 @@ pub fn rows(message: &[u8], list: &mut [u32], rows: &mut [Entry]) -> Result<Play
 ///
 /// # Errors
 ///
-/// Refuses 1 to 10 as [`read`] does, then 6 for the new instruction, 12, 13 or
-/// 14, 1 where the new message is too long, and 11 where the buffer or the list
-/// has no room.
+/// Refuses 1 to 10 and 21 as [`read`] does, then 6 for the new instruction, 12,
+/// 13 or 14, 1 where the new message is too long, and 11 where the buffer or the
+/// list has no room.
 ///
 /// ```
 /// use ohakelm::{entry, Edit, Kind};

@@ -5,10 +5,10 @@ use core::fmt;
 /// Why a call refused, by the number that the rules give it, and where.
 #[derive(Clone, Copy, Debug, PartialEq, Eq)]
 pub struct Refusal {
-    /// 1 to 20, as in the rules' table, but for 19 ([`Kind`] says why).
+    /// 1 to 21, as in the rules' table, but for 19 ([`Kind`] says why).
     pub number: u32,
     /// The bit of the tone message where the faulty element begins, for the
-    /// numbers 2 to 10 met in a tone message. Else 0.
+    /// numbers 2 to 10 and 21 met in a tone message. Else 0.
     pub place: usize,
 }
 
@@ -123,6 +123,7 @@ kinds! {
         cut short, more than 255 patterns"
     20 Ahead "an octet ahead of a bitmap that its kind does not have there: version, \
         network code digit, date, line feed"
+    21 Character "a title character 0 to 31 or 127 to 159"
 }
 
 impl fmt::Display for Kind {

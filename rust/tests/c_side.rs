@@ -53,7 +53,7 @@ fn the_header_and_the_archive_are_as_the_rules_say() {
 }
 
 /// Changes of the header that the sources must find, with the one that does.
-const WRONG_HEADERS: [(&str, &str, &str); 10] = [
+const WRONG_HEADERS: [(&str, &str, &str); 11] = [
     ("(id) * 4096u", "(id) * 2048u", "entries.c"),
     ("(note) * 32u", "note * 32u", "entries.c"),
     (
@@ -65,6 +65,7 @@ const WRONG_HEADERS: [(&str, &str, &str); 10] = [
     ("(header) / 256u % 16u", "(header) / 256u", "entries.c"),
     ("\"pattern count zero\"", "\"no pattern\"", "refusals.c"),
     ("ITEM(20, ", "ITEM(19, ", "refusals.c"),
+    ("ITEM(21, ", "ITEM(22, ", "refusals.c"),
     (
         "OHAKELM_TEMPORARY = 2",
         "OHAKELM_TEMPORARY = 3",

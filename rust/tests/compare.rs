@@ -58,13 +58,13 @@ fn each_refusal_came_up(comparison: &Comparison) {
     let message: Vec<u32> = (0..=11).collect();
     let with = |more: &[u32]| [&message[..], more].concat();
     let expected: [(&str, Vec<u32>); 14] = [
-        ("read", with(&[])),
-        ("list", with(&[])),
-        ("rows", with(&[])),
-        ("replace", with(&[12])),
-        ("insert", with(&[12, 14])),
-        ("delete", with(&[12, 13])),
-        ("write", vec![0, 1, 4, 5, 6, 7, 11, 17, 18]),
+        ("read", with(&[21])),
+        ("list", with(&[21])),
+        ("rows", with(&[21])),
+        ("replace", with(&[12, 21])),
+        ("insert", with(&[12, 14, 21])),
+        ("delete", with(&[12, 13, 21])),
+        ("write", vec![0, 1, 4, 5, 6, 7, 11, 17, 18, 21]),
         ("label", vec![0, 1]),
         ("bitmap_read", vec![0, 2, 15, 16]),
         ("bitmap_write", vec![0, 11, 15, 16]),
@@ -102,9 +102,18 @@ enum Fault {
     LosesZ,
     TakesThreeDigitNetwork,
     TouchesLogoOnRefusal,
+    PlacesCharacterAtTitle,
+    TouchesTitleOnRefusal,
+    JudgesCharacterCutShort,
+    JudgesCountAheadOfTitle,
+    JudgesLowOctetAlone,
+    Takes159InTitle,
+    JudgesCharactersAheadOfTitle,
+    JudgesTableAheadOfTitle,
+    JudgesEntryAheadOfMessage,
 }
 
-const FAULTS: [Fault; 19] = [
+const FAULTS: [Fault; 28] = [
     Fault::TouchesCellOnRefusal,
     Fault::ClearsOddLastCell,
     Fault::CountsOneEntryMore,
@@ -124,6 +133,15 @@ const FAULTS: [Fault; 19] = [
     Fault::LosesZ,
     Fault::TakesThreeDigitNetwork,
     Fault::TouchesLogoOnRefusal,
+    Fault::PlacesCharacterAtTitle,
+    Fault::TouchesTitleOnRefusal,
+    Fault::JudgesCharacterCutShort,
+    Fault::JudgesCountAheadOfTitle,
+    Fault::JudgesLowOctetAlone,
+    Fault::Takes159InTitle,
+    Fault::JudgesCharactersAheadOfTitle,
+    Fault::JudgesTableAheadOfTitle,
+    Fault::JudgesEntryAheadOfMessage,
 ];
 
 /// The comparison itself must be able to fail, at each of these faults.
@@ -136,6 +154,47 @@ fn wrong_codecs_are_found() {
         }));
         assert!(found.is_err(), "nobody noticed {fault:?}");
     }
+}
+
+/// Whether an edit's entry is of an instruction's kind. A deletion has none.
+fn names_instruction(edit: Edit) -> bool {
+    match edit {
+        Edit::Replace(entry) | Edit::Insert(entry) => (1..=5).contains(&(entry / 65536)),
+        Edit::Delete => true,
+    }
+}
+
+fn has_refused_low_octet(title: &[u8], unicode: bool) -> bool {
+    let each = if unicode { 2 } else { 1 };
+    let mut low = title.iter().skip(each - 1).step_by(each);
+    low.any(|octet| matches!(octet, 0..=31 | 127..=159))
+}
+
+/// Where a message's title would begin.
+fn title_place(message: &[u8]) -> usize {
+    match message.first() {
+        Some(3) => 38,
+        _ => 30,
+    }
+}
+
+fn read_alone(message: &[u8]) -> Tone {
+    Obvious.read(message, &mut [], &mut [])
+}
+
+/// A message with the last character of all throughout its title.
+fn with_title_of_ones(message: &[u8]) -> Vec<u8> {
+    let place = title_place(message);
+    let each = if place == 38 { 16 } else { 8 };
+    // Its length is in the four bits ahead of it.
+    let characters = (message[place / 8] >> 2 & 15) as usize;
+    let mut ones = message.to_vec();
+    for bit in place..place + characters * each {
+        if let Some(octet) = ones.get_mut(bit / 8) {
+            *octet |= 128 >> (bit % 8);
+        }
+    }
+    ones
 }
 
 /// The obvious implementation with one fault.
@@ -153,6 +212,21 @@ impl Codec for Wrong {
             (Fault::CountsOneEntryMore, 0) => answer.entries += 1,
             (Fault::PlacesRestAtId, 7) => answer.place -= 3,
             (Fault::NamesSongOnRefusal, 5) => answer.song = 1,
+            (Fault::PlacesCharacterAtTitle, 21) => answer.place = title_place(message),
+            (Fault::TouchesTitleOnRefusal, 21) if !title.is_empty() => title[0] ^= 1,
+            (Fault::JudgesCharacterCutShort, 2) => {
+                // The missing bits are taken for zeros.
+                let longer = read_alone(&[message, &[0; 2]].concat());
+                if (longer.refusal, longer.place) == (21, answer.place) {
+                    return longer;
+                }
+            }
+            (Fault::JudgesCountAheadOfTitle, 21) => {
+                let other = read_alone(&with_title_of_ones(message));
+                if other.refusal == 5 {
+                    return other;
+                }
+            }
             _ => {}
         }
         answer
@@ -166,10 +240,27 @@ impl Codec for Wrong {
         table: &[u32],
         out: &mut [u8],
     ) -> Written {
-        let answer = Obvious.write(song, unicode, title, table, out);
+        if matches!(self.0, Fault::Takes159InTitle) && !unicode {
+            let next = |&octet: &u8| if octet == 159 { 160 } else { octet };
+            let title: Vec<u8> = title.iter().map(next).collect();
+            return Obvious.write(song, unicode, &title, table, out);
+        }
+        let mut answer = Obvious.write(song, unicode, title, table, out);
         let more = out.get_mut(answer.octets);
-        if let (Fault::WritesOneOctetMore, 0, Some(octet)) = (self.0, answer.refusal, more) {
-            *octet = 0;
+        let refused = has_refused_low_octet(title, unicode);
+        match (self.0, answer.refusal, more) {
+            (Fault::WritesOneOctetMore, 0, Some(octet)) => *octet = 0,
+            (Fault::JudgesLowOctetAlone, 0, _) if refused => {
+                (answer.refusal, answer.octets) = (21, 0);
+            }
+            (Fault::JudgesCharactersAheadOfTitle, 17, _) if refused => answer.refusal = 21,
+            (Fault::JudgesTableAheadOfTitle, 21, _) => {
+                let other = Obvious.write(song, unicode, &[], table, &mut []);
+                if other.refusal == 18 {
+                    return other;
+                }
+            }
+            _ => {}
         }
         answer
     }
@@ -216,6 +307,9 @@ impl Codec for Wrong {
             }
             (Fault::RefusesLengthAheadOfFullPart, 14) if spot.used == LARGEST_TONE => {
                 answer.refusal = 1;
+            }
+            (Fault::JudgesEntryAheadOfMessage, 21) if !names_instruction(edit) => {
+                (answer.refusal, answer.place) = (6, 0);
             }
             _ => {}
         }

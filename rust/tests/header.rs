@@ -119,7 +119,7 @@ fn the_refusals_are_those_of_the_header() {
     assert_eq!(refusals(), package);
     let numbers: Vec<u32> = package.iter().map(|kind| kind.0).collect();
     // 19 is no longer given.
-    let given = (1..=20).filter(|&number| number != 19);
+    let given = (1..=21).filter(|&number| number != 19);
     assert_eq!(numbers, given.collect::<Vec<u32>>());
 }
 
@@ -130,7 +130,7 @@ fn a_number_has_one_kind() {
     }
     let unknown = header().contains("default:\n        return \"no refusal of this version\";");
     assert!(unknown, "the header's words for other numbers");
-    for number in [0, 19, 21, u32::MAX] {
+    for number in [0, 19, 22, u32::MAX] {
         let kind = Kind::of(number);
         assert!(matches!(kind, Kind::Unknown(..)));
         assert_eq!(kind.number(), number);

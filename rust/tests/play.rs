@@ -107,6 +107,19 @@ fn the_sample_prints_as_the_rules_say() {
     assert_eq!(printed, "refused 2 at 72\n");
 }
 
+/// A basic song whose title is A and a tab, and the same with a space.
+#[test]
+fn a_title_with_a_tab_prints_its_refusal() {
+    let message = octets("02 4A 3A 49 04 24 04 00 02 45 00 00");
+    let output = play(&message, usize::MAX, Duration::ZERO);
+    let printed = String::from_utf8_lossy(&output.stdout);
+    assert_eq!(printed, "refused 21 at 38\n");
+    let message = octets("02 4A 3A 49 04 80 04 00 02 45 00 00");
+    let output = play(&message, usize::MAX, Duration::ZERO);
+    let printed = String::from_utf8_lossy(&output.stdout);
+    assert_eq!(printed, "entries 1 return none\n1 1 0 7 952380\n");
+}
+
 #[test]
 fn a_few_hundred_messages_play() {
     let seed = seed_set().unwrap_or(5505);

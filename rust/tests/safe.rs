@@ -42,6 +42,36 @@ fn a_refusal_has_a_number_and_a_place() {
     assert_eq!(refused, Err(refusal));
 }
 
+/// A basic song whose title is A and a tab, with one quarter note. The A is at
+/// 30 and the tab at 38.
+#[test]
+fn a_title_with_a_tab_is_refused() {
+    let mut message = [
+        0x02, 0x4A, 0x3A, 0x49, 0x04, 0x24, 0x04, 0x00, 0x02, 0x45, 0x00, 0x00,
+    ];
+    let refusal = Refusal {
+        number: 21,
+        place: 38,
+    };
+    assert_eq!(refusal.kind(), Kind::Character);
+    assert_eq!(
+        refusal.to_string(),
+        "refused 21 at 38: a title character 0 to 31 or 127 to 159"
+    );
+    let (mut list, mut rows) = ([0; 2], [Entry::default(); 1]);
+    let read = ohakelm::read(&message, &mut [0; 2], &mut [0; 2]);
+    assert_eq!(read, Err(refusal));
+    assert_eq!(ohakelm::list(&message, &mut list), Err(refusal));
+    assert_eq!(ohakelm::rows(&message, &mut list, &mut rows), Err(refusal));
+    for edit in [Edit::Replace(65864), Edit::Insert(65864), Edit::Delete] {
+        let edited = ohakelm::edit(&mut message, 12, 0, 0, edit, &mut list);
+        assert_eq!(edited, Err(refusal));
+    }
+    let written = ohakelm::write(1, false, b"A\t", &[1, 65864], &mut [0; 12]);
+    assert_eq!(number(written), 21);
+    assert_eq!(ohakelm::label(b"A\t", false, b"Tone"), b"A\t");
+}
+
 #[test]
 fn both_forms_of_the_list() {
     let one = Playing {

@@ -396,6 +396,7 @@ fn each_element_can_be_at_fault() {
             (31, 3, 0b011, (4, 31)),
             (31, 3, 0b100, (4, 31)),
             (31, 3, 0b111, (4, 31)),
+            (38, 16, 0x0009, (21, 38)),
             (54, 8, 0, (5, 54)),
             (62, 3, 0b001, (6, 62)),
             (71, 8, 0, (7, 65)),
@@ -653,6 +654,11 @@ fn labels() {
         assert_eq!(label(&[0, 65, 0, 32], true), title(2));
         assert_eq!(label(&[0, 65, 32, 0], true), title(4));
         assert_eq!(label(&[32, 32], true), title(2));
+        // Characters that the title of a tone may not have.
+        assert_eq!(label(&[7, 9, 32], false), title(2));
+        assert_eq!(label(&[127, 159, 32, 32], false), title(2));
+        assert_eq!(label(&[0, 9, 0, 32], true), title(2));
+        assert_eq!(label(&[0, 0, 0, 127], true), title(4));
         let empty = Label {
             stand_in: true,
             start: 0,

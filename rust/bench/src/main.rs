@@ -29,6 +29,11 @@ fn main() {
         rows.push(rows_of(&tone.message, "rows"));
         rows.extend(edits(&tones::of_octets(octets.min(LARGEST_EDITED))));
     }
+    for tone in tones::of_titles() {
+        rows.push(read(&tone));
+        rows.push(write(&tone));
+        rows.push(list(&tone));
+    }
     rows.extend(recalls());
     for (width, height) in [(72, 14), (248, 255)] {
         rows.extend(bitmaps(width, height));
@@ -38,8 +43,15 @@ fn main() {
     measure::print(&rows);
 }
 
+/// The longest titles are told apart from the usual ones.
 fn name(call: &str, tone: &Tone) -> String {
-    format!("{call}, {} octets", tone.message.len())
+    let title = match (tone.unicode, tone.title.len()) {
+        (true, _) => ", 15 UNICODE characters",
+        (false, 15) => ", 15 characters",
+        (false, 0) => ", no title",
+        (false, _) => "",
+    };
+    format!("{call}{title}, {} octets", tone.message.len())
 }
 
 fn read(tone: &Tone) -> Row {
@@ -55,14 +67,14 @@ fn read(tone: &Tone) -> Row {
 }
 
 fn write(tone: &Tone) -> Row {
-    let (title, table) = (tone.title, &tone.table[..]);
+    let (unicode, title, table) = (tone.unicode, &tone.title[..], &tone.table[..]);
     let out = vec![0; tone.message.len()];
     compare(
         &name("write", tone),
         repeated(tone.message.len()),
         &out,
-        |out| proved::write(BASIC, false, title, table, out),
-        |out| ohakelm_fast::write(BASIC, false, title, table, out),
+        |out| proved::write(BASIC, unicode, title, table, out),
+        |out| ohakelm_fast::write(BASIC, unicode, title, table, out),
     )
 }
 

@@ -1,8 +1,9 @@
 //! The tones that are measured.
 
-/// A tone as its table, title and message.
+/// A basic song as its title, table and message.
 pub struct Tone {
-    pub title: &'static [u8],
+    pub unicode: bool,
+    pub title: Vec<u8>,
     pub table: Vec<u32>,
     pub message: Vec<u8>,
     /// A pattern with a body in the middle of the message, and how long it is.
@@ -28,11 +29,38 @@ pub fn of_octets(octets: usize) -> Tone {
     tone
 }
 
+/// The longest title that there is.
+const TITLE: &[u8; 15] = b"Ohakelm, a tune";
+
+/// The same small table without a title, with the longest one, and with that one
+/// under UNICODE. What differs is what the title costs.
+pub fn of_titles() -> [Tone; 3] {
+    let bare = filled(28, b"");
+    let wide: Vec<u8> = TITLE.iter().flat_map(|&octet| [0, octet]).collect();
+    [
+        titled(false, &[], &bare.table),
+        titled(false, TITLE, &bare.table),
+        titled(true, &wide, &bare.table),
+    ]
+}
+
+fn titled(unicode: bool, title: &[u8], table: &[u32]) -> Tone {
+    let (middle, middle_count) = middle_pattern(table);
+    Tone {
+        unicode,
+        title: title.to_vec(),
+        table: table.to_vec(),
+        message: written(unicode, title, table),
+        middle,
+        middle_count,
+    }
+}
+
 /// A tone with a title and as many instructions as the octets hold.
-fn filled(octets: usize, title: &'static [u8]) -> Tone {
+fn filled(octets: usize, title: &[u8]) -> Tone {
     let mut instructions = Instructions { state: 7 };
     let mut parts: Vec<Vec<u32>> = vec![Vec::new()];
-    while written(title, &table(&parts)).len() <= octets {
+    while written(false, title, &table(&parts)).len() <= octets {
         if parts[parts.len() - 1].len() == BODY {
             parts.push(Vec::new());
         }
@@ -42,16 +70,7 @@ fn filled(octets: usize, title: &'static [u8]) -> Tone {
     // The last one was too long.
     let last = parts.len() - 1;
     parts[last].pop();
-    let table = table(&parts);
-    let message = written(title, &table);
-    let (middle, middle_count) = middle_pattern(&table);
-    Tone {
-        title,
-        table,
-        message,
-        middle,
-        middle_count,
-    }
+    titled(false, title, &table(&parts))
 }
 
 /// The tone of 255 headers, loop 14, one part of ten notes and 254 recalls.
@@ -59,7 +78,7 @@ pub fn of_recalls() -> Vec<u8> {
     let mut table = vec![14 * 256 + 10];
     table.extend((1..=10).map(|note| 65536 + note * 32 + 8));
     table.extend([14 * 256; 254]);
-    written(b"", &table)
+    written(false, b"", &table)
 }
 
 /// Headers and bodies. After every third part comes a recall of the first one
@@ -83,9 +102,9 @@ fn table(parts: &[Vec<u32>]) -> Vec<u32> {
 
 /// The message of a table. An empty table has none, and one that is too long
 /// counts as longer than any message.
-fn written(title: &[u8], table: &[u32]) -> Vec<u8> {
+fn written(unicode: bool, title: &[u8], table: &[u32]) -> Vec<u8> {
     let mut out = vec![0; 4097];
-    let answer = ohakelm_fast::write(BASIC, false, title, table, &mut out);
+    let answer = ohakelm_fast::write(BASIC, unicode, title, table, &mut out);
     if answer.refusal != 1 {
         out.truncate(answer.octets);
     }

@@ -4,6 +4,7 @@
 //! function finds out which refusal it is and where.
 
 use crate::codes::{class, width, BASIC, LARGEST_TONE, NOTE, NO_INSTRUCTION, TEMPORARY};
+use crate::title::{is_allowed, is_sound};
 use crate::window::window;
 
 #[derive(Clone, Copy, Debug, PartialEq, Eq)]
@@ -111,12 +112,7 @@ pub fn judge_front(message: &[u8]) -> Result<Front, Refusal> {
         place += 4;
     }
     let title = place;
-    let each = if unicode { 16 } else { 8 };
-    if place + characters * each > bits {
-        let complete = (bits - place) / each;
-        return Err(refusal(2, place + complete * each));
-    }
-    place += characters * each;
+    place = judge_title(message, unicode, title, characters)?;
     if place + 8 > bits {
         return Err(refusal(2, place));
     }
@@ -132,6 +128,39 @@ pub fn judge_front(message: &[u8]) -> Result<Front, Refusal> {
         patterns,
         first: place + 8,
     })
+}
+
+/// Judges the characters of a title. Answers the place behind it.
+#[inline(always)]
+fn judge_title(
+    message: &[u8],
+    unicode: bool,
+    title: usize,
+    characters: usize,
+) -> Result<usize, Refusal> {
+    // Spares the shortest messages, which mostly have no title, the slower way.
+    if characters == 0 {
+        return Ok(title);
+    }
+    let each = if unicode { 16 } else { 8 };
+    let end = title + characters * each;
+    if end > message.len() * 8 || !is_sound(message, unicode, characters * each / 8) {
+        return Err(faulty_title(message, title, each));
+    }
+    Ok(end)
+}
+
+/// Finds the first character of a title that is cut short or refused.
+#[cold]
+fn faulty_title(message: &[u8], title: usize, each: usize) -> Refusal {
+    let mut place = title;
+    while place + each <= message.len() * 8 {
+        if !is_allowed(window(message, place) >> (64 - each)) {
+            return refusal(21, place);
+        }
+        place += each;
+    }
+    refusal(2, place)
 }
 
 /// Finds the fault in the command length and the command parts.

@@ -15,6 +15,7 @@ mod judge;
 mod kinds;
 mod list;
 mod read;
+mod title;
 mod window;
 mod write;
 

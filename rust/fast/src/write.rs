@@ -5,6 +5,7 @@ use ohakelm_answers::Written;
 use crate::codes::{
     entry_width, entry_width_within, BASIC, LARGEST_TONE, OUTSIDE_ENTRY, TEMPORARY,
 };
+use crate::title::is_sound_alone;
 
 /// Writes a tone to a lent buffer.
 pub fn write(song: u32, unicode: bool, title: &[u8], table: &[u32], out: &mut [u8]) -> Written {
@@ -67,6 +68,9 @@ fn judge_title(song: u32, unicode: bool, title: &[u8]) -> Result<(), u32> {
     };
     if title.len() > most || unicode && title.len() % 2 == 1 {
         return Err(17);
+    }
+    if !is_sound_alone(title, unicode) {
+        return Err(21);
     }
     Ok(())
 }

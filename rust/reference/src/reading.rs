@@ -4,8 +4,8 @@ use ohakelm_answers as answers;
 
 use crate::bits::BitReader;
 use crate::tone::{
-    payload_width, Instruction, Pattern, Tone, BASIC, RINGING_TONE_PROGRAMMING, SOUND, TEMPORARY,
-    UNICODE,
+    may_be_in_title, payload_width, Instruction, Pattern, Tone, BASIC, RINGING_TONE_PROGRAMMING,
+    SOUND, TEMPORARY, UNICODE,
 };
 use crate::{put_first, refuse, refuse_at, Refusal, LARGEST_TONE};
 
@@ -113,13 +113,15 @@ fn take_song_type(reader: &mut BitReader) -> Result<u32, Refusal> {
 fn take_title(reader: &mut BitReader, unicode: bool) -> Result<Vec<u8>, Refusal> {
     let mut title = Vec::new();
     for _ in 0..reader.take(4)? {
-        if unicode {
-            let character = reader.take(16)?;
-            title.push((character / 256) as u8);
-            title.push((character % 256) as u8);
-        } else {
-            title.push(reader.take(8)? as u8);
+        let place = reader.place();
+        let character = reader.take(if unicode { 16 } else { 8 })?;
+        if !may_be_in_title(character) {
+            return refuse_at(21, place);
         }
+        if unicode {
+            title.push((character / 256) as u8);
+        }
+        title.push((character % 256) as u8);
     }
     Ok(title)
 }

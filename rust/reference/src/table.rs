@@ -2,7 +2,7 @@
 
 use ohakelm_answers as answers;
 
-use crate::tone::{Instruction, Pattern, Tone, BASIC, TEMPORARY};
+use crate::tone::{may_be_in_title, Instruction, Pattern, Tone, BASIC, TEMPORARY};
 use crate::{put_first, refuse, Refusal, LARGEST_TONE};
 
 /// Writes a tone to a lent buffer.
@@ -67,11 +67,18 @@ fn judge_title(song: u32, unicode: bool, title: &[u8]) -> Result<(), Refusal> {
     let whole = title.len() % octets_each == 0;
     let short = title.len() / octets_each <= 15;
     let in_place = song == BASIC || title.is_empty();
-    if whole && short && in_place {
-        Ok(())
-    } else {
-        refuse(17)
+    if !(whole && short && in_place) {
+        return refuse(17);
     }
+    for octets in title.chunks(octets_each) {
+        let character = octets
+            .iter()
+            .fold(0, |sum, &octet| sum * 256 + octet as u32);
+        if !may_be_in_title(character) {
+            return refuse(21);
+        }
+    }
+    Ok(())
 }
 
 /// The patterns that a table holds, its entries judged in turn.

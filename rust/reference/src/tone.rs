@@ -106,6 +106,12 @@ pub fn payload_width(kind: u32) -> Option<usize> {
     }
 }
 
+/// Whether a title may have a character of this number.
+pub fn may_be_in_title(character: u32) -> bool {
+    let refused = (0..=31).contains(&character) || (127..=159).contains(&character);
+    !refused
+}
+
 impl Tone {
     pub fn characters(&self) -> usize {
         if self.unicode {

@@ -21,6 +21,30 @@ static void check_tones(void)
     CHECK(list[0] == 10503 && list[1] == 480000);
 }
 
+/* A basic song with one part of a quarter note. Its title is a tab, a space if
+ * the octet is changed. */
+static void check_titles(void)
+{
+    static const uint8_t tab[1] = {'\t'}, note[2] = {'N', 'o'};
+    static const uint32_t table[2] = {OHAKELM_HEADER(0, 0, 1), OHAKELM_NOTE(1, 2, 0)};
+    uint8_t msg[11] = {0x02, 0x4A, 0x3A, 0x44, 0x24, 0x04, 0x00, 0x02, 0x45, 0x00, 0x00};
+    uint32_t cells[2] = {0}, list[2] = {0};
+    uint8_t title[1] = {0}, out[11] = {0};
+    struct ohakelm_tone tone = ohakelm_read(msg, 11, cells, 2, title, 1);
+    CHECK(tone.refusal == OHAKELM_CHARACTER && tone.place == 30 && tone.characters == 0);
+    struct ohakelm_listed made = ohakelm_list(msg, 11, list, 2);
+    CHECK(made.refusal == OHAKELM_CHARACTER && made.place == 30 && made.entries == 0);
+    struct ohakelm_edited edited = ohakelm_delete(msg, 11, 11, 9, 9, list, 2);
+    CHECK(edited.refusal == OHAKELM_CHARACTER && edited.place == 30 && edited.length == 0);
+    struct ohakelm_written done = ohakelm_write(1, false, tab, 1, table, 2, out, 11);
+    CHECK(done.refusal == OHAKELM_CHARACTER && done.place == 0 && done.octets == 0);
+    struct ohakelm_label_stretch label = ohakelm_label(tab, 1, false, note, 2);
+    CHECK(!label.stand_in && label.start == 0 && label.length == 1);
+    msg[4] = 0x80;
+    tone = ohakelm_read(msg, 11, cells, 2, title, 1);
+    CHECK(tone.refusal == OHAKELM_ACCEPTED && tone.characters == 1 && title[0] == ' ');
+}
+
 static void check_rows(void)
 {
     uint32_t list[2] = {0};
@@ -106,6 +130,7 @@ static void check_logos(void)
 int main(void)
 {
     check_tones();
+    check_titles();
     check_rows();
     check_label();
     check_edits();

@@ -35,6 +35,7 @@ static const struct refusal expected[] = {
     {20, OHAKELM_AHEAD,
      "an octet ahead of a bitmap that its kind does not have there: version, network code "
      "digit, date, line feed"},
+    {21, OHAKELM_CHARACTER, "a title character 0 to 31 or 127 to 159"},
 };
 
 /* As the header's list has them. */
@@ -49,9 +50,9 @@ static bool same(const char *one, const char *two)
 
 int main(void)
 {
-    CHECK(sizeof expected / sizeof expected[0] == 19);
+    CHECK(sizeof expected / sizeof expected[0] == 20);
     CHECK(sizeof listed == sizeof expected);
-    for (uint32_t i = 0; i < 19; i++) {
+    for (uint32_t i = 0; i < 20; i++) {
         uint32_t number = expected[i].number;
         CHECK(expected[i].name == number);
         CHECK(listed[i].number == number && listed[i].name == number);
@@ -61,7 +62,7 @@ int main(void)
     enum ohakelm_refusal accepted = OHAKELM_ACCEPTED;
     CHECK(accepted == 0 && same(ohakelm_words(0), "accepted"));
     CHECK(same(ohakelm_words(19), "no refusal of this version"));
-    CHECK(same(ohakelm_words(21), "no refusal of this version"));
+    CHECK(same(ohakelm_words(22), "no refusal of this version"));
     CHECK(same(ohakelm_words(4294967295u), "no refusal of this version"));
     return failed;
 }

@@ -45,12 +45,13 @@ fn read(rng: &mut Rng) -> Case {
 }
 
 fn write(rng: &mut Rng) -> Case {
+    let unicode = rng.one_in(3);
     let call = Call::Write {
         song: rng.pick(&[0, 1, 1, 2, 2, 2]),
-        unicode: rng.one_in(3),
+        unicode,
     };
     let title = match rng.below(3) {
-        0 => inputs::title_octets(rng),
+        0 => inputs::title_octets(rng, unicode),
         _ => vec![],
     };
     let entries = match rng.below(4) {

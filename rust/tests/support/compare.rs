@@ -326,8 +326,9 @@ impl Comparison {
             _ => 1,
         };
         let unicode = self.rng.one_in(3);
-        let title = match self.rng.below(4) {
-            0 => inputs::title_octets(&mut self.rng),
+        let title = match self.rng.below(8) {
+            0 | 1 => inputs::title_octets(&mut self.rng, unicode),
+            2 => inputs::refused_title(&mut self.rng, unicode),
             _ if song == 1 => tones::title(&mut self.rng, unicode),
             _ => Vec::new(),
         };

@@ -7,12 +7,49 @@ use super::tones::{self, Bounds, Made};
 pub fn message(rng: &mut Rng) -> Vec<u8> {
     let bounds = Bounds::random(rng);
     let made = tones::tone(rng, bounds);
-    match rng.below(10) {
+    match rng.below(13) {
         0 => random_message(rng),
         1..=3 => damaged(rng, &made.message),
         4 | 5 => misbuilt(rng, made),
+        6 | 7 => mistitled(rng, made),
         _ => made.message,
     }
+}
+
+/// A basic song whose title has a refused character. Now and then the message
+/// has another fault as well, or ends in the title or soon behind it.
+fn mistitled(rng: &mut Rng, made: Made) -> Vec<u8> {
+    let Made { unicode, .. } = made;
+    let title = refused_title(rng, unicode);
+    let patterns = match rng.below(6) {
+        0 => 0,
+        _ => made.counts().len(),
+    };
+    let mut message = tones::written_with_count(1, unicode, &title, patterns, &made.table);
+    match rng.below(4) {
+        0 => message.truncate(rng.within(3, 6 + title.len())),
+        1 => damage(rng, &mut message),
+        _ => {}
+    }
+    message
+}
+
+/// A title of 1 to 15 characters, one or two of them refused.
+pub fn refused_title(rng: &mut Rng, unicode: bool) -> Vec<u8> {
+    let characters = rng.within(1, 15);
+    let mut title = tones::characters_of_title(rng, unicode, characters);
+    for _ in 0..rng.pick(&[1, 1, 2]) {
+        refuse_one(rng, unicode, &mut title);
+    }
+    title
+}
+
+/// Puts a refused character in the place of one of a title.
+fn refuse_one(rng: &mut Rng, unicode: bool, title: &mut [u8]) {
+    let octets = tones::octets_of(tones::refused_character(rng), unicode);
+    let each = octets.len();
+    let at = rng.below(title.len() / each) * each;
+    title[at..at + each].copy_from_slice(&octets);
 }
 
 /// A message whose elements stand where they are due, but with a wrong entry,
@@ -176,10 +213,20 @@ pub fn odd_entry(rng: &mut Rng) -> u32 {
     }
 }
 
-/// Title octets for writing, a little more than a title may have among them.
-pub fn title_octets(rng: &mut Rng) -> Vec<u8> {
+/// Title octets for writing, a little more than a title may have among them,
+/// odd ones and refused characters.
+pub fn title_octets(rng: &mut Rng, unicode: bool) -> Vec<u8> {
     let count = rng.pick(&[0, 0, 0, 1, 2, 7, 14, 15, 16, 17, 28, 29, 30, 31, 32, 40]);
-    rng.octets(count)
+    if rng.one_in(4) {
+        return rng.octets(count);
+    }
+    let each = tones::octets_of(0, unicode).len();
+    let mut title = tones::characters_of_title(rng, unicode, count.div_ceil(each));
+    if !title.is_empty() && rng.one_in(2) {
+        refuse_one(rng, unicode, &mut title);
+    }
+    title.truncate(count);
+    title
 }
 
 /// A title for a label, with many spaces and their look-alikes.

@@ -108,18 +108,54 @@ pub fn tone(rng: &mut Rng, bounds: Bounds) -> Made {
     }
 }
 
-/// 0 to 15 characters, spaces often among them.
+/// 0 to 15 characters that a title may have.
 pub fn title(rng: &mut Rng, unicode: bool) -> Vec<u8> {
     let characters = rng.pick(&[0, 0, 1, 2, 5, 14, 15]);
+    characters_of_title(rng, unicode, characters)
+}
+
+/// So many characters that a title may have, spaces often among them.
+pub fn characters_of_title(rng: &mut Rng, unicode: bool, characters: usize) -> Vec<u8> {
     let mut title = Vec::new();
     for _ in 0..characters {
-        let space = rng.one_in(2);
-        if unicode {
-            title.push(if space { 0 } else { rng.octet() });
-        }
-        title.push(if space { 32 } else { rng.octet() });
+        let character = match rng.below(2) {
+            0 => 32,
+            _ => allowed_character(rng, unicode),
+        };
+        title.extend(octets_of(character, unicode));
     }
     title
+}
+
+/// 32 to 126 or from 160 on. Under UNICODE many have an octet that would be
+/// refused if it were a character.
+fn allowed_character(rng: &mut Rng, unicode: bool) -> usize {
+    let last = if unicode { 65_535 } else { 255 };
+    match rng.below(5) {
+        0 => rng.pick(&[32, 126, 160, last]),
+        1 => rng.within(32, 126),
+        2 if unicode => rng.within(1, 255) * 256 + refused_character(rng),
+        3 if unicode => refused_character(rng).max(1) * 256 + rng.below(256),
+        _ => rng.within(160, last),
+    }
+}
+
+/// 0 to 31 or 127 to 159, the bounds of both more often.
+pub fn refused_character(rng: &mut Rng) -> usize {
+    match rng.below(4) {
+        0 => rng.pick(&[0, 31, 127, 159]),
+        1 => rng.within(127, 159),
+        _ => rng.within(0, 31),
+    }
+}
+
+/// A character as a title has it.
+pub fn octets_of(character: usize, unicode: bool) -> Vec<u8> {
+    let low = (character % 256) as u8;
+    match unicode {
+        false => vec![low],
+        true => vec![(character / 256) as u8, low],
+    }
 }
 
 /// A random instruction of the instruction table, as an entry.
