@@ -197,15 +197,23 @@ module _ {x : ℕ} {unicode r : Bool} where
       → r ≡ eqb (bitAnd (bitAnd (fills 0x7FFF7FFF7FFF7FFF (bitAnd x 0xFF60FF60FF60FF60)) (fills 0x7FFF7FFF7FFF7FFF (bitXor x 0x007F007F007F007F))) 0x8000800080008000) 0x8000800080008000
       → Sure r (HoldsAllowed (characterBits unicode) x)
   unfolding allowedCharacter
-  holds-pairs u e = record { so = λ t. rw u (record { each = λ k h. lane-allowed 16 0x7FFF7FFF7FFF7FFF 0x8000800080008000 0xFF60FF60FF60FF60 0x007F007F007F007F 0xFF60 refl x (16 * k)
-      (at-each (λ k. tells 16 0x7FFF7FFF7FFF7FFF 0x8000800080008000 0xFF60FF60FF60FF60 0x007F007F007F007F 0xFF60 (16 * k)) 4 refl k (omega arith)) (eqb-true _ _ (sym e ∙ t)) }) }
+  holds-pairs u e = record {
+    so = λ t. rw u (record {
+      each = λ k h. lane-allowed 16 0x7FFF7FFF7FFF7FFF 0x8000800080008000 0xFF60FF60FF60FF60 0x007F007F007F007F 0xFF60 refl x (16 * k)
+          (at-each (λ k. tells 16 0x7FFF7FFF7FFF7FFF 0x8000800080008000 0xFF60FF60FF60FF60 0x007F007F007F007F 0xFF60 (16 * k)) 4 refl k (omega arith)) (eqb-true _ _ (sym e ∙ t));
+    });
+  }
 
   pub holds-octets : unicode ≡ false
       → r ≡ eqb (bitAnd (bitAnd (fills 0x7F7F7F7F7F7F7F7F (bitAnd x 0x6060606060606060)) (fills 0x7F7F7F7F7F7F7F7F (bitXor x 0x7F7F7F7F7F7F7F7F))) 0x8080808080808080) 0x8080808080808080
       → Sure r (HoldsAllowed (characterBits unicode) x)
   unfolding allowedCharacter
-  holds-octets u e = record { so = λ t. rw u (record { each = λ k h. lane-allowed 8 0x7F7F7F7F7F7F7F7F 0x8080808080808080 0x6060606060606060 0x7F7F7F7F7F7F7F7F 0x60 refl x (8 * k)
-      (at-each (λ k. tells 8 0x7F7F7F7F7F7F7F7F 0x8080808080808080 0x6060606060606060 0x7F7F7F7F7F7F7F7F 0x60 (8 * k)) 8 refl k (omega arith)) (eqb-true _ _ (sym e ∙ t)) }) }
+  holds-octets u e = record {
+    so = λ t. rw u (record {
+      each = λ k h. lane-allowed 8 0x7F7F7F7F7F7F7F7F 0x8080808080808080 0x6060606060606060 0x7F7F7F7F7F7F7F7F 0x60 refl x (8 * k)
+          (at-each (λ k. tells 8 0x7F7F7F7F7F7F7F7F 0x8080808080808080 0x6060606060606060 0x7F7F7F7F7F7F7F7F 0x60 (8 * k)) 8 refl k (omega arith)) (eqb-true _ _ (sym e ∙ t));
+    });
+  }
 
 pub ruleset holding = (lanes-fit, holds-pairs, holds-octets)
 
