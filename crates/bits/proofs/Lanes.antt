@@ -60,12 +60,16 @@ module _ (w low high k : ℕ) (s : suits w low high k ≡ true) where
       let n : lane w k a ≡ 0 = and-lane w k x low ∙ ap (λ (y : ℕ). bitAnd y l) z in
       or-lane w k (a + low) x ∙ ap₂ bitOr (sum-lane w k a low (omega (arith, into)) (omega (arith, out)) ∙ ap (λ (y : ℕ). y + l) n ∙ zero-add l) z ∙ or-zero-r l
 
-  -- where the highest bits of two rows of lanes are all set, neither row has a lane that is 0
-  pub none-empty : (x y : ℕ) → bitAnd (bitAnd (fills low x) (fills low y)) high ≡ high → (lane w k x ≡ 0 → ⊥) × (lane w k y ≡ 0 → ⊥)
-  none-empty x y e =
-      let f = lane w k (fills low x) in
-      let g = lane w k (fills low y) in
-      let h = lane w k high in
-      let q : bitAnd (bitAnd f g) h ≡ h = sym (and-lane w k (bitAnd (fills low x) (fills low y)) high ∙ ap (λ (z : ℕ). bitAnd z h) (and-lane w k (fills low x) (fills low y))) ∙ ap (lane w k) e in
-      let m = and-le-l (bitAnd f g) h in
-      (λ z. omega (arith, q, m, and-le-l f g, fills-none x z, above), λ z. omega (arith, q, m, and-le-r f g, fills-none y z, above))
+  -- where the highest bits are all set of what is no more than this in each lane, no lane is 0
+  pub none-empty : (x z : ℕ) → lane w k z ≤ lane w k (fills low x) → bitAnd z high ≡ high → lane w k x ≡ 0 → ⊥
+  none-empty x z l e n =
+      let q : bitAnd (lane w k z) (lane w k high) ≡ lane w k high = sym (and-lane w k z high) ∙ ap (lane w k) e in
+      omega (arith, q, and-le-l (lane w k z) (lane w k high), fills-none x n, above)
+
+-- of two numbers what both have is in each lane no more than either
+module _ (w k a b : ℕ) where
+  pub and-lane-l : lane w k (bitAnd a b) ≤ lane w k a
+  and-lane-l = rw (and-lane w k a b) (and-le-l (lane w k a) (lane w k b))
+
+  pub and-lane-r : lane w k (bitAnd a b) ≤ lane w k b
+  and-lane-r = rw (and-lane w k a b) (and-le-r (lane w k a) (lane w k b))

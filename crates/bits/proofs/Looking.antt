@@ -1,15 +1,17 @@
 -- The bits at a place of a message are bits of the few octets there.
-use Prim.Native.Nat.{ℕ, suc, _+_, _-_, _*_, _/_, _%_, _^_, _≤_, _<_}
+use Prim.Native.Nat.{ℕ, zero, suc, _+_, _-_, _*_, _/_, _%_, _^_, _≤_, _<_}
 use native.Mathlib.Omega.{arith}
 use native.Mathlib.Nat.{add-zero, zero-add, add-assoc, mod-lt, zero-div, zero-mod, eq-or-lt-of-le}
-use mathlib.Core.Path.{_≡_, refl, sym, ap, _∙_}
+use mathlib.Core.Path.{_≡_, refl, sym, ap, ap₂, _∙_}
 use mathlib.Core.Bool.{Bool}
 use mathlib.Core.Logic.{_⊎_, inl, inr}
-use mathlib.Core.List.{List, [], _∷_, _++_}
+use mathlib.Core.List.{List, [], _∷_, _++_, append-nil}
 use lib.ListN.{replicate, length-take, length-drop, take-append-drop, length, getD, take, drop, length-append}
-use lib.Seq.{drop-cons, getD-drop}
-use lib.Pow.{field as pow-field, pow-pos, shl-exact, shl-shr, shr-shr, mod-mod-pow}
+use lib.Seq.{take-suc, drop-cons, getD-drop}
+use lib.Pow.{field as pow-field, pow-pos, shr-le, shl-exact, shl-shr, shr-shr, mod-mod-pow}
 use lib.Dec.{lit<, lit≤}
+use mir.Val.{Fits}
+use mir.Syntax.{w64}
 use Rattle.bits.specs.Bits.{num, bitsN, bitsOf, field, octetsBefore, octetsTo, fillerTo}
 use Rattle.bits.specs.Window.{four, eight, Look, Sight}
 use Rattle.bits.proofs.Numbers.{length-bits, field-drop, field-front, field-num, num-append, num-bits, num-lt}
@@ -99,30 +101,35 @@ octet-is m at i {x} {y} h ei hx hy =
 low-field : (y o w q : ℕ) {t : ℕ} → o + w + q ≡ t → y % 2 ^ t / 2 ^ q % 2 ^ w ≡ y / 2 ^ q % 2 ^ w
 low-field y o w q e = rw (← e, pow-field y (o + w) q, mod-mod-pow (y / 2 ^ q) o w)
 
--- what `look` computes
-pub look-is : (m : List ℕ) (at i : ℕ) {x : ℕ} → at ≤ 8 * length m → i ≡ at / 8 → x ≡ num (bitsOf (four m i)) → Look (drop at (bitsOf m)) (x / 2 ^ (8 - at % 8) % 16777216)
-look-is m at i {x} h ei e = record { at = go; small = mod-lt (x / 2 ^ (8 - at % 8)) (lit< tt) }
-  where
-    go : (o w : ℕ) → o + w ≤ 24 → o + w ≤ length (drop at (bitsOf m)) → field (drop at (bitsOf m)) o w ≡ x / 2 ^ (8 - at % 8) % 16777216 / 2 ^ (24 - (o + w)) % 2 ^ w
-    go o w l k =
-        let f = at % 8 + o in
-        let q = 24 - (o + w) in
-        let len : length (drop at (bitsOf m)) ≡ 8 * length m - at = length-drop at (bitsOf m) ∙ ap (λ (n : ℕ). n - at) (length-bitsOf m) in
-        let p : 8 * i + f ≡ at + o = omega arith in
-        let s : f + w + (32 - (f + w)) ≡ length (bitsOf (four m i)) = rw (length-bitsOf (four m i)) (omega arith) in
-        let g : 32 - (f + w) ≡ 8 - at % 8 + q = omega arith in
-        field-drop (bitsOf m) at o w
-        ∙ ap (λ (n : ℕ). field (bitsOf m) n w) (sym p)
-        ∙ within 4 m i f w (padding 4 (drop i m)) (sym (first-four (drop i m)) ∙ four-drop m i) (omega arith) (omega arith)
-        ∙ field-num (bitsOf (four m i)) f w (32 - (f + w)) s
-        ∙ ap (λ (n : ℕ). n / 2 ^ (32 - (f + w)) % 2 ^ w) (sym e)
-        ∙ ap (λ (n : ℕ). x / 2 ^ n % 2 ^ w) g
-        ∙ ap (λ (n : ℕ). n % 2 ^ w) (sym (shr-shr x (8 - at % 8) q))
-        ∙ sym (low-field (x / 2 ^ (8 - at % 8)) o w q {t = 24} (omega arith))
-
 -- the bits that are left from a place on
 pub length-left : (m : List ℕ) (at : ℕ) → length (drop at (bitsOf m)) ≡ 8 * length m - at
 length-left m at = length-drop at (bitsOf m) ∙ ap (λ (n : ℕ). n - at) (length-bitsOf m)
+
+-- a field at a place is one of the c bits there, out of n octets r that stand there
+looked : (n : ℕ) (m : List ℕ) (at i c : ℕ) (t : List ℕ) {r : List ℕ} {x : ℕ} → at ≤ 8 * length m → i ≡ at / 8 → take n (drop i m) ++ t ≡ r → length r ≡ n → 8 * n ≡ c + 8 → x ≡ num (bitsOf r)
+    → (o w : ℕ) → o + w ≤ c → o + w ≤ length (drop at (bitsOf m)) → field (drop at (bitsOf m)) o w ≡ x / 2 ^ (8 - at % 8) % 2 ^ c / 2 ^ (c - (o + w)) % 2 ^ w
+looked n m at i c t {r} {x} h ei er hr hc e o w l k =
+    let f = at % 8 + o in
+    let q = c - (o + w) in
+    let len : length (drop at (bitsOf m)) ≡ 8 * length m - at = length-left m at in
+    let p : 8 * i + f ≡ at + o = omega arith in
+    let s : f + w + (8 * n - (f + w)) ≡ length (bitsOf r) = rw (length-bitsOf r) (omega arith) in
+    let g : 8 * n - (f + w) ≡ 8 - at % 8 + q = omega arith in
+    field-drop (bitsOf m) at o w
+    ∙ ap (λ (y : ℕ). field (bitsOf m) y w) (sym p)
+    ∙ within n m i f w t er (omega arith) (omega arith)
+    ∙ field-num (bitsOf r) f w (8 * n - (f + w)) s
+    ∙ ap (λ (y : ℕ). y / 2 ^ (8 * n - (f + w)) % 2 ^ w) (sym e)
+    ∙ ap (λ (y : ℕ). x / 2 ^ y % 2 ^ w) g
+    ∙ ap (λ (y : ℕ). y % 2 ^ w) (sym (shr-shr x (8 - at % 8) q))
+    ∙ sym (low-field (x / 2 ^ (8 - at % 8)) o w q {t = c} (omega arith))
+
+-- what `look` computes
+pub look-is : (m : List ℕ) (at i : ℕ) {x : ℕ} → at ≤ 8 * length m → i ≡ at / 8 → x ≡ num (bitsOf (four m i)) → Look (drop at (bitsOf m)) (x / 2 ^ (8 - at % 8) % 16777216)
+look-is m at i {x} h ei e = record {
+  at = looked 4 m at i 24 (padding 4 (drop i m)) h ei (sym (first-four (drop i m)) ∙ four-drop m i) refl refl e;
+  small = mod-lt (x / 2 ^ (8 - at % 8)) (lit< tt);
+}
 
 -- a field of the message, through a look at a place
 pub seen : (m : List ℕ) (at o w : ℕ) {x : ℕ} → Look (drop at (bitsOf m)) x → o + w ≤ 24 → at + o + w ≤ 8 * length m
@@ -175,6 +182,63 @@ sight-of n m at i k s t {r} {x} h ei er hk hn hs e = record { at = go; small = m
 pub sight-is : (m : List ℕ) (at i : ℕ) {x : ℕ} → at ≤ 8 * length m → i ≡ at / 8 → x ≡ num (bitsOf (eight m i)) → Sight 57 (drop at (bitsOf m)) (x * 2 ^ (at % 8) % 2 ^ 64)
 sight-is m at i h ei e = sight-of 8 m at i 57 (at % 8) (padding 8 (drop i m)) h ei (sym (first-eight (drop i m)) ∙ eight-drop m i) (omega arith) (lit≤ tt) (omega arith) e
 
+-- nine octets that are there
+abbrev nine : List ℕ → ℕ → List ℕ
+nine m i = eight m i ++ (getD m (i + 8) 0 ∷ [])
+
+first-nine : (m : List ℕ) (i : ℕ) → i + 9 ≤ length m → take 9 (drop i m) ≡ nine m i
+first-nine m i h =
+    let l : length (drop i m) ≡ length m - i = length-drop i m in
+    let z : 8 - length (drop i m) ≡ 0 = omega arith in
+    let e : take 8 (drop i m) ≡ eight m i = sym (append-nil (take 8 (drop i m))) ∙ ap (λ (k : ℕ). take 8 (drop i m) ++ replicate k 0) (sym z) ∙ sym (first-eight (drop i m)) ∙ eight-drop m i in
+    take-suc (drop i m) 8 0 (omega arith) ∙ (rw (e, getD-drop i m 8 0))
+
+-- eight octets moved up by o bits, and the first o bits of the ninth
+joined : (o x y : ℕ) → 1 ≤ o → o ≤ 7 → x < 2 ^ 64 → y < 256 → x * 2 ^ o % 2 ^ 64 + y / 2 ^ (8 - o) ≡ (x * 256 + y) / 2 ^ (8 - o) % 2 ^ 64
+joined zero x y h k l g = absurd (omega arith)
+joined (suc zero) x y h k l g = omega arith
+joined (suc (suc zero)) x y h k l g = omega arith
+joined (suc (suc (suc zero))) x y h k l g = omega arith
+joined (suc (suc (suc (suc zero)))) x y h k l g = omega arith
+joined (suc (suc (suc (suc (suc zero))))) x y h k l g = omega arith
+joined (suc (suc (suc (suc (suc (suc zero)))))) x y h k l g = omega arith
+joined (suc (suc (suc (suc (suc (suc (suc zero))))))) x y h k l g = omega arith
+joined (suc (suc (suc (suc (suc (suc (suc (suc o)))))))) x y h k l g = absurd (omega arith)
+
+pub full-ninth : {y : ℕ} (k : ℕ) → y < 256 → Fits w64 (y / 2 ^ k)
+full-ninth {y} k h = record { fits = omega (arith, shr-le y k) }
+
+-- what `full_sight` computes
+module _ (m : List ℕ) (at i : ℕ) {x : ℕ} (h : at + 64 ≤ 8 * length m) (ei : i ≡ at / 8) (ex : (x ≡ num (bitsOf (eight m i))) × (x < 2 ^ 64)) where
+  pub full-even : at % 8 ≡ 0 → Sight 64 (drop at (bitsOf m)) x
+  full-even z =
+      let e : x * 2 ^ 0 % 2 ^ 64 ≡ x = omega (arith, ex .1) in
+      rw e at (sight-of 8 m at i 64 0 (padding 8 (drop i m)) (omega arith) ei (sym (first-eight (drop i m)) ∙ eight-drop m i) (omega arith) (lit≤ tt) (omega arith) (ex .0))
+
+  module _ {y : ℕ} (z : at % 8 ≡ 0 → ⊥) (ey : (y ≡ getD m (i + 8) 0) × (y < 256)) where
+    together : x * 2 ^ (at % 8) % 2 ^ 64 + y / 2 ^ (8 - at % 8) ≡ (x * 256 + y) / 2 ^ (8 - at % 8) % 2 ^ 64
+    together = joined (at % 8) x y (omega arith) (omega arith) (ex .1) (ey .1)
+
+    pub full-fits : Fits w64 (x * 2 ^ (at % 8) % 2 ^ 64 + y / 2 ^ (8 - at % 8))
+    full-fits = record { fits = rw together (mod-lt ((x * 256 + y) / 2 ^ (8 - at % 8)) (pow-pos 64)) }
+
+    pub full-there : i + 8 < length m
+    full-there = omega arith
+
+    pub full-odd : Sight 64 (drop at (bitsOf m)) (x * 2 ^ (at % 8) % 2 ^ 64 + y / 2 ^ (8 - at % 8))
+    full-odd =
+        let e : x * 256 + y ≡ num (bitsOf (nine m i)) = sym (ap num (bitsOf-append (eight m i) (getD m (i + 8) 0 ∷ [])) ∙ num-append (bitsOf (eight m i)) (bitsOf (getD m (i + 8) 0 ∷ [])) ∙ last) in
+        rw together (record {
+          at = looked 9 m at i 64 [] (omega arith) ei (append-nil (take 9 (drop i m)) ∙ first-nine m i (omega arith)) refl refl e;
+          small = mod-lt ((x * 256 + y) / 2 ^ (8 - at % 8)) (pow-pos 64);
+        })
+      where
+        last : num (bitsOf (eight m i)) * 2 ^ length (bitsOf (getD m (i + 8) 0 ∷ [])) + num (bitsOf (getD m (i + 8) 0 ∷ [])) ≡ x * 256 + y
+        last =
+            let b = getD m (i + 8) 0 in
+            let n : num (bitsOf (b ∷ [])) ≡ b = ap num (append-nil (bitsN 8 b)) ∙ num-bits 8 b (rw (← ey .0) (ey .1)) in
+            ap₂ (λ (u v : ℕ). num (bitsOf (eight m i)) * 2 ^ u + v) (length-bitsOf (b ∷ [])) n ∙ ap₂ (λ (u v : ℕ). u * 256 + v) (sym (ex .0)) (sym (ey .0))
+
 -- what `through_octet` computes: the octet where the place stands and the first whole one, which may be the same
 pub through-is : (m : List ℕ) (at i j : ℕ) {x y : ℕ} → octetsTo at < length m → i ≡ octetsBefore at → j ≡ octetsTo at → (x ≡ getD m i 0) × (x < 256) → (y ≡ getD m j 0) × (y < 256)
     → Sight (fillerTo at + 8) (drop at (bitsOf m)) ((x * 256 + y) * 2 ^ (48 + at % 8) % 2 ^ 64)
@@ -202,3 +266,5 @@ sight-on {n} {k} {x} {b} s h l long = record { at = go; small = mod-lt (x * 2 ^ 
 -- a sight of 0 has zeros alone
 pub sight-zero : {n x : ℕ} {b : List Bool} (o w : ℕ) → Sight n b x → x ≡ 0 → o + w ≤ n → o + w ≤ length b → field b o w ≡ 0
 sight-zero o w s z h k = s .at o w h k ∙ (rw (z, zero-div (2 ^ (64 - (o + w))), zero-mod (2 ^ w)) refl)
+
+pub ruleset fulls = (full-ninth, full-even, full-fits, full-there, full-odd)

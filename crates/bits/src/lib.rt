@@ -81,6 +81,17 @@ fn window(s: &[u8], at: OctetCount) -> u32
     near_end(s, at)
 }
 
+// The eight octets behind so many as one number, where they are there. It is one load.
+fn wide_word(s: &[u8], at: OctetCount) -> u64
+    requires { ⌜ at .0 + 8 ≤ length (now s) ⌝ }
+    ensures { λ r. ⌜ (r ≡ num (bitsOf (eight (now (s .entry)) (at .0)))) × (r < 2 ^ 64) ⌝ }
+{
+    let i = at.0;
+    let high = word(s[i], s[i + 1], s[i + 2], s[i + 3]);
+    let low = word(s[i + 4], s[i + 5], s[i + 6], s[i + 7]);
+    ((high as u64) << 32) + low as u64
+}
+
 // The eight octets behind so many as one number, 0 past the end. Away from the end it is one load.
 fn wide_window(s: &[u8], at: OctetCount) -> u64
     requires { ⌜ at .0 ≤ length (now s) ⌝ }
@@ -88,9 +99,7 @@ fn wide_window(s: &[u8], at: OctetCount) -> u64
 {
     let i = at.0;
     if 8 <= s.len() - i {
-        let high = word(s[i], s[i + 1], s[i + 2], s[i + 3]);
-        let low = word(s[i + 4], s[i + 5], s[i + 6], s[i + 7]);
-        return ((high as u64) << 32) + low as u64;
+        return wide_word(s, at);
     }
     ((near_end(s, at) as u64) << 32) + near_end(s, OctetCount(i + 4)) as u64
 }
@@ -109,6 +118,20 @@ pub fn sight(s: &[u8], at: BitPlace) -> u64
     ensures { λ r. ⌜ Sight 57 (drop (at .0) (bitsOf (now (s .entry)))) r ⌝ }
 {
     wide_window(s, octets_before(at)) << (at.0 % 8)
+}
+
+// The 64 bits at a place, where they are there.
+pub fn full_sight(s: &[u8], at: BitPlace) -> u64
+    requires { ⌜ at .0 + 64 ≤ placeAfter (length (now s)) ⌝ }
+    ensures { λ r. ⌜ Sight 64 (drop (at .0) (bitsOf (now (s .entry)))) r ⌝ }
+{
+    let i = octets_before(at);
+    let o = at.0 % 8;
+    let eight = wide_word(s, i);
+    if o == 0 {
+        return eight;
+    }
+    (eight << o) + (wide(s[i.0 + 8]) >> (8 - o)) as u64
 }
 
 // The octet at a place, out of two octets of which the second is there too.

@@ -10,7 +10,7 @@ use Rattle.tone.specs.Reading.{readTone}
 use Rattle.tone_write.specs.Judging.{writeTone}
 use Rattle.tone_write.specs.Promise.{writeNumbers}
 use Rattle.list_rules.specs.Listing.{fitsNumbers, listTone}
-use Rattle.edit_change.specs.declared.Edit.the-variants.{Insert, Delete}
+use Rattle.edit_change.specs.declared.Edit.the-variants.{Replace, Insert, Delete}
 use Rattle.edit.specs.Editing.{editMessage}
 use Rattle.bitmap.specs.Bitmap.{refusalOf}
 use Rattle.samples.specs.Message.{notePart, all}
@@ -23,15 +23,15 @@ spelt x y z = 0x02 ∷ 0x4A ∷ 0x3A ∷ (0x4C + x / 64) ∷ (x % 64 * 4 + y / 6
 abbrev pub speltWide : ℕ → ℕ → List ℕ
 speltWide x y = 0x03 ∷ 0x4A ∷ 0x44 ∷ 0x3A ∷ (0x48 + x / 16384) ∷ (x / 64 % 256) ∷ (x % 64 * 4 + y / 16384) ∷ (y / 64 % 256) ∷ (y % 64 * 4) ∷ 0x04 ∷ 0x00 ∷ 0x02 ∷ 0x69 ∷ 0x00 ∷ 0x00 ∷ []
 
--- the first and the last of each row of numbers that is refused, and a tab
+-- numbers that are refused: the first and the last of each row, a tab, and 128
 abbrev pub wreckers : List ℕ
 wreckers = 0 ∷ 9 ∷ 31 ∷ 127 ∷ 128 ∷ 159 ∷ []
 
--- the numbers beside them
+-- the numbers next to them, and 255
 abbrev pub beside : List ℕ
 beside = 32 ∷ 126 ∷ 160 ∷ 255 ∷ []
 
--- numbers above 255 with an octet that is refused alone
+-- numbers above 255; all but the last have an octet that is refused alone
 abbrev pub wideBeside : List ℕ
 wideBeside = 0x0100 ∷ 0x0109 ∷ 0x017F ∷ 0x0900 ∷ 0x1F20 ∷ 0x7F41 ∷ 0x9F9F ∷ 0xFFFF ∷ []
 
@@ -76,7 +76,7 @@ pub record Titles : Type 0 where
   -- a list has it from the message, whatever is lent
   pub listed : listTone (spelt 0x41 9 0x42) (fitsNumbers 0) ≡ refused 21 38
   -- so has an edit, ahead of its own grounds and behind a used length beyond the buffer
-  pub edited : editMessage (spelt 0x41 9 0x42) 13 (Insert 393216) 9 9 0 ≡ refused 21 38
+  pub edited : map (λ ed. editMessage (spelt 0x41 9 0x42) 13 ed 9 9 0) (Replace 393216 ∷ Insert 393216 ∷ Delete ∷ []) ≡ replicate 3 (refused 21 38)
   pub usedFirst : editMessage (spelt 0x41 9 0x42) 14 Delete 0 0 2 ≡ refused 1 0
   -- writing: 21 for the same characters
   pub written : map (λ c. writes (c ∷ 0x41 ∷ [])) wreckers ≡ replicate 6 21

@@ -1,19 +1,21 @@
 -- Refusals are where they should be.
-use Prim.Native.Nat.{ℕ, _-_, _*_, _/_, _≤_, _<_}
+use Prim.Native.Nat.{ℕ, zero, suc, _+_, _-_, _*_, _/_, _≤_, _<_}
 use native.Mathlib.Omega.{arith}
+use native.Mathlib.Nat.{suc-mul}
 use mathlib.Core.Path.{_≡_, refl, sym, ap, subst, _∙_}
 use mathlib.Core.Logic.{_⊎_, inl, inr, ⊎-elim, _↔_}
-use mathlib.Core.Bool.{Bool}
+use mathlib.Core.Bool.{Bool, true, false}
 use mathlib.Core.List.{List, [], _++_, append-nil}
 use lib.ListN.{length, drop, take, take-append-drop}
 use lib.Seq.{take-at, length-take-le}
 use borrow.Author.Tests.{le-ltb, lt-ltb, ne-eqb}
-use Rattle.bits.specs.Bits.{bitsOf, Octets, placeAfter}
+use Rattle.bits.specs.Bits.{bitsOf, field, Octets, placeAfter}
 use Rattle.bits.specs.Outcome.{accepted, refused}
 use Rattle.bits.proofs.Octets.{length-bitsOf, bitsOf-append, drop-bitsOf, octets-take}
-use Rattle.tone.specs.Tone.{Tone, Formed}
+use Rattle.tone.specs.Tone.{Tone, characterBits, allowedCharacter, Formed}
 use Rattle.tone.specs.Writing.{toneBits, toneLength, toneOctets, mostOctets, WellFormed}
-use Rattle.tone.specs.Reading.{Got, got, bad, wholeTone, readTone}
+use Rattle.tone.specs.Reading.{Got, got, bad, anyOf, command, songType, character, text, title, titled, typed, front, wholeTone, readTone}
+use Rattle.tone.proofs.Exact.{element-good, element-bad}
 use Rattle.tone.proofs.Rows.{whole-exact}
 use Rattle.tone.proofs.Grounds.{AtFault, at-fault, Among, fault-number}
 use Rattle.tone.proofs.Demand2.{Says, Cut, Followed, read-says, bits-from-start, core-reads, core-alone, bits-accepted, read-formed, accepted-is-written, written-is-accepted, length-toneBits, length-toneOctets}
@@ -96,6 +98,37 @@ none-begins m n p a q t w l s =
     let e : accepted t ≡ refused n p = sym (written-is-accepted t w) ∙ f .alike (toneOctets t) short l s in
     let z : _≡_ {A = ℕ} 0 1 = cc in
     omega arith
+
+-- ---- 21: a title's character
+
+-- the first i characters at a place are there and allowed
+abbrev pub Passed : List Bool → ℕ → ℕ → ℕ → Type 0
+Passed l at w i = (j : ℕ) → j < i → (at + j * w + w ≤ length l) × (allowedCharacter (field l (at + j * w) w) ≡ true)
+
+-- behind those the next is refused once it is complete, whatever follows it
+text-refused : (unicode : Bool) (n i : ℕ) (l : List Bool) (at : ℕ) → let w = characterBits unicode in i < n → Passed l at w i → at + i * w + w ≤ length l
+    → allowedCharacter (field l (at + i * w) w) ≡ false → text unicode n l at ≡ bad 21 (at + i * w) (at + i * w + w)
+unfolding text character
+text-refused u zero i l at h p k f = let z : ⊥ = omega arith in absurd z
+text-refused u (suc n) zero l at h p k f =
+    let w = characterBits u in
+    let z : at + 0 * w ≡ at = omega arith in
+    rw (z, element-bad w allowedCharacter 21 l at (rw z at k) (rw z at f))
+text-refused u (suc n) (suc i) l at h p k f =
+    let w = characterBits u in
+    let z : at + 0 * w ≡ at = omega arith in
+    let first = p 0 (omega arith) in
+    let on : (j : ℕ) → at + w + j * w ≡ at + suc j * w = λ j. omega (arith, suc-mul j w) in
+    let rest : Passed l (at + w) w i = λ j g. rw (on j) (p (suc j) (omega arith)) in
+    let e = text-refused u n i l (at + w) (omega arith) rest (rw (on i) k) (rw (on i) f) in
+    rw (element-good w allowedCharacter 21 l at (rw z at (first .0)) (rw z at (first .1)), e, on i)
+
+-- so the first character of a basic song's title that is not allowed is refused with 21 at its place
+pub refused-character : (m : List ℕ) (unicode : Bool) (n i : ℕ) {p : ℕ} → let w = characterBits unicode in length m ≤ mostOctets → command (bitsOf m) 0 ≡ got unicode p → songType (bitsOf m) p ≡ got 1 (p + 3)
+    → anyOf 4 (bitsOf m) (p + 3) ≡ got n (p + 7) → i < n → Passed (bitsOf m) (p + 7) w i → p + 7 + i * w + w ≤ length (bitsOf m) → allowedCharacter (field (bitsOf m) (p + 7 + i * w) w) ≡ false
+    → readTone m ≡ refused 21 (p + 7 + i * w)
+unfolding readTone wholeTone front typed titled title
+refused-character m unicode n i {p} b c s a h q k f = rw (le-ltb mostOctets (length m) b, c, s, a, text-refused unicode n i (bitsOf m) (p + 7) h q k f)
 
 -- ---- 10: what follows the end
 

@@ -113,14 +113,14 @@ characterBits unicode = pick unicode 16 8
 abbrev pub characters : Bool → List ℕ → ℕ
 characters unicode title = length title / perCharacter unicode
 
--- the number of each character: its octet, or its two, high octet first, under UNICODE
+-- the number of each character: its octet, or its two, high octet first, under UNICODE; half a character has none
 abbrev pub codes : Bool → List ℕ → List ℕ
 codes false title = title
 codes true [] = []
 codes true (half ∷ []) = []
 codes true (high ∷ low ∷ title) = (high * 256 + low) ∷ codes true title
 
--- characters 0 to 31 and 127 to 159 wreck a menu line
+-- a title may have any character but 0 to 31 and 127 to 159, which wreck a menu line
 unfoldable pub allowedCharacter : ℕ → Bool
 allowedCharacter c = not (leb c 31 || (leb 127 c && leb c 159))
 

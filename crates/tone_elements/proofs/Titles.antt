@@ -2,7 +2,7 @@
 use Prim.Native.Nat.{ℕ, zero, suc, _+_, _-_, _*_, _/_, _%_, _^_, _≤_, _<_}
 use native.Mathlib.Omega.{arith}
 use native.Mathlib.Nat.{suc-mul, mul-le-mul, lt-of-le-of-lt, lt-of-lt-of-le, div-eq-of-lt, zero-mod}
-use mathlib.Core.Path.{_≡_, refl, sym, ap, _∙_}
+use mathlib.Core.Path.{_≡_, refl, sym, ap, ap₂, _∙_}
 use mathlib.Core.Logic.{⊎-elim}
 use mathlib.Core.Bool.{Bool, true, false, _&&_, _||_, false≢true}
 use mathlib.Core.List.{List, _∷_}
@@ -13,13 +13,14 @@ use lib.Pow.{shr-shr, pow-mono}
 use borrow.Author.Tests.{eqb-true, leb-true, leb-false, ltb-true, ltb-false, lt-ltb, le-ltb}
 use mir.Val.{Fits, bits}
 use mir.Syntax.{Width, w64}
+use Rattle.bits.specs.Choice.{pick}
 use Rattle.bits.specs.Bits.{bitsOf, field}
 use Rattle.bits.specs.Places.{place, octetCount}
 use Rattle.bits.specs.Window.{Sight, fills}
 use Rattle.bits.specs.declared.BitPlace.{BitPlace}
 use Rattle.bits.proofs.Below.{passes, at-each}
 use Rattle.bits.proofs.Choice.{both}
-use Rattle.bits.proofs.Lanes.{lane, or-lane, and-lane, xor-lane, suits, none-empty}
+use Rattle.bits.proofs.Lanes.{lane, or-lane, and-lane, xor-lane, and-lane-l, and-lane-r, suits, none-empty}
 use Rattle.bits.proofs.Looking.{length-left}
 use Rattle.bits.proofs.Numbers.{field-drop}
 use Rattle.bits.proofs.Octets.{length-bitsOf}
@@ -32,7 +33,7 @@ use Rattle.tone_elements.specs.declared.Step.{Step}
 use Rattle.tone_elements.specs.declared.Step.the-variants.{Good, Bad}
 use Rattle.tone_elements.specs.declared.Characters.{Characters}
 use Rattle.tone_elements.specs.declared.Characters.the-variants.{Present, Faulty}
-use Rattle.tone_elements.specs.Answers.{Within, stepAs, stepOf, charactersOf, Sure, HoldsAllowed, AllowedAt}
+use Rattle.tone_elements.specs.Answers.{Within, stepAs, stepOf, charactersOf, Sure, BothAllowed, AllowedAt}
 use Rattle.tone_elements.proofs.Steps.{step-there, step-bad, step-cong, step-map, characters-as}
 use Rattle.tone_elements.proofs.Walks.{one-less}
 use Rattle.tone_elements.proofs.Openings.{cut-there, good-there, bad-there, any-within}
@@ -146,7 +147,7 @@ text-all m unicode n at p (suc k) w h a =
     let one : due unicode m p ≡ got (field (bitsOf m) p b) (p + b) = element-good b allowedCharacter 21 (bitsOf m) p here (rw z at (a .each 0 (omega arith))) in
     let less : suc k - 1 ≡ k = omega arith in
     let next : TextWalk m unicode n at (p + b) k = rw less at (goes-on w (omega arith) one) in
-    rw (← e) (text-all m unicode n at (p + b) k next (rw e h) (record { each = λ i l. rw (behind p b i) at (a .each (suc i) (omega arith)) }))
+    rw (← e) (text-all m unicode n at (p + b) k next (rw e h) (record { there = rw e (a .there); each = λ i l. rw (behind p b i) at (a .each (suc i) (omega arith)) }))
   where
     behind : (p b i : ℕ) → p + suc i * b ≡ p + b + i * b
     behind p b i = omega (arith, suc-mul i b)
@@ -177,42 +178,55 @@ module _ (some : ℕ) (p : passes (λ c. allowedCharacter c || (eqb (bitAnd c so
 abbrev tells : ℕ → ℕ → ℕ → ℕ → ℕ → ℕ → ℕ → Bool
 tells w low high some other here k = suits w low high k && (eqb (lane w k some) here && eqb (lane w k other) 127)
 
+-- what `lanes_fine` computes
+abbrev fine : ℕ → ℕ → ℕ → ℕ → ℕ
+fine low some other x = bitAnd (fills low (bitAnd x some)) (fills low (bitXor x other))
+
 module _ (w low high some other here : ℕ) (p : passes (λ c. allowedCharacter c || (eqb (bitAnd c here) 0 || eqb (bitXor c 127) 0)) 160 ≡ true) where
-  lane-allowed : (x k : ℕ) → tells w low high some other here k ≡ true → bitAnd (bitAnd (fills low (bitAnd x some)) (fills low (bitXor x other))) high ≡ high → allowedCharacter (lane w k x) ≡ true
-  lane-allowed x k t e =
+  lane-allowed : (x k z : ℕ) → tells w low high some other here k ≡ true → lane w k z ≤ lane w k (fine low some other x) → bitAnd z high ≡ high → allowedCharacter (lane w k x) ≡ true
+  lane-allowed x k z t l e =
       let a = both (suits w low high k) _ t in
       let b = both (eqb (lane w k some) here) _ (a .1) in
-      let n = none-empty w low high k (a .0) (bitAnd x some) (bitXor x other) e in
+      let u = fills low (bitAnd x some) in
+      let v = fills low (bitXor x other) in
+      let n = none-empty w low high k (a .0) (bitAnd x some) z (omega (arith, and-lane-l w k u v)) e in
+      let o = none-empty w low high k (a .0) (bitXor x other) z (omega (arith, and-lane-r w k u v)) e in
       let f : lane w k (bitAnd x some) ≡ bitAnd (lane w k x) here = and-lane w k x some ∙ ap (λ (y : ℕ). bitAnd (lane w k x) y) (eqb-true (lane w k some) here (b .0)) in
       let g : lane w k (bitXor x other) ≡ bitXor (lane w k x) 127 = xor-lane w k x other ∙ ap (λ (y : ℕ). bitXor (lane w k x) y) (eqb-true (lane w k other) 127 (b .1)) in
-      told here p (lane w k x) (λ z. n .0 (f ∙ z)) (λ z. n .1 (g ∙ z))
+      told here p (lane w k x) (λ q. n (f ∙ q)) (λ q. o (g ∙ q))
+
+  -- of two numbers, in all of c lanes
+  lanes-allowed : (c x y : ℕ) → passes (λ k. tells w low high some other here (w * k)) c ≡ true → ((k : ℕ) → w * k + w ≤ 64 → k < c)
+      → bitAnd (bitAnd (fine low some other x) (fine low some other y)) high ≡ high → BothAllowed w x y
+  lanes-allowed c x y t f e =
+      let u = fine low some other x in
+      let v = fine low some other y in
+      let here = at-each (λ k. tells w low high some other here (w * k)) c t in
+      record {
+        first = λ k h. lane-allowed x (w * k) (bitAnd u v) (here k (f k h)) (and-lane-l w (w * k) u v) e;
+        second = λ k h. lane-allowed y (w * k) (bitAnd u v) (here k (f k h)) (and-lane-r w (w * k) u v) e;
+      }
 
 -- a sum of which neither part exceeds `low`
 pub lanes-fit : (x low : ℕ) → low < 2 ^ 63 → Fits w64 (bitAnd x low + low)
 lanes-fit x low h = record { fits = omega (arith, and-le-r x low) }
 
--- `each_allowed` says so of each character of a number
-module _ {x : ℕ} {unicode r : Bool} where
-  pub holds-pairs : unicode ≡ true
-      → r ≡ eqb (bitAnd (bitAnd (fills 0x7FFF7FFF7FFF7FFF (bitAnd x 0xFF60FF60FF60FF60)) (fills 0x7FFF7FFF7FFF7FFF (bitXor x 0x007F007F007F007F))) 0x8000800080008000) 0x8000800080008000
-      → Sure r (HoldsAllowed (characterBits unicode) x)
+-- `both_allowed` says so of each character of two numbers
+module _ {x y u v : ℕ} {unicode : Bool} where
+  pub holds-pairs : unicode ≡ true → u ≡ fine 0x7FFF7FFF7FFF7FFF 0xFF60FF60FF60FF60 0x007F007F007F007F x → v ≡ fine 0x7FFF7FFF7FFF7FFF 0xFF60FF60FF60FF60 0x007F007F007F007F y
+      → Sure (eqb (bitAnd (bitAnd u v) 0x8000800080008000) 0x8000800080008000) (BothAllowed (characterBits unicode) x y)
   unfolding allowedCharacter
-  holds-pairs u e = record {
-    so = λ t. rw u (record {
-      each = λ k h. lane-allowed 16 0x7FFF7FFF7FFF7FFF 0x8000800080008000 0xFF60FF60FF60FF60 0x007F007F007F007F 0xFF60 refl x (16 * k)
-          (at-each (λ k. tells 16 0x7FFF7FFF7FFF7FFF 0x8000800080008000 0xFF60FF60FF60FF60 0x007F007F007F007F 0xFF60 (16 * k)) 4 refl k (omega arith)) (eqb-true _ _ (sym e ∙ t));
-    });
+  holds-pairs e eu ev = record {
+    so = λ t. rw e (lanes-allowed 16 0x7FFF7FFF7FFF7FFF 0x8000800080008000 0xFF60FF60FF60FF60 0x007F007F007F007F 0xFF60 refl 4 x y refl (λ k h. omega arith)
+        (ap₂ (λ (a b : ℕ). bitAnd (bitAnd a b) 0x8000800080008000) (sym eu) (sym ev) ∙ eqb-true _ _ t));
   }
 
-  pub holds-octets : unicode ≡ false
-      → r ≡ eqb (bitAnd (bitAnd (fills 0x7F7F7F7F7F7F7F7F (bitAnd x 0x6060606060606060)) (fills 0x7F7F7F7F7F7F7F7F (bitXor x 0x7F7F7F7F7F7F7F7F))) 0x8080808080808080) 0x8080808080808080
-      → Sure r (HoldsAllowed (characterBits unicode) x)
+  pub holds-octets : unicode ≡ false → u ≡ fine 0x7F7F7F7F7F7F7F7F 0x6060606060606060 0x7F7F7F7F7F7F7F7F x → v ≡ fine 0x7F7F7F7F7F7F7F7F 0x6060606060606060 0x7F7F7F7F7F7F7F7F y
+      → Sure (eqb (bitAnd (bitAnd u v) 0x8080808080808080) 0x8080808080808080) (BothAllowed (characterBits unicode) x y)
   unfolding allowedCharacter
-  holds-octets u e = record {
-    so = λ t. rw u (record {
-      each = λ k h. lane-allowed 8 0x7F7F7F7F7F7F7F7F 0x8080808080808080 0x6060606060606060 0x7F7F7F7F7F7F7F7F 0x60 refl x (8 * k)
-          (at-each (λ k. tells 8 0x7F7F7F7F7F7F7F7F 0x8080808080808080 0x6060606060606060 0x7F7F7F7F7F7F7F7F 0x60 (8 * k)) 8 refl k (omega arith)) (eqb-true _ _ (sym e ∙ t));
-    });
+  holds-octets e eu ev = record {
+    so = λ t. rw e (lanes-allowed 8 0x7F7F7F7F7F7F7F7F 0x8080808080808080 0x6060606060606060 0x7F7F7F7F7F7F7F7F 0x60 refl 8 x y refl (λ k h. omega arith)
+        (ap₂ (λ (a b : ℕ). bitAnd (bitAnd a b) 0x8080808080808080) (sym eu) (sym ev) ∙ eqb-true _ _ t));
   }
 
 pub ruleset holding = (lanes-fit, holds-pairs, holds-octets)
@@ -230,22 +244,22 @@ sight-lane m at o w k s {x} sees h l e n =
     sym (field-drop (bitsOf m) at o w) ∙ sees .at o w h (rw (length-left m at) (omega arith)) ∙ ap (λ (y : ℕ). lane w y x) d
     ∙ sym (or-lane w k x (18446744073709551615 / 2 ^ s) ∙ ap (bitOr (lane w k x)) z ∙ or-zero-r (lane w k x))
 
--- `turn_allowed` says so of the characters in a sight
-pub turn-holds : (m : List ℕ) (at : ℕ) (unicode : Bool) (k : ℕ) {s x : ℕ} {r : Bool} → (s ≡ k * characterBits unicode) × (s ≤ 240)
-    → (k ≤ 15) × (k * characterBits unicode ≤ 56) × (at + k * characterBits unicode ≤ 8 * length m) → Sight 57 (drop at (bitsOf m)) x → Sure r (HoldsAllowed (characterBits unicode) (onesBelow s x)) → Sure r (AllowedAt m at unicode k)
-turn-holds m at true k {s = s} hs l sees h = record {
-  so = λ t. record { each = λ i n. rw (sight-lane m at (i * 16) 16 (16 * (3 - i)) s sees (omega (arith, l .1)) (omega (arith, l .2)) (omega (arith, l .1)) (omega (arith, hs .0))) (h .so t .each (3 - i) (omega (arith, l .1))) };
+-- `few_allowed` says so of the characters in a sight
+pub few-hold : (m : List ℕ) (at : ℕ) (unicode : Bool) (n : ℕ) {s x : ℕ} {r : Bool} → (s ≡ n * characterBits unicode) × (s ≤ 240)
+    → (n ≤ 15) × (n * characterBits unicode ≤ 56) × (at + n * characterBits unicode ≤ 8 * length m) → Sight 57 (drop at (bitsOf m)) x
+    → Sure r (BothAllowed (characterBits unicode) (onesBelow s x) (onesBelow s x)) → Sure r (AllowedAt m at unicode n)
+few-hold m at true n {s = s} hs l sees h = record {
+  so = λ t. record {
+    there = l .2;
+    each = λ i k. rw (sight-lane m at (i * 16) 16 (16 * (3 - i)) s sees (omega (arith, l .1)) (omega (arith, l .2)) (omega (arith, l .1)) (omega (arith, hs .0))) (h .so t .first (3 - i) (omega (arith, l .1)));
+  };
 }
-turn-holds m at false k {s = s} hs l sees h = record {
-  so = λ t. record { each = λ i n. rw (sight-lane m at (i * 8) 8 (8 * (7 - i)) s sees (omega (arith, l .1)) (omega (arith, l .2)) (omega (arith, l .1)) (omega (arith, hs .0))) (h .so t .each (7 - i) (omega (arith, l .1))) };
+few-hold m at false n {s = s} hs l sees h = record {
+  so = λ t. record {
+    there = l .2;
+    each = λ i k. rw (sight-lane m at (i * 8) 8 (8 * (7 - i)) s sees (omega (arith, l .1)) (omega (arith, l .2)) (omega (arith, l .1)) (omega (arith, hs .0))) (h .so t .first (7 - i) (omega (arith, l .1)));
+  };
 }
-
--- three characters of two octets, or seven of one
-pub turn-pairs : {unicode : Bool} {k : ℕ} → unicode ≡ true → k ≤ 3 → k * characterBits unicode ≤ 56
-turn-pairs u h = rw u (omega arith)
-
-pub turn-octets : {unicode : Bool} {k : ℕ} → unicode ≡ false → k ≤ 7 → k * characterBits unicode ≤ 56
-turn-octets u h = rw u (omega arith)
 
 -- the bits of so many
 pub span-pairs : {unicode : Bool} (n : ℕ) → unicode ≡ true → 16 * n ≡ n * characterBits unicode
@@ -254,72 +268,131 @@ span-pairs n u = rw u (omega arith)
 pub span-octets : {unicode : Bool} (n : ℕ) → unicode ≡ false → 8 * n ≡ n * characterBits unicode
 span-octets n u = rw u (omega arith)
 
-pub ruleset turns = (turn-holds, turn-pairs, turn-octets, span-pairs, span-octets)
+pub ruleset spans = (few-hold, span-pairs, span-octets)
 
--- with `more` of the n characters at `at` to come at p, which are all there
-pub record AllowedWalk (m : List ℕ) (at : ℕ) (unicode : Bool) (n p more : ℕ) : Type 0 where
-  pub reached : p ≡ at + (n - more) * characterBits unicode
-  pub there : p + more * characterBits unicode ≤ 8 * length m
-  pub fewer : more ≤ n
-  pub allowed : AllowedAt m at unicode (n - more)
+-- ---- those that 64 bits hold
 
-pub allowed-begins : (m : List ℕ) (at : ℕ) (unicode : Bool) (n : ℕ) → at + n * characterBits unicode ≤ 8 * length m → AllowedWalk m at unicode n at n
-allowed-begins m at unicode n h =
-    let z : n - n ≡ 0 = omega arith in
-    record { reached = rw z (omega arith); there = h; fewer = omega arith; allowed = record { each = λ i l. absurd (omega arith) } }
+-- how many characters they are
+abbrev perRow : Bool → ℕ
+perRow unicode = pick unicode 4 8
 
--- the next k are there
-module _ {m : List ℕ} {at : ℕ} {unicode : Bool} {n p more : ℕ} (w : AllowedWalk m at unicode n p more) where
-  pub turn-there : {k : ℕ} → k ≤ more → p + k * characterBits unicode ≤ 8 * length m
-  turn-there {k} l = go unicode (w .there)
-    where
-      go : (u : Bool) → p + more * characterBits u ≤ 8 * length m → p + k * characterBits u ≤ 8 * length m
-      go true h = omega arith
-      go false h = omega arith
-
-  pub turn-within : Within m at → Within m p
-  turn-within i = record { inside = omega (arith, w .there); counted = i .counted }
-
--- k more
-pub allowed-on : {m : List ℕ} {at : ℕ} {unicode : Bool} {n p more k s : ℕ} {r : Bool} → AllowedWalk m at unicode n p more → (s ≡ k * characterBits unicode) × (s ≤ 240) → (1 ≤ k) × (k ≤ more) × (k * characterBits unicode ≤ 56)
-    → Sure r (AllowedAt m p unicode k) → r ≡ true → AllowedWalk m at unicode n (p + s) (more - k)
-allowed-on {m} {at} {unicode} {n} {p} {more} {k} w hs l a t =
-    rw (hs .0) (record { reached = reached unicode (w .reached); there = there unicode (w .there); fewer = omega (arith, w .fewer); allowed = record { each = λ i h. go i h (ltb i (n - more)) refl } })
+row-holds : (m : List ℕ) (at : ℕ) (unicode : Bool) {x : ℕ} → at + 64 ≤ 8 * length m → Sight 64 (drop at (bitsOf m)) x → ((k : ℕ) → characterBits unicode * k + characterBits unicode ≤ 64 → allowedCharacter (lane (characterBits unicode) (characterBits unicode * k) x) ≡ true) → AllowedAt m at unicode (perRow unicode)
+row-holds m at unicode {x} l sees h = go unicode h
   where
-    reached : (u : Bool) → p ≡ at + (n - more) * characterBits u → p + k * characterBits u ≡ at + (n - (more - k)) * characterBits u
-    reached true e = omega (arith, w .fewer, l .1)
-    reached false e = omega (arith, w .fewer, l .1)
+    one : (o w k : ℕ) → o + w + k ≡ 64 → field (bitsOf m) (at + o) w ≡ lane w k x
+    one o w k e =
+        let d : 64 - (o + w) ≡ k = omega arith in
+        sym (field-drop (bitsOf m) at o w) ∙ sees .at o w (omega arith) (rw (length-left m at) (omega arith)) ∙ ap (λ (y : ℕ). lane w y x) d
 
-    there : (u : Bool) → p + more * characterBits u ≤ 8 * length m → p + k * characterBits u + (more - k) * characterBits u ≤ 8 * length m
-    there true h = omega (arith, l .1)
-    there false h = omega (arith, l .1)
+    go : (u : Bool) → ((k : ℕ) → characterBits u * k + characterBits u ≤ 64 → allowedCharacter (lane (characterBits u) (characterBits u * k) x) ≡ true) → AllowedAt m at u (perRow u)
+    go true h = record { there = l; each = λ i k. rw (one (i * 16) 16 (16 * (3 - i)) (omega arith)) (h (3 - i) (omega arith)) }
+    go false h = record { there = l; each = λ i k. rw (one (i * 8) 8 (8 * (7 - i)) (omega arith)) (h (7 - i) (omega arith)) }
 
-    same : (u : Bool) (i : ℕ) → n - more ≤ i → p ≡ at + (n - more) * characterBits u → p + (i - (n - more)) * characterBits u ≡ at + i * characterBits u
-    same true i h e = omega arith
-    same false i h e = omega arith
+-- two rows hold up to 128 bits of characters
+module _ (m : List ℕ) (at : ℕ) (unicode : Bool) (n : ℕ) {all x y : ℕ} {r : Bool} (e : (all ≡ n * characterBits unicode) × (all ≤ 240)) (h : (n ≤ 15) × (64 ≤ n * characterBits unicode) × (at + n * characterBits unicode ≤ 8 * length m))
+    (first : Sight 64 (drop at (bitsOf m)) x) (last : Sight 64 (drop (at + (all - 64)) (bitsOf m)) y) (s : Sure r (BothAllowed (characterBits unicode) x y)) (t : r ≡ true) where
+  front : AllowedAt m at unicode (perRow unicode)
+  front = row-holds m at unicode (omega (arith, h .1, h .2)) first (s .so t .first)
 
-    go : (i : ℕ) → i < n - (more - k) → (t : Bool) → ltb i (n - more) ≡ t → allowedCharacter (field (bitsOf m) (at + i * characterBits unicode) (characterBits unicode)) ≡ true
-    go i h true e = w .allowed .each i (ltb-true i (n - more) e)
-    go i h false e = let q = ltb-false i (n - more) e in rw (same unicode i q (w .reached)) at (a .so t .each (i - (n - more)) (omega (arith, w .fewer, l .1)))
+  back : AllowedAt m (at + (all - 64)) unicode (perRow unicode)
+  back = row-holds m (at + (all - 64)) unicode (omega (arith, e .0, h .1, h .2)) last (s .so t .second)
 
-pub allowed-done : {m : List ℕ} {at : ℕ} {unicode : Bool} {n p more : ℕ} → AllowedWalk m at unicode n p more → more ≤ 0 → Sure true (AllowedAt m at unicode n)
-allowed-done {n = n} {more = more} w h = let z : n - more ≡ n = omega arith in record { so = λ _. rw z at (w .allowed) }
+  pub two-rows : all ≤ 128 → Sure true (AllowedAt m at unicode n)
+  two-rows k = record { so = λ _. record { there = h .2; each = λ i l. go unicode (e .0) front back i l (ltb i (perRow unicode)) refl } }
+    where
+      least : 64 ≤ all
+      least = rw (e .0) (h .1)
+
+      go : (u : Bool) → all ≡ n * characterBits u → AllowedAt m at u (perRow u) → AllowedAt m (at + (all - 64)) u (perRow u) → (i : ℕ) → i < n → (b : Bool) → ltb i (perRow u) ≡ b
+          → allowedCharacter (field (bitsOf m) (at + i * characterBits u) (characterBits u)) ≡ true
+      go u e f g i l true b = f .each i (ltb-true i (perRow u) b)
+      go true e f g i l false b =
+          let q = ltb-false i 4 b in
+          let d : at + (all - 64) + (i - (n - 4)) * 16 ≡ at + i * 16 = omega (arith, least) in
+          rw d at (g .each (i - (n - 4)) (omega (arith, least)))
+      go false e f g i l false b =
+          let q = ltb-false i 8 b in
+          let d : at + (all - 64) + (i - (n - 8)) * 8 ≡ at + i * 8 = omega (arith, least) in
+          rw d at (g .each (i - (n - 8)) (omega (arith, least)))
+
+  -- four rows hold up to 256
+  pub four-rows : {x′ y′ : ℕ} {r′ : Bool} → 128 < all → Sight 64 (drop (at + 64) (bitsOf m)) x′ → Sight 64 (drop (at + (all - 128)) (bitsOf m)) y′
+      → Sure r′ (BothAllowed (characterBits unicode) x′ y′) → Sure r′ (AllowedAt m at unicode n)
+  four-rows k second third s′ = record {
+    so = λ t′. record {
+      there = h .2;
+      each = λ i l. go unicode (e .0) front back
+          (row-holds m (at + 64) unicode (omega (arith, e .0, h .2)) second (s′ .so t′ .first))
+          (row-holds m (at + (all - 128)) unicode (omega (arith, e .0, h .2)) third (s′ .so t′ .second)) i l (ltb i (perRow unicode)) (ltb i (2 * perRow unicode)) (ltb i (n - perRow unicode)) refl refl refl;
+    };
+  }
+    where
+      least : 64 ≤ all
+      least = rw (e .0) (h .1)
+
+      most : all ≤ 240
+      most = e .1
+
+      go : (u : Bool) → all ≡ n * characterBits u → AllowedAt m at u (perRow u) → AllowedAt m (at + (all - 64)) u (perRow u) → AllowedAt m (at + 64) u (perRow u) → AllowedAt m (at + (all - 128)) u (perRow u)
+          → (i : ℕ) → i < n → (a b c : Bool) → ltb i (perRow u) ≡ a → ltb i (2 * perRow u) ≡ b → ltb i (n - perRow u) ≡ c → allowedCharacter (field (bitsOf m) (at + i * characterBits u) (characterBits u)) ≡ true
+      go u e f g p q i l true b c ea eb ec = f .each i (ltb-true i (perRow u) ea)
+      go true e f g p q i l false true c ea eb ec =
+          let a = ltb-false i 4 ea in
+          let b = ltb-true i 8 eb in
+          let d : at + 64 + (i - 4) * 16 ≡ at + i * 16 = omega arith in
+          rw d at (p .each (i - 4) (omega arith))
+      go false e f g p q i l false true c ea eb ec =
+          let a = ltb-false i 8 ea in
+          let b = ltb-true i 16 eb in
+          let d : at + 64 + (i - 8) * 8 ≡ at + i * 8 = omega arith in
+          rw d at (p .each (i - 8) (omega arith))
+      go true e f g p q i l false false true ea eb ec =
+          let b = ltb-false i 8 eb in
+          let c = ltb-true i (n - 4) ec in
+          let d : at + (all - 128) + (i - (n - 8)) * 16 ≡ at + i * 16 = omega (arith, least, most) in
+          rw d at (q .each (i - (n - 8)) (omega (arith, least, most)))
+      go false e f g p q i l false false true ea eb ec =
+          let b = ltb-false i 16 eb in
+          let c = ltb-true i (n - 8) ec in
+          let d : at + (all - 128) + (i - (n - 16)) * 8 ≡ at + i * 8 = omega (arith, least, most) in
+          rw d at (q .each (i - (n - 16)) (omega (arith, least, most)))
+      go true e f g p q i l false false false ea eb ec =
+          let c = ltb-false i (n - 4) ec in
+          let d : at + (all - 64) + (i - (n - 4)) * 16 ≡ at + i * 16 = omega (arith, least) in
+          rw d at (g .each (i - (n - 4)) (omega (arith, least)))
+      go false e f g p q i l false false false ea eb ec =
+          let c = ltb-false i (n - 8) ec in
+          let d : at + (all - 64) + (i - (n - 8)) * 8 ≡ at + i * 8 = omega (arith, least) in
+          rw d at (g .each (i - (n - 8)) (omega (arith, least)))
 
 -- where the test does not pass, nothing is said
 pub unsure : {P : Type 0} → Sure false P
 unsure = record { so = λ e. absurd (false≢true e) }
 
--- so all of them are read
-pub text-told : (m : List ℕ) (at : ℕ) (unicode : Bool) (n : ℕ) {s o r : ℕ} {t : Bool} → (s ≡ n * characterBits unicode) × (s ≤ 240) → (o ≡ perCharacter unicode) × (o ≤ 2) × (1 ≤ o) → Within m at
-    → r + at ≡ 8 * length m → s ≤ r → Sure t (AllowedAt m at unicode n) → t ≡ true → Present (place (at + s)) (octetCount (n * o)) ≡ charactersOf (text unicode n (bitsOf m) at)
-text-told m at unicode n hs ho i hr h a t =
-    let l : at + n * characterBits unicode ≤ 8 * length m = rw (← hs .0) (omega arith) in
-    text-done (text-all m unicode n at at n (text-begins m unicode n at (i .inside)) l (a .so t)) ho (ap (λ (x : ℕ). at + x) (sym (hs .0))) (omega arith)
+pub ruleset rows = (two-rows, four-rows, unsure)
 
--- and there is room for them
-pub text-there : (m : List ℕ) (at : ℕ) (unicode : Bool) (n : ℕ) {s r : ℕ} → (s ≡ n * characterBits unicode) × (s ≤ 240) → r + at ≡ 8 * length m → s ≤ r → at + n * characterBits unicode ≤ 8 * length m
-text-there m at unicode n hs hr h = rw (← hs .0) (omega arith)
+-- ---- all of them
 
-pub ruleset telling = (allowed-begins, turn-there, turn-within, allowed-on, allowed-done, unsure)
+module _ (m : List ℕ) (at : ℕ) (unicode : Bool) (n : ℕ) {s r : ℕ} (hs : (s ≡ n * characterBits unicode) × (s ≤ 240)) (hr : r + at ≡ 8 * length m) (h : s ≤ r) where
+  pub all-few : s < 64 → n * characterBits unicode ≤ 56
+  all-few k = go unicode (hs .0)
+    where
+      go : (u : Bool) → s ≡ n * characterBits u → n * characterBits u ≤ 56
+      go true e = omega arith
+      go false e = omega arith
 
-pub ruleset texts = (text-told, text-there, product-fits)
+  pub all-there : at + n * characterBits unicode ≤ 8 * length m
+  all-there = rw (← hs .0) (omega arith)
+
+  pub all-many : 64 ≤ s → 64 ≤ n * characterBits unicode
+  all-many k = rw (← hs .0) k
+
+pub ruleset alls = (all-few, all-there, all-many, unsure)
+
+-- so they are read
+pub text-told : (m : List ℕ) (at : ℕ) (unicode : Bool) (n : ℕ) {s o : ℕ} {t : Bool} → (s ≡ n * characterBits unicode) × (s ≤ 240) → (o ≡ perCharacter unicode) × (o ≤ 2) × (1 ≤ o) → Within m at
+    → Sure t (AllowedAt m at unicode n) → t ≡ true → Present (place (at + s)) (octetCount (n * o)) ≡ charactersOf (text unicode n (bitsOf m) at)
+text-told m at unicode n hs ho i a t =
+    text-done (text-all m unicode n at at n (text-begins m unicode n at (i .inside)) (a .so t .there) (a .so t)) ho (ap (λ (x : ℕ). at + x) (sym (hs .0))) (omega arith)
+
+pub ruleset texts = (text-told, product-fits)

@@ -67,12 +67,14 @@ charactersOf (bad n p e) = Faulty (place p) n
 pub record Sure (r : Bool) (P : Type 0) : Type 0 where
   pub so : r ≡ true → P
 
--- the characters of w bits that a number of 64 bits holds are allowed
-pub record HoldsAllowed (w x : ℕ) : Type 0 where
-  pub each : (k : ℕ) → w * k + w ≤ 64 → allowedCharacter (x / 2 ^ (w * k) % 2 ^ w) ≡ true
+-- the characters of w bits that two numbers of 64 bits hold are allowed
+pub record BothAllowed (w x y : ℕ) : Type 0 where
+  pub first : (k : ℕ) → w * k + w ≤ 64 → allowedCharacter (x / 2 ^ (w * k) % 2 ^ w) ≡ true
+  pub second : (k : ℕ) → w * k + w ≤ 64 → allowedCharacter (y / 2 ^ (w * k) % 2 ^ w) ≡ true
 
--- the n characters at a place are allowed
+-- the n characters at a place are there and allowed
 pub record AllowedAt (m : List ℕ) (at : ℕ) (unicode : Bool) (n : ℕ) : Type 0 where
+  pub there : at + n * characterBits unicode ≤ placeAfter (length m)
   pub each : (i : ℕ) → i < n → allowedCharacter (field (bitsOf m) (at + i * characterBits unicode) (characterBits unicode)) ≡ true
 
 -- the front as the code answers it, or the refusal

@@ -10,7 +10,7 @@ ghost use Rattle.tone.specs.Tone.{perCharacter, characterBits, allowedCharacter
 ghost use Rattle.tone.specs.Reading.{element, anyOf, filled, soundPart, parts as partsDue, command, text as textDue, title as titleDue, titled as titledDue, front};
 ghost use Rattle.tone.specs.Reading.{headerDue, instructionDue, bodyDue, ending as endingDue};
 ghost use Rattle.tone_elements.specs.Answers.{Within, allKnown, stepAs, stepOf, commandOf, noteIn, notes as notesOf, charactersOf, openingOf, Seen, SomeEntry, EntryAt, Passed};
-ghost use Rattle.tone_elements.specs.Answers.{Sure, HoldsAllowed, AllowedAt};
+ghost use Rattle.tone_elements.specs.Answers.{Sure, BothAllowed, AllowedAt};
 ghost use mathlib.Core.Bool.{Bool};
 ghost use mathlib.Core.List.{List};
 use bits::BitPlace;
@@ -488,7 +488,7 @@ fn character(msg: &[u8], at: BitPlace, unicode: bool) -> Step
 }
 
 // `n` characters one by one.
-fn lettered(msg: &[u8], at: BitPlace, unicode: bool, n: u32) -> Characters
+pub fn lettered(msg: &[u8], at: BitPlace, unicode: bool, n: u32) -> Characters
     requires { ⌜ Within (now msg) (at .0) ⌝ }
     requires { ⌜ n ≤ 15 ⌝ }
     ensures { λ r. ⌜ r ≡ charactersOf (textDue unicode n (bitsOf (now (msg .entry))) (at .0)) ⌝ }
@@ -512,103 +512,104 @@ fn lettered(msg: &[u8], at: BitPlace, unicode: bool, n: u32) -> Characters
     }
 }
 
-// Lanes of a number, told at once: does each have a bit of `some`, and differ from `other`? `low` has the bits of each lane
-// but the highest, which `high` has.
-fn lanes_fine(x: u64, low: u64, high: u64, some: u64, other: u64) -> bool
+// Lanes of a number, told at once: the highest bit of each is set where it has a bit of `some` and differs from `other`.
+// `low` has the bits of each lane but the highest.
+fn lanes_fine(x: u64, low: u64, some: u64, other: u64) -> u64
     requires { ⌜ low < 2 ^ 63 ⌝ }
-    ensures { λ r. ⌜ r ≡ eqb (bitAnd (bitAnd (fills low (bitAnd x some)) (fills low (bitXor x other))) high) high ⌝ }
+    ensures { λ r. ⌜ r ≡ bitAnd (fills low (bitAnd x some)) (fills low (bitXor x other)) ⌝ }
 {
     let a = x & some;
     let b = x ^ other;
-    (((a & low) + low) | a) & (((b & low) + low) | b) & high == high
+    (((a & low) + low) | a) & (((b & low) + low) | b)
 }
 
-// Is each character allowed that a number holds, eight of an octet, or four of two under UNICODE? The characters without a
+// Is each character allowed that two numbers hold, eight of an octet, or four of two under UNICODE? The characters without a
 // high octet and without either bit of 60 hexadecimal are 0 to 31 and 128 to 159. Beside them 127 is refused.
-fn each_allowed(x: u64, unicode: bool) -> bool
-    ensures { λ r. ⌜ Sure r (HoldsAllowed (characterBits unicode) x) ⌝ }
+fn both_allowed(x: u64, y: u64, unicode: bool) -> bool
+    ensures { λ r. ⌜ Sure r (BothAllowed (characterBits unicode) x y) ⌝ }
 {
     if unicode {
-        return lanes_fine(
-            x,
-            0x7FFF_7FFF_7FFF_7FFF,
-            0x8000_8000_8000_8000,
-            0xFF60_FF60_FF60_FF60,
-            0x007F_007F_007F_007F,
-        );
+        let low = 0x7FFF_7FFF_7FFF_7FFF;
+        let some = 0xFF60_FF60_FF60_FF60;
+        let other = 0x007F_007F_007F_007F;
+        let high = 0x8000_8000_8000_8000;
+        return lanes_fine(x, low, some, other) & lanes_fine(y, low, some, other) & high == high;
     }
-    lanes_fine(
-        x,
-        0x7F7F_7F7F_7F7F_7F7F,
-        0x8080_8080_8080_8080,
-        0x6060_6060_6060_6060,
-        0x7F7F_7F7F_7F7F_7F7F,
-    )
-}
-
-// How many of the characters to come one sight holds.
-fn characters_turn(unicode: bool, more: u32) -> u32
-    requires { ⌜ 0 < more ⌝ }
-    ensures { λ r. ⌜ (1 ≤ r) × (r ≤ more) × (r * characterBits unicode ≤ 56) ⌝ }
-{
-    if unicode {
-        return if 3 < more { 3 } else { more };
-    }
-    if 7 < more { 7 } else { more }
+    let low = 0x7F7F_7F7F_7F7F_7F7F;
+    let some = 0x6060_6060_6060_6060;
+    let high = 0x8080_8080_8080_8080;
+    lanes_fine(x, low, some, low) & lanes_fine(y, low, some, low) & high == high
 }
 
 // The bits of so many characters.
-fn span(unicode: bool, n: u32) -> u32
+fn span(unicode: bool, n: u32) -> usize
     requires { ⌜ n ≤ 15 ⌝ }
     ensures { λ r. ⌜ (r ≡ n * characterBits unicode) × (r ≤ 240) ⌝ }
 {
-    if unicode { 16 * n } else { 8 * n }
+    if unicode {
+        16 * n as usize
+    } else {
+        8 * n as usize
+    }
 }
 
-// Are `k` characters allowed, which one sight holds? Below them it is filled with ones: a character of ones is allowed.
-fn turn_allowed(msg: &[u8], at: BitPlace, unicode: bool, k: u32) -> bool
+// Are `n` characters allowed, which one sight holds? Below them it is filled with ones: a character of ones is allowed.
+fn few_allowed(msg: &[u8], at: BitPlace, unicode: bool, n: u32) -> bool
     requires { ⌜ Within (now msg) (at .0) ⌝ }
-    requires { ⌜ (k ≤ 15) × (k * characterBits unicode ≤ 56) × (at .0 + k * characterBits unicode ≤ placeAfter (length (now msg))) ⌝ }
-    ensures { λ r. ⌜ Sure r (AllowedAt (now (msg .entry)) (at .0) unicode k) ⌝ }
-{
-    let below = 0xFFFF_FFFF_FFFF_FFFFu64 >> span(unicode, k);
-    each_allowed(bits::sight(msg, at) | below, unicode)
-}
-
-// Are `n` characters allowed, which are there? A sight holds seven, or three under UNICODE.
-fn all_allowed(msg: &[u8], at: BitPlace, unicode: bool, n: u32) -> bool
-    requires { ⌜ Within (now msg) (at .0) ⌝ }
-    requires { ⌜ n ≤ 15 ⌝ }
-    requires { ⌜ at .0 + n * characterBits unicode ≤ placeAfter (length (now msg)) ⌝ }
+    requires { ⌜ (n ≤ 15) × (n * characterBits unicode ≤ 56) × (at .0 + n * characterBits unicode ≤ placeAfter (length (now msg))) ⌝ }
     ensures { λ r. ⌜ Sure r (AllowedAt (now (msg .entry)) (at .0) unicode n) ⌝ }
 {
-    let mut place = at;
-    let mut more = n;
-    while 0 < more {
-        let k = characters_turn(unicode, more);
-        if turn_allowed(msg, place, unicode, k) {
-            place = BitPlace(place.0 + span(unicode, k) as usize);
-            more -= k;
-        } else {
-            return false;
-        }
-    }
-    true
+    let below = 0xFFFF_FFFF_FFFF_FFFFu64 >> span(unicode, n);
+    let x = bits::sight(msg, at) | below;
+    both_allowed(x, x, unicode)
 }
 
-// `n` characters. Where all are there and allowed, they are told a few at a time.
-pub fn text(msg: &[u8], at: BitPlace, unicode: bool, n: u32) -> Characters
+// Are `n` characters of at least 64 bits allowed, which are there? The first 64 bits and the last hold them all, and where
+// there are more than 128 also the second and the last but one.
+fn many_allowed(msg: &[u8], at: BitPlace, unicode: bool, n: u32) -> bool
+    requires { ⌜ Within (now msg) (at .0) ⌝ }
+    requires { ⌜ (n ≤ 15) × (64 ≤ n * characterBits unicode) × (at .0 + n * characterBits unicode ≤ placeAfter (length (now msg))) ⌝ }
+    ensures { λ r. ⌜ Sure r (AllowedAt (now (msg .entry)) (at .0) unicode n) ⌝ }
+{
+    let all = span(unicode, n);
+    let first = bits::full_sight(msg, at);
+    let last = bits::full_sight(msg, BitPlace(at.0 + (all - 64)));
+    if both_allowed(first, last, unicode) {
+        if all <= 128 {
+            return true;
+        }
+        let second = bits::full_sight(msg, BitPlace(at.0 + 64));
+        let third = bits::full_sight(msg, BitPlace(at.0 + (all - 128)));
+        return both_allowed(second, third, unicode);
+    }
+    false
+}
+
+// Are `n` characters there and allowed? Where it is not sure of that, it says no.
+pub fn all_allowed(msg: &[u8], at: BitPlace, unicode: bool, n: u32) -> bool
+    requires { ⌜ Within (now msg) (at .0) ⌝ }
+    requires { ⌜ n ≤ 15 ⌝ }
+    ensures { λ r. ⌜ Sure r (AllowedAt (now (msg .entry)) (at .0) unicode n) ⌝ }
+{
+    let all = span(unicode, n);
+    if left(msg, at) < all {
+        return false;
+    }
+    if all < 64 {
+        return few_allowed(msg, at, unicode, n);
+    }
+    many_allowed(msg, at, unicode, n)
+}
+
+// `n` characters. Most titles are told a few characters at a time.
+fn text(msg: &[u8], at: BitPlace, unicode: bool, n: u32) -> Characters
     requires { ⌜ Within (now msg) (at .0) ⌝ }
     requires { ⌜ n ≤ 15 ⌝ }
     ensures { λ r. ⌜ r ≡ charactersOf (textDue unicode n (bitsOf (now (msg .entry))) (at .0)) ⌝ }
 {
-    let all = span(unicode, n) as usize;
-    if left(msg, at) < all {
-        return lettered(msg, at, unicode, n);
-    }
     if all_allowed(msg, at, unicode, n) {
         return Characters::Present {
-            next: BitPlace(at.0 + all),
+            next: BitPlace(at.0 + span(unicode, n)),
             octets: OctetCount(n as usize * character_octets(unicode).0),
         };
     }

@@ -5,7 +5,7 @@ use mathlib.Core.Path.{_≡_, refl, sym, ap, ap₂, _∙_}
 use mathlib.Core.Bool.{Bool, true, false, _&&_}
 use mathlib.Core.List.{List}
 use lib.ListN.{length, getD, length-append}
-use lib.Dec.{leb, eqb}
+use lib.Dec.{leb, eqb, lit≤}
 use borrow.Author.Tests.{le-leb, lt-leb, eq-eqb, ne-eqb, eqb-true, leb-true, leb-false}
 use mir.Val.{Fits}
 use mir.Syntax.{w8, w64}
@@ -18,15 +18,16 @@ use Rattle.bits.specs.Outcome.{Outcome, accepted, refused}
 use Rattle.bits.specs.Places.{place, octetCount}
 use Rattle.bits.proofs.Choice.{both, and-true}
 use Rattle.bits.proofs.Octets.{octets-of}
-use Rattle.tone.specs.Tone.{Tone, frontOf, cells, patternsOf, perCharacter, characters, allowedTitle}
+use Rattle.tone.specs.Tone.{Tone, frontOf, cells, patternsOf, perCharacter, characterBits, characters, allowedTitle}
 use Rattle.tone.specs.Writing.{tableBits, frontBits, songBits, toneLength, toneOctets, mostOctets}
 use Rattle.tone.proofs.Rows.{and-false}
 use Rattle.tone.specs.Reading.{got, bad, text}
 use Rattle.tone.proofs.Fronts.{song-fine, own-reads, own-allowed}
 use Rattle.tone_elements.specs.declared.Characters.{Characters}
 use Rattle.tone_elements.specs.declared.Characters.the-variants.{Present, Faulty}
-use Rattle.tone_elements.specs.Answers.{Within, charactersOf}
+use Rattle.tone_elements.specs.Answers.{Within, charactersOf, Sure, AllowedAt}
 use Rattle.tone_elements.proofs.Steps.{characters-good, characters-bad}
+use Rattle.tone_elements.proofs.Titles.{text-told}
 use Rattle.tone_table.specs.declared.Judged.{Judged}
 use Rattle.tone_table.specs.declared.Judged.the-variants.{Sound, Faulty}
 use Rattle.tone_table.specs.Judging.{judgeTable}
@@ -126,7 +127,47 @@ module _ (song : ℕ) (u : Bool) (title table out : List ℕ) where
 
 pub ruleset writings = (write-none, write-above, write-song, write-title, write-titled)
 
--- ---- once the song type and the title are fine: the title's characters
+-- ---- the title's characters
+
+module _ (u : Bool) (title : List ℕ) (n : ℕ) (h : (n ≤ 15) × (length title ≡ perCharacter u * n)) where
+  pub legible-within : Within title 0
+  legible-within = go u (h .1)
+    where
+      go : (u : Bool) → length title ≡ perCharacter u * n → Within title 0
+      go true e = record { inside = omega arith; counted = omega (arith, h .0) }
+      go false e = record { inside = omega arith; counted = omega (arith, h .0) }
+
+  module _ (each : (i : ℕ) → Fits w8 (getD title i 0)) where
+    module _ {x : Characters} (q : x ≡ charactersOf (text u n (bitsOf title) 0)) where
+      pub legible-all : {f : BitPlace} {k : OctetCount} → x ≡ Present f k → true ≡ allowedTitle u title
+      legible-all g = let t = characters-good (text u n (bitsOf title) 0) (sym g ∙ q) in sym (own-allowed u n title (octets-of title each) (h .1) (t .1))
+
+      pub legible-not : {f : BitPlace} {k : ℕ} → x ≡ Faulty f k → false ≡ allowedTitle u title
+      legible-not g = go (allowedTitle u title) refl
+        where
+          go : (b : Bool) → allowedTitle u title ≡ b → false ≡ b
+          go false e = refl
+          go true e =
+              let t = characters-bad (text u n (bitsOf title) 0) (sym g ∙ q) in
+              let z : got title (0 + length (bitsOf title)) ≡ bad _ _ _ = sym (own-reads u n title (octets-of title each) (h .1) e) ∙ t .1 in
+              let y : _≡_ {A = ℕ} 0 1 = cc in
+              absurd (omega arith)
+
+    -- where it is told a few characters at a time
+    pub legible-told : {t : Bool} → Sure t (AllowedAt title 0 u n) → t ≡ true → true ≡ allowedTitle u title
+    legible-told a t = legible-all (text-told title 0 u n (refl, bits u) (refl, octets u .0, octets u .1) legible-within a t) refl
+      where
+        bits : (u : Bool) → n * characterBits u ≤ 240
+        bits true = omega (arith, h .0)
+        bits false = omega (arith, h .0)
+
+        octets : (u : Bool) → (perCharacter u ≤ 2) × (1 ≤ perCharacter u)
+        octets true = (lit≤ tt, lit≤ tt)
+        octets false = (lit≤ tt, lit≤ tt)
+
+pub ruleset letters = (legible-within, legible-all, legible-not, legible-told)
+
+-- ---- once the song type and the title are fine
 
 module _ (song : ℕ) (u : Bool) (title table out : List ℕ) (s : songFine song ≡ true) (t : titleFine song u title ≡ true) where
   few-octets : length title ≤ 31
@@ -139,38 +180,24 @@ module _ (song : ℕ) (u : Bool) (title table out : List ℕ) (s : songFine song
   pub spell-counted : length title < 2 ^ 32
   spell-counted = omega (arith, few-octets)
 
-  pub spell-within : Within title 0
-  spell-within = record { inside = omega arith; counted = omega (arith, few-octets) }
-
   module _ {n : ℕ} (en : n ≡ length title / perCharacter u) where
     pub spell-few : n ≤ 15
     spell-few = rw en (leb-true (characters u title) 15 (both (leb (characters u title) 15) _ t .0))
 
-    whole : length title ≡ perCharacter u * n
-    whole =
+    pub spell-whole : length title ≡ perCharacter u * n
+    spell-whole =
         let b = both (eqb (length title % perCharacter u) 0) _ (both (leb (characters u title) 15) _ t .1) in
         sym (whole-characters u title .0 (eqb-true (length title % perCharacter u) 0 (b .0))) ∙ ap (λ (x : ℕ). perCharacter u * x) (sym en)
 
-    module _ (each : (i : ℕ) → Fits w8 (getD title i 0)) {x : Characters} (q : x ≡ charactersOf (text u n (bitsOf title) 0)) where
-      pub spell-all : {f : BitPlace} {k : OctetCount} → x ≡ Present f k → allowedTitle u title ≡ true
-      spell-all g = let t = characters-good (text u n (bitsOf title) 0) (sym g ∙ q) in own-allowed u n title (octets-of title each) whole (t .1)
+  module _ {l : Bool} (e : l ≡ allowedTitle u title) where
+    pub spell-all : l ≡ true → allowedTitle u title ≡ true
+    spell-all h = sym e ∙ h
 
-      none : {f : BitPlace} {k : ℕ} → x ≡ Faulty f k → allowedTitle u title ≡ false
-      none g = go (allowedTitle u title) refl
-        where
-          go : (b : Bool) → allowedTitle u title ≡ b → b ≡ false
-          go false e = refl
-          go true e =
-              let t = characters-bad (text u n (bitsOf title) 0) (sym g ∙ q) in
-              let z : got title (0 + length (bitsOf title)) ≡ bad _ _ _ = sym (own-reads u n title (octets-of title each) whole e) ∙ t .1 in
-              let y : _≡_ {A = ℕ} 0 1 = cc in
-              absurd (omega arith)
+    pub spell-not : l ≡ false → WritePromise song u title table out out (Refused 21 (place 0))
+    unfolding writeTone
+    spell-not h = promised song u title table out out (Refused 21 (place 0)) (refused 21 0) (rw (s, t, sym e ∙ h)) refl refl
 
-      pub spell-not : {f : BitPlace} {k : ℕ} → x ≡ Faulty f k → WritePromise song u title table out out (Refused 21 (place 0))
-      unfolding writeTone
-      spell-not g = promised song u title table out out (Refused 21 (place 0)) (refused 21 0) (rw (s, t, none g)) refl refl
-
-pub ruleset spellings = (spell-counted, spell-within, spell-few, spell-all, spell-not)
+pub ruleset spellings = (spell-counted, spell-few, spell-whole, spell-all, spell-not)
 
 -- ---- the table, and the size
 

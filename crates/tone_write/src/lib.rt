@@ -1,7 +1,7 @@
 ghost use mathlib.Core.Path.{_≡_};
 ghost use mathlib.Core.Bool.{true};
 ghost use mathlib.Core.List.{_++_};
-ghost use Prim.Native.Nat.{_+_, _^_, _≤_, _<_};
+ghost use Prim.Native.Nat.{_+_, _*_, _^_, _≤_, _<_};
 ghost use lib.ListN.{length};
 ghost use Rattle.bits.specs.Choice.{pick};
 ghost use Rattle.bits.specs.Bits.{bitsN, bitsOf, placeAfter};
@@ -9,7 +9,7 @@ ghost use Rattle.bits.specs.Lent.{over};
 ghost use Rattle.bits.specs.Outcome.{accepted};
 ghost use Rattle.bits.specs.Sink.{InHand};
 ghost use Rattle.tone.specs.Table.{InTable};
-ghost use Rattle.tone.specs.Tone.{characters, allowedTitle};
+ghost use Rattle.tone.specs.Tone.{perCharacter, characters, allowedTitle};
 ghost use Rattle.tone.specs.Writing.{commandBits, titleBits, frontBits, entryBits, tableBits, toneLength, toneOctets};
 ghost use Rattle.tone_read.specs.Judging.{Entries};
 ghost use Rattle.tone_table.specs.Judging.{judgeTable};
@@ -216,18 +216,32 @@ fn save(song: u32, unicode: bool, title: &[u8], table: &[u32], out: &mut [u8]) -
     }
 }
 
-// Writes a tone whose song type is fine, and whose title but for its characters. They are judged as those of a message are.
+// Is each of a title's `n` characters allowed? Its octets are judged as those of a message are.
+fn legible(unicode: bool, title: &[u8], n: u32) -> bool
+    requires { ⌜ (n ≤ 15) × (length (now title) ≡ perCharacter unicode * n) ⌝ }
+    ensures { λ r. ⌜ r ≡ allowedTitle unicode (now (title .entry)) ⌝ }
+{
+    if tone_elements::all_allowed(title, BitPlace(0), unicode, n) {
+        return true;
+    }
+    match tone_elements::lettered(title, BitPlace(0), unicode, n) {
+        Characters::Faulty { at: _, number: _ } => false,
+        Characters::Present { next: _, octets: _ } => true,
+    }
+}
+
+// Writes a tone whose song type is fine, and whose title is fine but for the characters in it.
 fn spell(song: u32, unicode: bool, title: &[u8], table: &[u32], out: &mut [u8]) -> Writing
     requires { ⌜ (songFine song ≡ true) × (titleFine song unicode (now title) ≡ true) ⌝ }
     ensures { λ r. ⌜ WritePromise song unicode (now (title .entry)) (now (table .entry)) (now (out .entry)) (now (out .exit)) r ⌝ }
 {
     let n = tone_elements::characters_in(OctetCount(title.len()), unicode);
-    match tone_elements::text(title, BitPlace(0), unicode, n) {
-        Characters::Faulty { at: _, number: _ } => Writing::Refused {
-            number: 21,
-            place: BitPlace(0),
-        },
-        Characters::Present { next: _, octets: _ } => save(song, unicode, title, table, out),
+    if legible(unicode, title, n) {
+        return save(song, unicode, title, table, out);
+    }
+    Writing::Refused {
+        number: 21,
+        place: BitPlace(0),
     }
 }
 

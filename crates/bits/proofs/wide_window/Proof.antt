@@ -2,91 +2,34 @@
 use borrow.Author.Needs.{needs}
 use Rattle.bits.proofs.wide_window.Statement.{statement}
 use Rattle.bits.proofs.wide_window.Tie as tie
-use Rattle.bits.proofs.Looking.{eight-is, eight-loaded}
+use Rattle.bits.proofs.Looking.{eight-is}
 
 sub-if1 : tie.Need-sub-if1
 sub-if1 c = search needs
 
-shared-slice-read-word : tie.Need-shared-slice-read-word
-shared-slice-read-word c = search needs
+wide-word-requires : tie.Need-wide-word-requires
+wide-word-requires c κs = search needs
 
-add-word : tie.Need-add-word
-add-word c = search needs
+returns : tie.Need-returns
+returns c = search needs
 
-shared-slice-read-word-2 : tie.Need-shared-slice-read-word-2
-shared-slice-read-word-2 c = search needs
-
-add-word-2 : tie.Need-add-word-2
-add-word-2 c = search needs
-
-shared-slice-read-word-3 : tie.Need-shared-slice-read-word-3
-shared-slice-read-word-3 c = search needs
-
-add-word-3 : tie.Need-add-word-3
-add-word-3 c = search needs
-
-shared-slice-read-word-4 : tie.Need-shared-slice-read-word-4
-shared-slice-read-word-4 c = search needs
-
-word-requires : tie.Need-word-requires
-word-requires c κs = search needs
-
-add-word-4 : tie.Need-add-word-4
-add-word-4 c = search needs
-
-shared-slice-read-word-5 : tie.Need-shared-slice-read-word-5
-shared-slice-read-word-5 c = search needs
-
-add-word-5 : tie.Need-add-word-5
-add-word-5 c = search needs
-
-shared-slice-read-word-6 : tie.Need-shared-slice-read-word-6
-shared-slice-read-word-6 c = search needs
-
-add-word-6 : tie.Need-add-word-6
-add-word-6 c = search needs
-
-shared-slice-read-word-7 : tie.Need-shared-slice-read-word-7
-shared-slice-read-word-7 c = search needs
-
-add-word-7 : tie.Need-add-word-7
-add-word-7 c = search needs
-
-shared-slice-read-word-8 : tie.Need-shared-slice-read-word-8
-shared-slice-read-word-8 c = search needs
-
-word-requires-2 : tie.Need-word-requires-2
-word-requires-2 c κs = search needs
+near-end-requires : tie.Need-near-end-requires
+near-end-requires c κs = search needs
 
 cast-result : tie.Need-cast-result
 cast-result c = search needs
+
+add-t4 : tie.Need-add-t4
+add-t4 c = search needs
+
+near-end-requires-2 : tie.Need-near-end-requires-2
+near-end-requires-2 c κs = search needs
 
 cast-result-2 : tie.Need-cast-result-2
 cast-result-2 c = search needs
 
 add-result : tie.Need-add-result
 add-result c = search needs
-
-returns : tie.Need-returns
-returns c = search (eight-loaded, needs)
-
-near-end-requires : tie.Need-near-end-requires
-near-end-requires c κs = search needs
-
-cast-result-3 : tie.Need-cast-result-3
-cast-result-3 c = search needs
-
-add-t6 : tie.Need-add-t6
-add-t6 c = search needs
-
-near-end-requires-2 : tie.Need-near-end-requires-2
-near-end-requires-2 c κs = search (eight-is, needs)
-
-cast-result-4 : tie.Need-cast-result-4
-cast-result-4 c = search needs
-
-add-result-2 : tie.Need-add-result-2
-add-result-2 c = search needs
 
 returns-2 : tie.Need-returns-2
 returns-2 c = search (eight-is, needs)
@@ -96,31 +39,12 @@ wide-window-spec =
     tie.close
     (tie.spec
     sub-if1
-    shared-slice-read-word
-    add-word
-    shared-slice-read-word-2
-    add-word-2
-    shared-slice-read-word-3
-    add-word-3
-    shared-slice-read-word-4
-    word-requires
-    add-word-4
-    shared-slice-read-word-5
-    add-word-5
-    shared-slice-read-word-6
-    add-word-6
-    shared-slice-read-word-7
-    add-word-7
-    shared-slice-read-word-8
-    word-requires-2
-    cast-result
-    cast-result-2
-    add-result
+    wide-word-requires
     returns
     near-end-requires
-    cast-result-3
-    add-t6
+    cast-result
+    add-t4
     near-end-requires-2
-    cast-result-4
-    add-result-2
+    cast-result-2
+    add-result
     returns-2)

@@ -11,7 +11,7 @@ add-result-2 : tie.Need-add-result-2
 add-result-2 c = search (holding, needs)
 
 returns : tie.Need-returns
-returns c = search (holding, needs)
+returns c = search needs
 
 pub lanes-fine-spec : {M : Type 1} → statement M
 lanes-fine-spec = tie.close (tie.spec add-result add-result-2 returns)

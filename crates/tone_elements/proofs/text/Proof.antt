@@ -4,55 +4,39 @@ use Rattle.tone_elements.proofs.text.Statement.{statement}
 use Rattle.tone_elements.proofs.text.Tie as tie
 use Rattle.tone_elements.proofs.Titles.{texts}
 
-span-requires : tie.Need-span-requires
-span-requires c κs = search needs
-
-cast-all : tie.Need-cast-all
-cast-all c = search needs
-
-left-requires : tie.Need-left-requires
-left-requires c κs = search needs
-
-lettered-requires : tie.Need-lettered-requires
-lettered-requires c κs = search needs
-
-returns : tie.Need-returns
-returns c = search needs
-
 all-allowed-requires : tie.Need-all-allowed-requires
 all-allowed-requires c κs = search needs
 
-add-t10 : tie.Need-add-t10
-add-t10 c = search needs
+span-requires : tie.Need-span-requires
+span-requires c κs = search needs
+
+add-t7 : tie.Need-add-t7
+add-t7 c = search needs
 
 character-octets-requires : tie.Need-character-octets-requires
 character-octets-requires c κs = search needs
 
-mul-t14 : tie.Need-mul-t14
-mul-t14 c = search (texts, needs)
+mul-t11 : tie.Need-mul-t11
+mul-t11 c = search (texts, needs)
+
+returns : tie.Need-returns
+returns c = search (texts, needs)
+
+lettered-requires : tie.Need-lettered-requires
+lettered-requires c κs = search needs
 
 returns-2 : tie.Need-returns-2
-returns-2 c = search (texts, needs)
-
-lettered-requires-2 : tie.Need-lettered-requires-2
-lettered-requires-2 c κs = search needs
-
-returns-3 : tie.Need-returns-3
-returns-3 c = search needs
+returns-2 c = search needs
 
 pub text-spec : {M : Type 1} → statement M
 text-spec =
     tie.close
     (tie.spec
-    span-requires
-    cast-all
-    left-requires
-    lettered-requires
-    returns
     all-allowed-requires
-    add-t10
+    span-requires
+    add-t7
     character-octets-requires
-    mul-t14
-    returns-2
-    lettered-requires-2
-    returns-3)
+    mul-t11
+    returns
+    lettered-requires
+    returns-2)
