@@ -373,6 +373,9 @@ pub ruleset rows = (two-rows, four-rows, unsure)
 
 -- ---- all of them
 
+pub all-none : (m : List ℕ) (at : ℕ) (unicode : Bool) (n : ℕ) → n ≡ 0 → Within m at → Sure true (AllowedAt m at unicode n)
+all-none m at unicode n e i = rw e (record { so = λ _. record { there = omega (arith, i .inside); each = λ j l. absurd (omega arith) } })
+
 module _ (m : List ℕ) (at : ℕ) (unicode : Bool) (n : ℕ) {s r : ℕ} (hs : (s ≡ n * characterBits unicode) × (s ≤ 240)) (hr : r + at ≡ 8 * length m) (h : s ≤ r) where
   pub all-few : s < 64 → n * characterBits unicode ≤ 56
   all-few k = go unicode (hs .0)
@@ -387,7 +390,7 @@ module _ (m : List ℕ) (at : ℕ) (unicode : Bool) (n : ℕ) {s r : ℕ} (hs : 
   pub all-many : 64 ≤ s → 64 ≤ n * characterBits unicode
   all-many k = rw (← hs .0) k
 
-pub ruleset alls = (all-few, all-there, all-many, unsure)
+pub ruleset alls = (all-none, all-few, all-there, all-many, unsure)
 
 -- so they are read
 pub text-told : (m : List ℕ) (at : ℕ) (unicode : Bool) (n : ℕ) {s o : ℕ} {t : Bool} → (s ≡ n * characterBits unicode) × (s ≤ 240) → (o ≡ perCharacter unicode) × (o ≤ 2) × (1 ≤ o) → Within m at

@@ -591,6 +591,9 @@ pub fn all_allowed(msg: &[u8], at: BitPlace, unicode: bool, n: u32) -> bool
     requires { ⌜ n ≤ 15 ⌝ }
     ensures { λ r. ⌜ Sure r (AllowedAt (now (msg .entry)) (at .0) unicode n) ⌝ }
 {
+    if n == 0 {
+        return true;
+    }
     let all = span(unicode, n);
     if left(msg, at) < all {
         return false;
