@@ -8,7 +8,6 @@ use mathlib.Core.List.{List, []}
 use lib.ListN.{length}
 use lib.Dec.{leb, ltb, eqb, lit≤}
 use borrow.Author.Tests.{ltb-true, ltb-false}
-use Rattle.bits.specs.Choice.{pick}
 use Rattle.bits.specs.Bits.{bitsOf, field, fillerTo, placeAfter}
 use Rattle.bits.specs.Outcome.{Outcome, accepted, refused}
 use Rattle.bits.proofs.Choice.{pick-elim}

@@ -1,12 +1,11 @@
 -- The characters of a title: which are allowed, and how they stand in its octets.
-use Prim.Native.Nat.{ℕ, zero, suc, _+_, _*_, _/_, _≤_, _<_}
+use Prim.Native.Nat.{ℕ, suc, _+_, _*_, _≤_}
 use native.Mathlib.Omega.{arith}
-use mathlib.Core.Path.{_≡_, refl, sym, ap, _∙_}
+use mathlib.Core.Path.{_≡_, refl, ap, _∙_}
 use mathlib.Core.Bool.{Bool, true, false, _&&_}
 use mathlib.Core.List.{List, [], _∷_, _++_}
 use lib.ListN.{length, getD}
 use borrow.Author.Tests.{le-leb, lt-leb}
-use Rattle.bits.proofs.Choice.{and-true}
 use Rattle.tone.specs.Tone.{perCharacter, characters, codes, allowedCharacter, allAllowed, allowedTitle}
 
 -- ---- which numbers are allowed: each number is in one of these four rows

@@ -1,16 +1,14 @@
 -- What each return of the functions that read the front and the end shows.
 use Prim.Native.Nat.{ℕ, zero, suc, _+_, _-_, _*_, _/_, _%_, _^_, _≤_, _<_}
 use native.Mathlib.Omega.{arith}
-use native.Mathlib.Nat.{zero-add, add-zero, zero-mul, suc-mul, mul-le-mul, lt-of-le-of-lt, mod-le, mod-add-div', div-lt-iff-lt-mul, lt-div-mul-add}
+use native.Mathlib.Nat.{add-zero}
 use mathlib.Core.Path.{_≡_, refl, sym, ap, _∙_}
 use mathlib.Core.Bool.{Bool, true, false, _||_}
-use mathlib.Core.List.{List, [], _∷_}
+use mathlib.Core.List.{List, []}
 use lib.ListN.{length, drop}
-use lib.Dec.{T, eqb, leb, ltb, ltb→lt, lit≤}
+use lib.Dec.{eqb, leb, lit≤}
 use borrow.Author.Tests.{eq-eqb, ne-eqb, le-leb}
-use mir.Val.{Fits, bits}
-use mir.Syntax.{Width}
-use Rattle.bits.specs.Choice.{pick}
+use mir.Val.{bits}
 use Rattle.bits.specs.Bits.{bitsOf, field, fillerTo, placeAfter, octetsTo}
 use Rattle.bits.specs.declared.BitPlace.{BitPlace}
 use Rattle.bits.specs.declared.OctetCount.{OctetCount}
@@ -20,10 +18,9 @@ use Rattle.bits.proofs.Octets.{length-bitsOf}
 use Rattle.bits.proofs.Numbers.{field-drop}
 use Rattle.bits.proofs.Looking.{seen, length-left, sight-zero}
 use Rattle.bits.specs.Places.{place, octetCount}
-use Rattle.tone.specs.Tone.{perCharacter}
 use Rattle.tone.specs.Writing.{programming, unicodePart, sound}
-use Rattle.tone.specs.Reading.{Got, got, bad, onward, Reader, element, anyOf, part, fillerBit, filled, whetherUnicode, soundPart, parts, command, character, text, title, counted, titled, typed, front, ending}
-use Rattle.tone.proofs.Exact.{element-inside, element-small, element-good, element-cut, judged-cut, judged-good, judged-bad}
+use Rattle.tone.specs.Reading.{Got, got, bad, onward, Reader, element, anyOf, part, fillerBit, filled, whetherUnicode, soundPart, parts, command, text, title, counted, titled, typed, front, ending}
+use Rattle.tone.proofs.Exact.{element-inside, element-small, element-good, judged-cut, judged-good, judged-bad}
 use Rattle.tone.proofs.Fronts.{command-exact, text-exact}
 use Rattle.tone_elements.specs.declared.Step.{Step}
 use Rattle.tone_elements.specs.declared.Step.the-variants.{Good, Bad}
@@ -33,8 +30,8 @@ use Rattle.tone_elements.specs.declared.Characters.{Characters}
 use Rattle.tone_elements.specs.declared.Characters.the-variants.{Present, Faulty}
 use Rattle.tone_elements.specs.declared.Opening.{Opening}
 use Rattle.tone_elements.specs.declared.Opening.the-variants.{Opened, Closed}
-use Rattle.tone_elements.specs.Answers.{Within, stepAs, stepOf, commandOf, charactersOf, openingOf}
-use Rattle.tone_elements.proofs.Steps.{step-there, step-bad, step-cong, step-map, characters-as, characters-good, characters-bad}
+use Rattle.tone_elements.specs.Answers.{Within, stepOf, commandOf, charactersOf, openingOf}
+use Rattle.tone_elements.proofs.Steps.{step-there, step-bad, characters-good, characters-bad}
 use Rattle.tone_elements.proofs.Walks.{stays}
 
 -- ---- places stay within the message

@@ -25,18 +25,17 @@ use Rattle.bits.proofs.Looking.{length-left}
 use Rattle.bits.proofs.Numbers.{field-drop}
 use Rattle.bits.proofs.Octets.{length-bitsOf}
 use Rattle.tone.specs.Tone.{perCharacter, characterBits, allowedCharacter}
-use Rattle.tone.specs.Reading.{Got, got, bad, element, anyOf, character, text}
+use Rattle.tone.specs.Reading.{Got, got, element, anyOf, character, text}
 use Rattle.tone.proofs.Exact.{element-good, element-inside}
 use Rattle.tone.proofs.Fronts.{or-true}
 use Rattle.tone.proofs.Titles.{refused-low, allowed-low, refused-high, allowed-high}
 use Rattle.tone_elements.specs.declared.Step.{Step}
 use Rattle.tone_elements.specs.declared.Step.the-variants.{Good, Bad}
-use Rattle.tone_elements.specs.declared.Characters.{Characters}
 use Rattle.tone_elements.specs.declared.Characters.the-variants.{Present, Faulty}
 use Rattle.tone_elements.specs.Answers.{Within, stepAs, stepOf, charactersOf, Sure, BothAllowed, AllowedAt}
 use Rattle.tone_elements.proofs.Steps.{step-there, step-bad, step-cong, step-map, characters-as}
 use Rattle.tone_elements.proofs.Walks.{one-less}
-use Rattle.tone_elements.proofs.Openings.{cut-there, good-there, bad-there, any-within}
+use Rattle.tone_elements.proofs.Openings.{cut-there, good-there, bad-there}
 
 -- ---- one character
 
