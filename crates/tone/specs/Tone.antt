@@ -124,7 +124,7 @@ codes true (high ∷ low ∷ title) = (high * 256 + low) ∷ codes true title
 unfoldable pub allowedCharacter : ℕ → Bool
 allowedCharacter c = not (leb c 31 || (leb 127 c && leb c 159))
 
--- each of them is allowed
+-- each number of a list is allowed
 abbrev pub allAllowed : List ℕ → Bool
 allAllowed [] = true
 allAllowed (c ∷ cs) = allowedCharacter c && allAllowed cs
