@@ -1,15 +1,15 @@
 -- What each return of the functions that judge a title's characters shows.
 use Prim.Native.Nat.{ℕ, zero, suc, _+_, _-_, _*_, _/_, _%_, _^_, _≤_, _<_}
 use native.Mathlib.Omega.{arith}
-use native.Mathlib.Nat.{suc-mul, mul-le-mul, lt-of-le-of-lt, lt-of-lt-of-le, div-eq-of-lt, zero-mod}
+use native.Mathlib.Nat.{suc-mul, add-mul, mul-le-mul, lt-of-le-of-lt, lt-of-lt-of-le, div-eq-of-lt, zero-mod}
 use mathlib.Core.Path.{_≡_, refl, sym, ap, ap₂, _∙_}
 use mathlib.Core.Logic.{⊎-elim}
 use mathlib.Core.Bool.{Bool, true, false, _&&_, _||_, false≢true}
 use mathlib.Core.List.{List, _∷_}
 use lib.ListN.{length, drop}
-use lib.Bits.{bitAnd, bitOr, bitXor, or-zero-r, and-le-r}
+use lib.Bits.{bitAnd, bitOr, bitXor, or-zero-r, and-le-r, or-lt}
 use lib.Dec.{T, eqb, leb, ltb, ltb→lt, lit<}
-use lib.Pow.{shr-shr, pow-mono}
+use lib.Pow.{shr-shr, shr-le, pow-mono}
 use borrow.Author.Tests.{eqb-true, leb-true, leb-false, ltb-true, ltb-false, lt-ltb, le-ltb}
 use mir.Val.{Fits, bits}
 use mir.Syntax.{Width, w64}
@@ -159,18 +159,22 @@ pub ruleset lettering = (text-begins, text-done, text-bad, text-on, product-fits
 
 -- ---- so many characters, told at once
 
--- a character with a bit of `some`, as those from 160 on have, and other than 127
-module _ (some : ℕ) (p : passes (λ c. allowedCharacter c || (eqb (bitAnd c some) 0 || eqb (bitXor c 127) 0)) 160 ≡ true) where
+-- a character is allowed, or has no bit of `some`, or is 127
+abbrev parted : ℕ → ℕ → Bool
+parted some c = allowedCharacter c || (eqb (bitAnd c some) 0 || eqb (bitXor c 127) 0)
+
+-- so one that has such a bit and is not 127 is allowed
+module _ (some : ℕ) (p : passes (parted some) 160 ≡ true) where
   told : (c : ℕ) → (bitAnd c some ≡ 0 → ⊥) → (bitXor c 127 ≡ 0 → ⊥) → allowedCharacter c ≡ true
   told c h k = go (leb c 159) refl
     where
-      neither : allowedCharacter c || (eqb (bitAnd c some) 0 || eqb (bitXor c 127) 0) ≡ true → allowedCharacter c ≡ true
+      neither : parted some c ≡ true → allowedCharacter c ≡ true
       neither e =
           ⊎-elim (λ a. a) (λ b. ⊎-elim (λ x. absurd (h (eqb-true (bitAnd c some) 0 x))) (λ x. absurd (k (eqb-true (bitXor c 127) 0 x))) (or-true (eqb (bitAnd c some) 0) (eqb (bitXor c 127) 0) b))
           (or-true (allowedCharacter c) (eqb (bitAnd c some) 0 || eqb (bitXor c 127) 0) e)
 
       go : (t : Bool) → leb c 159 ≡ t → allowedCharacter c ≡ true
-      go true e = let l = leb-true c 159 e in neither (at-each (λ c. allowedCharacter c || (eqb (bitAnd c some) 0 || eqb (bitXor c 127) 0)) 160 p c (omega arith))
+      go true e = let l = leb-true c 159 e in neither (at-each (parted some) 160 p c (omega arith))
       go false e = allowed-high c (leb-false c 159 e)
 
 -- the numbers that tell lanes at once do so in the lane that stands k bits up
@@ -181,7 +185,7 @@ tells w low high some other here k = suits w low high k && (eqb (lane w k some) 
 abbrev fine : ℕ → ℕ → ℕ → ℕ → ℕ
 fine low some other x = bitAnd (fills low (bitAnd x some)) (fills low (bitXor x other))
 
-module _ (w low high some other here : ℕ) (p : passes (λ c. allowedCharacter c || (eqb (bitAnd c here) 0 || eqb (bitXor c 127) 0)) 160 ≡ true) where
+module _ (w low high some other here : ℕ) (p : passes (parted here) 160 ≡ true) where
   lane-allowed : (x k z : ℕ) → tells w low high some other here k ≡ true → lane w k z ≤ lane w k (fine low some other x) → bitAnd z high ≡ high → allowedCharacter (lane w k x) ≡ true
   lane-allowed x k z t l e =
       let a = both (suits w low high k) _ t in
@@ -230,34 +234,66 @@ module _ {x y u v : ℕ} {unicode : Bool} where
 
 pub ruleset holding = (lanes-fit, holds-pairs, holds-octets)
 
+-- ---- those that a number holds
+
+-- how many characters 64 bits are
+abbrev perRow : Bool → ℕ
+perRow unicode = pick unicode 4 8
+
+row-bits : (unicode : Bool) → perRow unicode * characterBits unicode ≡ 64
+row-bits true = refl
+row-bits false = refl
+
+-- where character i of them stands
+lane-place : (unicode : Bool) (i : ℕ) → i < perRow unicode → i * characterBits unicode + characterBits unicode + characterBits unicode * (perRow unicode - 1 - i) ≡ 64
+lane-place true i h = omega arith
+lane-place false i h = omega arith
+
+-- characters in c times 64 bits
+rows-most : (unicode : Bool) (n c : ℕ) → n * characterBits unicode ≤ 64 * c → n ≤ c * perRow unicode
+rows-most true n c h = omega arith
+rows-most false n c h = omega arith
+
+rows-least : (unicode : Bool) (n c : ℕ) → 64 * c ≤ n * characterBits unicode → c * perRow unicode ≤ n
+rows-least true n c h = omega arith
+rows-least false n c h = omega arith
+
+-- n characters at a place are allowed where those of a number are that holds the bits there
+held : (m : List ℕ) (at : ℕ) (unicode : Bool) (n : ℕ) {k x : ℕ} → let w = characterBits unicode in Sight k (drop at (bitsOf m)) x → n * w ≤ k → n * w ≤ 64 → at + n * w ≤ 8 * length m
+    → ((j : ℕ) → w * j + w ≤ 64 → allowedCharacter (lane w (w * j) x) ≡ true) → AllowedAt m at unicode n
+held m at unicode n {k} {x} sees f r l h = record { there = l; each = one }
+  where
+    one : (i : ℕ) → i < n → allowedCharacter (field (bitsOf m) (at + i * characterBits unicode) (characterBits unicode)) ≡ true
+    one i c =
+        let w = characterBits unicode in
+        let q = perRow unicode - 1 - i in
+        let e = lane-place unicode i (omega (arith, rows-most unicode n 1 (omega arith))) in
+        let b : i * w + w ≤ n * w = rw (suc-mul i w) at (mul-le-mul {n₁ = suc i} {m₁ = w} {n₂ = n} {m₂ = w} c (omega arith)) in
+        let d : 64 - (i * w + w) ≡ w * q = omega (arith, e) in
+        let g = sym (field-drop (bitsOf m) at (i * w) w) ∙ sees .at (i * w) w (omega (arith, b)) (rw (length-left m at) (omega (arith, b))) ∙ ap (λ (y : ℕ). lane w y x) d in
+        rw g (h q (omega (arith, e)))
+
 -- a sight of which all bits below the first s are ones
 abbrev onesBelow : ℕ → ℕ → ℕ
 onesBelow s x = bitOr x (18446744073709551615 / 2 ^ s)
 
--- its first s bits are those of the message
-sight-lane : (m : List ℕ) (at o w k s : ℕ) {x : ℕ} → Sight 57 (drop at (bitsOf m)) x → o + w ≤ 57 → at + o + w ≤ 8 * length m → o + w + k ≡ 64 → o + w ≤ s
-    → field (bitsOf m) (at + o) w ≡ lane w k (onesBelow s x)
-sight-lane m at o w k s {x} sees h l e n =
-    let z : lane w k (18446744073709551615 / 2 ^ s) ≡ 0 = ap (λ (y : ℕ). y % 2 ^ w) (shr-shr 18446744073709551615 s k ∙ div-eq-of-lt (lt-of-lt-of-le (lit< tt) (pow-mono {i = 64} {j = s + k} (omega arith)))) ∙ zero-mod (2 ^ w) in
-    let d : 64 - (o + w) ≡ k = omega arith in
-    sym (field-drop (bitsOf m) at o w) ∙ sees .at o w h (rw (length-left m at) (omega arith)) ∙ ap (λ (y : ℕ). lane w y x) d
-    ∙ sym (or-lane w k x (18446744073709551615 / 2 ^ s) ∙ ap (bitOr (lane w k x)) z ∙ or-zero-r (lane w k x))
+-- holds the first s bits
+ones-sight : {b : List Bool} {x : ℕ} (s : ℕ) → s ≤ 57 → Sight 57 b x → Sight s b (onesBelow s x)
+ones-sight {b} {x} s h sees = record { at = go; small = or-lt 64 x (18446744073709551615 / 2 ^ s) (sees .small) (lt-of-le-of-lt (shr-le 18446744073709551615 s) (lit< tt)) }
+  where
+    go : (o w : ℕ) → o + w ≤ s → o + w ≤ length b → field b o w ≡ lane w (64 - (o + w)) (onesBelow s x)
+    go o w l n =
+        let k = 64 - (o + w) in
+        let below = 18446744073709551615 / 2 ^ s in
+        let z : lane w k below ≡ 0 = ap (λ (y : ℕ). y % 2 ^ w) (shr-shr 18446744073709551615 s k ∙ div-eq-of-lt (lt-of-lt-of-le (lit< tt) (pow-mono {i = 64} {j = s + k} (omega arith)))) ∙ zero-mod (2 ^ w) in
+        sees .at o w (omega arith) n ∙ sym (or-lane w k x below ∙ ap (bitOr (lane w k x)) z ∙ or-zero-r (lane w k x))
 
 -- `few_allowed` says so of the characters in a sight
 pub few-hold : (m : List ℕ) (at : ℕ) (unicode : Bool) (n : ℕ) {s x : ℕ} {r : Bool} → (s ≡ n * characterBits unicode) × (s ≤ 240)
     → (n ≤ 15) × (n * characterBits unicode ≤ 56) × (at + n * characterBits unicode ≤ 8 * length m) → Sight 57 (drop at (bitsOf m)) x
     → Sure r (BothAllowed (characterBits unicode) (onesBelow s x) (onesBelow s x)) → Sure r (AllowedAt m at unicode n)
-few-hold m at true n {s = s} hs l sees h = record {
-  so = λ t. record {
-    there = l .2;
-    each = λ i k. rw (sight-lane m at (i * 16) 16 (16 * (3 - i)) s sees (omega (arith, l .1)) (omega (arith, l .2)) (omega (arith, l .1)) (omega (arith, hs .0))) (h .so t .first (3 - i) (omega (arith, l .1)));
-  };
-}
-few-hold m at false n {s = s} hs l sees h = record {
-  so = λ t. record {
-    there = l .2;
-    each = λ i k. rw (sight-lane m at (i * 8) 8 (8 * (7 - i)) s sees (omega (arith, l .1)) (omega (arith, l .2)) (omega (arith, l .1)) (omega (arith, hs .0))) (h .so t .first (7 - i) (omega (arith, l .1)));
-  };
+few-hold m at unicode n {s = s} hs l sees h = record {
+  so = λ t. held m at unicode n (ones-sight s (omega (arith, hs .0, l .1)) sees) (omega (arith, hs .0)) (omega (arith, l .1)) (l .2) (h .so t .first);
 }
 
 -- the bits of so many
@@ -269,100 +305,70 @@ span-octets n u = rw u (omega arith)
 
 pub ruleset spans = (few-hold, span-pairs, span-octets)
 
--- ---- those that 64 bits hold
+-- ---- those that rows of 64 bits hold
 
--- how many characters they are
-abbrev perRow : Bool → ℕ
-perRow unicode = pick unicode 4 8
+-- a row's characters
+row-holds : (m : List ℕ) (at : ℕ) (unicode : Bool) {x : ℕ} → let w = characterBits unicode in at + 64 ≤ 8 * length m → Sight 64 (drop at (bitsOf m)) x
+    → ((j : ℕ) → w * j + w ≤ 64 → allowedCharacter (lane w (w * j) x) ≡ true) → AllowedAt m at unicode (perRow unicode)
+row-holds m at unicode l sees h = let e = row-bits unicode in held m at unicode (perRow unicode) sees (omega (arith, e)) (omega (arith, e)) (omega (arith, e)) h
 
-row-holds : (m : List ℕ) (at : ℕ) (unicode : Bool) {x : ℕ} → at + 64 ≤ 8 * length m → Sight 64 (drop at (bitsOf m)) x → ((k : ℕ) → characterBits unicode * k + characterBits unicode ≤ 64 → allowedCharacter (lane (characterBits unicode) (characterBits unicode * k) x) ≡ true) → AllowedAt m at unicode (perRow unicode)
-row-holds m at unicode {x} l sees h = go unicode h
-  where
-    one : (o w k : ℕ) → o + w + k ≡ 64 → field (bitsOf m) (at + o) w ≡ lane w k x
-    one o w k e =
-        let d : 64 - (o + w) ≡ k = omega arith in
-        sym (field-drop (bitsOf m) at o w) ∙ sees .at o w (omega arith) (rw (length-left m at) (omega arith)) ∙ ap (λ (y : ℕ). lane w y x) d
+-- where a row stands of which j characters are ahead
+row-place : (unicode : Bool) (n c j : ℕ) → j ≡ n - c * perRow unicode → n * characterBits unicode - 64 * c ≡ j * characterBits unicode
+row-place true n c j e = omega arith
+row-place false n c j e = omega arith
 
-    go : (u : Bool) → ((k : ℕ) → characterBits u * k + characterBits u ≤ 64 → allowedCharacter (lane (characterBits u) (characterBits u * k) x) ≡ true) → AllowedAt m at u (perRow u)
-    go true h = record { there = l; each = λ i k. rw (one (i * 16) 16 (16 * (3 - i)) (omega arith)) (h (3 - i) (omega arith)) }
-    go false h = record { there = l; each = λ i k. rw (one (i * 8) 8 (8 * (7 - i)) (omega arith)) (h (7 - i) (omega arith)) }
+-- character i, which such a row holds
+in-row : (m : List ℕ) (at : ℕ) (unicode : Bool) (j k i : ℕ) {p : ℕ} → let w = characterBits unicode in p ≡ at + j * w → AllowedAt m p unicode k → j ≤ i → i < j + k → allowedCharacter (field (bitsOf m) (at + i * w) w) ≡ true
+in-row m at unicode j k i e a h l =
+    let w = characterBits unicode in
+    let s : j + (i - j) ≡ i = omega arith in
+    let d : at + j * w + (i - j) * w ≡ at + i * w = omega (arith, add-mul j (i - j) w, ap (λ (x : ℕ). x * w) s) in
+    rw d at (rw e at (a .each (i - j) (omega arith)))
 
--- two rows hold up to 128 bits of characters
+-- the first row and the last hold up to 128 bits of characters
 module _ (m : List ℕ) (at : ℕ) (unicode : Bool) (n : ℕ) {all x y : ℕ} {r : Bool} (e : (all ≡ n * characterBits unicode) × (all ≤ 240)) (h : (n ≤ 15) × (64 ≤ n * characterBits unicode) × (at + n * characterBits unicode ≤ 8 * length m))
     (first : Sight 64 (drop at (bitsOf m)) x) (last : Sight 64 (drop (at + (all - 64)) (bitsOf m)) y) (s : Sure r (BothAllowed (characterBits unicode) x y)) (t : r ≡ true) where
-  front : AllowedAt m at unicode (perRow unicode)
-  front = row-holds m at unicode (omega (arith, h .1, h .2)) first (s .so t .first)
+  abbrev p : ℕ
+  p = perRow unicode
 
-  back : AllowedAt m (at + (all - 64)) unicode (perRow unicode)
-  back = row-holds m (at + (all - 64)) unicode (omega (arith, e .0, h .1, h .2)) last (s .so t .second)
+  abbrev w : ℕ
+  w = characterBits unicode
+
+  -- of the characters in the first row and in the last
+  front : (i : ℕ) → i < p → allowedCharacter (field (bitsOf m) (at + i * w) w) ≡ true
+  front i l = row-holds m at unicode (omega (arith, h .1, h .2)) first (s .so t .first) .each i l
+
+  back : (i : ℕ) → n - p ≤ i → i < n → allowedCharacter (field (bitsOf m) (at + i * w) w) ≡ true
+  back i k l =
+      let b = row-holds m (at + (all - 64)) unicode (omega (arith, e .0, h .1, h .2)) last (s .so t .second) in
+      in-row m at unicode (n - p) p i (omega (arith, e .0, row-place unicode n 1 (n - p) (omega arith))) b k (omega (arith, rows-least unicode n 1 (omega (arith, h .1))))
 
   pub two-rows : all ≤ 128 → Sure true (AllowedAt m at unicode n)
-  two-rows k = record { so = λ _. record { there = h .2; each = λ i l. go unicode (e .0) front back i l (ltb i (perRow unicode)) refl } }
+  two-rows k = record { so = λ _. record { there = h .2; each = λ i l. go i l (ltb i p) refl } }
     where
-      least : 64 ≤ all
-      least = rw (e .0) (h .1)
+      go : (i : ℕ) → i < n → (b : Bool) → ltb i p ≡ b → allowedCharacter (field (bitsOf m) (at + i * w) w) ≡ true
+      go i l true b = front i (ltb-true i p b)
+      go i l false b = back i (omega (arith, ltb-false i p b, rows-most unicode n 2 (omega (arith, e .0)))) l
 
-      go : (u : Bool) → all ≡ n * characterBits u → AllowedAt m at u (perRow u) → AllowedAt m (at + (all - 64)) u (perRow u) → (i : ℕ) → i < n → (b : Bool) → ltb i (perRow u) ≡ b
-          → allowedCharacter (field (bitsOf m) (at + i * characterBits u) (characterBits u)) ≡ true
-      go u e f g i l true b = f .each i (ltb-true i (perRow u) b)
-      go true e f g i l false b =
-          let q = ltb-false i 4 b in
-          let d : at + (all - 64) + (i - (n - 4)) * 16 ≡ at + i * 16 = omega (arith, least) in
-          rw d at (g .each (i - (n - 4)) (omega (arith, least)))
-      go false e f g i l false b =
-          let q = ltb-false i 8 b in
-          let d : at + (all - 64) + (i - (n - 8)) * 8 ≡ at + i * 8 = omega (arith, least) in
-          rw d at (g .each (i - (n - 8)) (omega (arith, least)))
-
-  -- four rows hold up to 256
+  -- with the second and the last but one all of them
   pub four-rows : {x′ y′ : ℕ} {r′ : Bool} → 128 < all → Sight 64 (drop (at + 64) (bitsOf m)) x′ → Sight 64 (drop (at + (all - 128)) (bitsOf m)) y′
       → Sure r′ (BothAllowed (characterBits unicode) x′ y′) → Sure r′ (AllowedAt m at unicode n)
-  four-rows k second third s′ = record {
-    so = λ t′. record {
-      there = h .2;
-      each = λ i l. go unicode (e .0) front back
-          (row-holds m (at + 64) unicode (omega (arith, e .0, h .2)) second (s′ .so t′ .first))
-          (row-holds m (at + (all - 128)) unicode (omega (arith, e .0, h .2)) third (s′ .so t′ .second)) i l (ltb i (perRow unicode)) (ltb i (2 * perRow unicode)) (ltb i (n - perRow unicode)) refl refl refl;
-    };
-  }
+  four-rows {r′ = r′} k second third s′ = record { so = λ t′. record { there = h .2; each = λ i l. go t′ i l (ltb i p) (ltb i (2 * p)) (ltb i (n - p)) refl refl refl } }
     where
-      least : 64 ≤ all
-      least = rw (e .0) (h .1)
+      least : 2 * p ≤ n
+      least = rows-least unicode n 2 (omega (arith, e .0))
 
-      most : all ≤ 240
-      most = e .1
+      most : n ≤ 4 * p
+      most = rows-most unicode n 4 (omega (arith, e .0, e .1))
 
-      go : (u : Bool) → all ≡ n * characterBits u → AllowedAt m at u (perRow u) → AllowedAt m (at + (all - 64)) u (perRow u) → AllowedAt m (at + 64) u (perRow u) → AllowedAt m (at + (all - 128)) u (perRow u)
-          → (i : ℕ) → i < n → (a b c : Bool) → ltb i (perRow u) ≡ a → ltb i (2 * perRow u) ≡ b → ltb i (n - perRow u) ≡ c → allowedCharacter (field (bitsOf m) (at + i * characterBits u) (characterBits u)) ≡ true
-      go u e f g p q i l true b c ea eb ec = f .each i (ltb-true i (perRow u) ea)
-      go true e f g p q i l false true c ea eb ec =
-          let a = ltb-false i 4 ea in
-          let b = ltb-true i 8 eb in
-          let d : at + 64 + (i - 4) * 16 ≡ at + i * 16 = omega arith in
-          rw d at (p .each (i - 4) (omega arith))
-      go false e f g p q i l false true c ea eb ec =
-          let a = ltb-false i 8 ea in
-          let b = ltb-true i 16 eb in
-          let d : at + 64 + (i - 8) * 8 ≡ at + i * 8 = omega arith in
-          rw d at (p .each (i - 8) (omega arith))
-      go true e f g p q i l false false true ea eb ec =
-          let b = ltb-false i 8 eb in
-          let c = ltb-true i (n - 4) ec in
-          let d : at + (all - 128) + (i - (n - 8)) * 16 ≡ at + i * 16 = omega (arith, least, most) in
-          rw d at (q .each (i - (n - 8)) (omega (arith, least, most)))
-      go false e f g p q i l false false true ea eb ec =
-          let b = ltb-false i 16 eb in
-          let c = ltb-true i (n - 8) ec in
-          let d : at + (all - 128) + (i - (n - 16)) * 8 ≡ at + i * 8 = omega (arith, least, most) in
-          rw d at (q .each (i - (n - 16)) (omega (arith, least, most)))
-      go true e f g p q i l false false false ea eb ec =
-          let c = ltb-false i (n - 4) ec in
-          let d : at + (all - 64) + (i - (n - 4)) * 16 ≡ at + i * 16 = omega (arith, least) in
-          rw d at (g .each (i - (n - 4)) (omega (arith, least)))
-      go false e f g p q i l false false false ea eb ec =
-          let c = ltb-false i (n - 8) ec in
-          let d : at + (all - 64) + (i - (n - 8)) * 8 ≡ at + i * 8 = omega (arith, least) in
-          rw d at (g .each (i - (n - 8)) (omega (arith, least)))
+      go : r′ ≡ true → (i : ℕ) → i < n → (a b c : Bool) → ltb i p ≡ a → ltb i (2 * p) ≡ b → ltb i (n - p) ≡ c → allowedCharacter (field (bitsOf m) (at + i * w) w) ≡ true
+      go t′ i l true b c ea eb ec = front i (ltb-true i p ea)
+      go t′ i l false true c ea eb ec =
+          in-row m at unicode p p i (omega (arith, row-bits unicode)) (row-holds m (at + 64) unicode (omega (arith, e .0, h .2)) second (s′ .so t′ .first)) (ltb-false i p ea) (omega (arith, ltb-true i (2 * p) eb))
+      go t′ i l false false true ea eb ec =
+          in-row m at unicode (n - 2 * p) p i (omega (arith, e .0, row-place unicode n 2 (n - 2 * p) (omega arith))) (row-holds m (at + (all - 128)) unicode (omega (arith, e .0, h .2)) third (s′ .so t′ .second))
+          (omega (arith, ltb-false i (2 * p) eb, most)) (omega (arith, ltb-true i (n - p) ec, least))
+      go t′ i l false false false ea eb ec = back i (ltb-false i (n - p) ec) l
 
 -- where the test does not pass, nothing is said
 pub unsure : {P : Type 0} → Sure false P
