@@ -7,7 +7,7 @@ use mathlib.Core.List.{List, [], _∷_, map}
 use lib.ListN.{length, getD, set, length-set}
 use lib.Seq.{getD-set-same}
 use lib.Dec.{eqb}
-use borrow.Author.Tests.{eqb-false}
+use borrow.Author.Tests.{eq-eqb, eqb-false}
 use Rattle.bits.specs.Choice.{pick}
 use Rattle.bits.proofs.Choice.{pick-elim}
 use Rattle.tone.specs.Tone.{Pattern, specifier, partOf, pattern, learn, Instructions, Sound}
@@ -103,6 +103,11 @@ none-body = (tt, none-brief)
 
 pub sound-body : (p : Pattern) → Sound p → Body (p .body)
 sound-body p s = (s .each, s .long)
+
+-- two passes of a loop 15 are listed
+pub endless-passes : (loop : ℕ) → loop ≡ 15 → passesOf loop ≡ 2
+unfolding passesOf
+endless-passes loop h = rw (eq-eqb loop 15 h)
 
 -- fifteen passes at most
 pub passes-most : (loop : ℕ) → loop < 16 → passesOf loop ≤ 15

@@ -7,9 +7,9 @@ use lib.Dec.{eqb}
 use Rattle.bits.specs.Choice.{pick}
 use Rattle.tone.specs.Tone.{Pattern}
 
--- how many passes a loop value lists: loop n sounds n + 1 times, loop 15 is listed once
+-- how many passes a loop value lists: loop n sounds n + 1 times, loop 15 for ever, and two passes of it are listed
 unfoldable pub passesOf : ℕ → ℕ
-passesOf loop = pick (eqb loop 15) 1 (loop + 1)
+passesOf loop = pick (eqb loop 15) 2 (loop + 1)
 
 -- the return mark where there is none
 abbrev pub noMark : ℕ

@@ -16,9 +16,9 @@ entryCount bodies (p ∷ ps) =
     let more = entryCount (remember bodies p) ps in
     notes (bodyOf bodies p) * passesOf (p .loop) + pick (eqb (p .loop) 15) 0 more
 
--- the mark of a loop-15 pass of k notes that starts at n
+-- the mark of a loop 15 of k notes with n entries ahead: where its second pass starts, or none where a pass has no note
 abbrev pub markOf : ℕ → ℕ → ℕ
-markOf n k = pick (eqb k 0) noMark n
+markOf n k = pick (eqb k 0) noMark (n + k)
 
 -- the mark of the first loop 15, with n entries ahead of the patterns
 abbrev pub markFrom : List Remembered → ℕ → List Pattern → ℕ

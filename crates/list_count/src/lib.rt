@@ -26,14 +26,15 @@ pub fn passes_of(value: u32) -> u32
     requires { ⌜ value ≤ 15 ⌝ }
     ensures { λ r. ⌜ (r ≡ passesOf value) × (1 ≤ r) × (r ≤ 15) ⌝ }
 {
-    if value == 15 { 1 } else { value + 1 }
+    if value == 15 { 2 } else { value + 1 }
 }
 
-// The mark of a loop-15 pass of so many notes that starts at `n`.
+// The mark of a loop 15 of so many notes with `n` entries ahead: its second pass follows the first.
 fn mark_of(n: u32, notes: u32) -> u32
+    requires { ⌜ (n ≤ 971550) × (notes ≤ 255) ⌝ }
     ensures { λ r. ⌜ r ≡ markOf n notes ⌝ }
 {
-    if notes == 0 { NO_MARK } else { n }
+    if notes == 0 { NO_MARK } else { n + notes }
 }
 
 impl Count {

@@ -8,20 +8,21 @@ use mathlib.Core.Bool.{Bool, true, false}
 use mathlib.Core.List.{List, [], _∷_, _++_}
 use lib.ListN.{length, length-append}
 use lib.Dec.{eqb}
+use borrow.Author.Tests.{eqb-true}
 use Rattle.bits.specs.Choice.{pick}
 use Rattle.bits.proofs.Choice.{pick-elim}
 use Rattle.tone.specs.Table.{kind, payload}
 use Rattle.tone.specs.Tone.{Pattern}
-use Rattle.list_rules.specs.declared.Settings.{Settings}
 use Rattle.list_rules.specs.declared.Entry.{Entry}
 use Rattle.list_rules.specs.Sounding.{applied, sounded}
-use Rattle.list_rules.specs.Playing.{step, pass, passes, Listing, patternPlayed, play, markAt}
+use Rattle.list_rules.specs.Playing.{State, step, pass, passes, Listing, patternPlayed, play, markAt}
 use Rattle.list_count.specs.Bodies.{passesOf, Remembered, bodyOf, remember, noMark}
 use Rattle.tone_elements.specs.Answers.{notes}
 use Rattle.list_count.specs.Counting.{entryCount}
+use Rattle.list_count.proofs.Bodies.{endless-passes}
 
 -- a pass adds an entry for each note
-pub pass-count : (s : Settings) (b : List ℕ) → length (pass s b .entries) ≡ notes b
+pub pass-count : (s : State) (b : List ℕ) → length (pass s b .entries) ≡ notes b
 unfolding step
 pass-count s [] = refl
 pass-count s (e ∷ b) =
@@ -33,22 +34,22 @@ pass-count s (e ∷ b) =
     go false = refl
 
 -- so many passes, so many times the notes
-pub passes-count : (n : ℕ) (s : Settings) (b : List ℕ) → length (passes n s b .entries) ≡ notes b * n
+pub passes-count : (n : ℕ) (s : State) (b : List ℕ) → length (passes n s b .entries) ≡ notes b * n
 passes-count zero s b = sym (mul-zero (notes b))
 passes-count (suc n) s b =
     length-append (pass s b .entries) (passes n (pass s b .after) b .entries)
     ∙ (rw (pass-count s b, passes-count n (pass s b .after) b, mul-suc (notes b) n) (omega arith))
 
-pub pattern-count : (s : Settings) (bodies : List Remembered) (p : Pattern) → length (patternPlayed s bodies p .entries) ≡ notes (bodyOf bodies p) * passesOf (p .loop)
+pub pattern-count : (s : State) (bodies : List Remembered) (p : Pattern) → length (patternPlayed s bodies p .entries) ≡ notes (bodyOf bodies p) * passesOf (p .loop)
 unfolding patternPlayed
 pattern-count s bodies p = passes-count (passesOf (p .loop)) _ (bodyOf bodies p)
 
 -- the count is the notes times the passes, summed up to the first loop 15
-pub list-count : (s : Settings) (bodies : List Remembered) (n : ℕ) (ps : List Pattern) → length (play s bodies n ps .entries) ≡ entryCount bodies ps
+pub list-count : (s : State) (bodies : List Remembered) (n : ℕ) (ps : List Pattern) → length (play s bodies n ps .entries) ≡ entryCount bodies ps
 list-count s bodies n [] = refl
 list-count s bodies n (p ∷ ps) =
     let d = patternPlayed s bodies p in
-    go (eqb (p .loop) 15) (d .entries) (markAt n (d .entries)) (play (d .after) (remember bodies p) (n + length (d .entries)) ps) (pattern-count s bodies p) (list-count (d .after) (remember bodies p) (n + length (d .entries)) ps)
+    go (eqb (p .loop) 15) (d .entries) (markAt n (pass s (bodyOf bodies p) .entries)) (play (d .after) (remember bodies p) (n + length (d .entries)) ps) (pattern-count s bodies p) (list-count (d .after) (remember bodies p) (n + length (d .entries)) ps)
   where
     go : (t : Bool) (a : List Entry) (m : ℕ) (g : Listing) {k c : ℕ} → length a ≡ c → length (g .entries) ≡ k
         → length (pick {A = Listing} t (record { entries = a; mark = m }) (record { entries = a ++ g .entries; mark = g .mark }) .entries) ≡ c + pick t 0 k
@@ -59,19 +60,23 @@ list-count s bodies n (p ∷ ps) =
 abbrev pub Placed : ℕ → Listing → Type 0
 Placed n g = ((n ≤ g .mark) × (g .mark < n + length (g .entries))) ⊎ (g .mark ≡ noMark)
 
-pub mark-placed : (s : Settings) (bodies : List Remembered) (n : ℕ) (ps : List Pattern) → Placed n (play s bodies n ps)
+pub mark-placed : (s : State) (bodies : List Remembered) (n : ℕ) (ps : List Pattern) → Placed n (play s bodies n ps)
 mark-placed s bodies n [] = inr refl
 mark-placed s bodies n (p ∷ ps) =
     let d = patternPlayed s bodies p in
     let k = n + length (d .entries) in
     let more = play (d .after) (remember bodies p) k ps in
     pick-elim (Placed n) (eqb (p .loop) 15)
-    (λ _. first (d .entries))
+    (λ h. first (d .entries) (pass s (bodyOf bodies p) .entries) (twice (eqb-true (p .loop) 15 h)))
     (λ _. later (d .entries) more (mark-placed (d .after) (remember bodies p) k ps))
   where
-    first : (rs : List Entry) → Placed n (record { entries = rs; mark = markAt n rs })
-    first [] = inr refl
-    first (r ∷ rs) = inl (omega arith, omega arith)
+    -- two passes have as many entries each
+    twice : p .loop ≡ 15 → length (patternPlayed s bodies p .entries) ≡ length (pass s (bodyOf bodies p) .entries) * 2
+    twice h = pattern-count s bodies p ∙ (rw (pass-count s (bodyOf bodies p), endless-passes (p .loop) h))
+
+    first : (all rs : List Entry) → length all ≡ length rs * 2 → Placed n (record { entries = all; mark = markAt n rs })
+    first all [] h = inr refl
+    first all (r ∷ rs) h = inl (omega arith, omega arith)
 
     later : (rs : List Entry) (g : Listing) → Placed (n + length rs) g → Placed n (record { entries = rs ++ g .entries; mark = g .mark })
     later rs g (inl h) = inl (omega arith, rw (length-append rs (g .entries)) (omega arith))

@@ -8,4 +8,5 @@ pub mod Bounds
 pub mod Order
 pub mod Packing
 pub mod Settling
+pub mod Endless
 pub mod Samples

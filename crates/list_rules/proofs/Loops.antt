@@ -10,8 +10,7 @@ use lib.Seq.{set-set}
 use borrow.Author.Tests.{ne-eqb}
 use Rattle.bits.specs.Choice.{pick}
 use Rattle.tone.specs.Tone.{Pattern}
-use Rattle.list_rules.specs.declared.Settings.{Settings}
-use Rattle.list_rules.specs.Playing.{Played, Listing, pass, passes, patternPlayed, play}
+use Rattle.list_rules.specs.Playing.{State, Played, Listing, pass, passes, patternPlayed, play}
 use Rattle.list_count.specs.Bodies.{Remembered, unknown, known, recalled, isRecall, passesOf, bodyOf, remember}
 use Rattle.list_rules.proofs.Joining.{listed-ahead, two-ahead, bodiesAfter, same-behind, one-pass}
 
@@ -42,13 +41,13 @@ abbrev onward : List Remembered → ℕ → List Pattern → Played → Listing
 onward bodies n qs d = listed-ahead (d .entries) (play (d .after) bodies (n + length (d .entries)) qs)
 
 -- a pattern at loop 0 is one pass
-play-once : (s : Settings) (bodies : List Remembered) (n : ℕ) (p : Pattern) (qs : List Pattern)
+play-once : (s : State) (bodies : List Remembered) (n : ℕ) (p : Pattern) (qs : List Pattern)
     → play s bodies n (once p ∷ qs) ≡ onward (remember bodies p) n qs (pass s (bodyOf bodies p))
 unfolding patternPlayed passesOf bodyOf remember
 play-once s bodies n p qs = ap (onward (remember bodies p) n qs) (one-pass s (bodyOf bodies p))
 
 -- k + 1 patterns at loop 0 list what k + 1 passes do
-copies : (k : ℕ) (s : Settings) (bodies : List Remembered) (n : ℕ) (p : Pattern) (qs : List Pattern)
+copies : (k : ℕ) (s : State) (bodies : List Remembered) (n : ℕ) (p : Pattern) (qs : List Pattern)
     → play s bodies n (replicate (suc k) (once p) ++ qs) ≡ onward (remember bodies p) n qs (passes (suc k) s (bodyOf bodies p))
 copies zero s bodies n p qs = play-once s bodies n p qs ∙ ap (onward (remember bodies p) n qs) (sym (one-pass s (bodyOf bodies p)))
 copies (suc k) s bodies n p qs =
@@ -59,7 +58,7 @@ copies (suc k) s bodies n p qs =
     ∙ (rw (remember-twice bodies p, body-again bodies p) (two-ahead (d .entries) (more .entries) n (λ m. play (more .after) (remember bodies p) m qs)))
 
 -- a pattern with loop n below 15, wherever it stands, is listed as n + 1 copies of it at loop 0
-pub loop-copies : (s : Settings) (bodies : List Remembered) (n : ℕ) (ps : List Pattern) (p : Pattern) (qs : List Pattern) → p .loop < 15
+pub loop-copies : (s : State) (bodies : List Remembered) (n : ℕ) (ps : List Pattern) (p : Pattern) (qs : List Pattern) → p .loop < 15
     → play s bodies n (ps ++ p ∷ qs) ≡ play s bodies n (ps ++ (replicate (p .loop + 1) (once p) ++ qs))
 unfolding patternPlayed passesOf
 loop-copies s bodies n ps p qs h =

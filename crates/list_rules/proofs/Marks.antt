@@ -1,27 +1,21 @@
 -- The return mark of a list, without the list.
-use Prim.Native.Nat.{ℕ, suc, _+_, _*_}
+use Prim.Native.Nat.{ℕ, suc, _+_}
 use native.Mathlib.Omega.{arith}
-use native.Mathlib.Nat.{mul-one}
 use mathlib.Core.Path.{_≡_, refl, ap, _∙_}
 use mathlib.Core.Bool.{Bool, true, false}
 use mathlib.Core.List.{List, [], _∷_, _++_}
 use lib.ListN.{length}
 use lib.Dec.{eqb}
-use borrow.Author.Tests.{eqb-true, eq-eqb, ne-eqb}
+use borrow.Author.Tests.{ne-eqb}
 use Rattle.bits.specs.Choice.{pick}
 use Rattle.bits.proofs.Choice.{pick-cong}
 use Rattle.tone.specs.Tone.{Pattern}
 use Rattle.tone_elements.specs.Answers.{notes}
-use Rattle.list_count.specs.Bodies.{Remembered, passesOf, bodyOf, remember}
+use Rattle.list_count.specs.Bodies.{Remembered, bodyOf, remember}
 use Rattle.list_count.specs.Counting.{markOf, markFrom}
-use Rattle.list_rules.specs.declared.Settings.{Settings}
 use Rattle.list_rules.specs.declared.Entry.{Entry}
-use Rattle.list_rules.specs.Playing.{markAt, Listing, patternPlayed, play}
-use Rattle.list_rules.proofs.Counts.{pattern-count}
-
-once-only : (loop : ℕ) → loop ≡ 15 → passesOf loop ≡ 1
-unfolding passesOf
-once-only loop h = rw (eq-eqb loop 15 h)
+use Rattle.list_rules.specs.Playing.{State, pass, markAt, Listing, patternPlayed, play}
+use Rattle.list_rules.proofs.Counts.{pass-count, pattern-count}
 
 mark-length : (n : ℕ) (rs : List Entry) → markAt n rs ≡ markOf n (length rs)
 mark-length n [] = refl
@@ -32,17 +26,14 @@ picked-mark true g h = refl
 picked-mark false g h = refl
 
 -- the mark of a list is where counting alone puts it
-pub list-mark : (s : Settings) (bodies : List Remembered) (n : ℕ) (ps : List Pattern) → play s bodies n ps .mark ≡ markFrom bodies n ps
+pub list-mark : (s : State) (bodies : List Remembered) (n : ℕ) (ps : List Pattern) → play s bodies n ps .mark ≡ markFrom bodies n ps
 list-mark s bodies n [] = refl
 list-mark s bodies n (p ∷ ps) =
     let d = patternPlayed s bodies p in
     let k = notes (bodyOf bodies p) in
     let m = n + length (d .entries) in
     let more = play (d .after) (remember bodies p) m ps in
-    picked-mark (eqb (p .loop) 15) (record { entries = d .entries; mark = markAt n (d .entries) }) (record { entries = d .entries ++ more .entries; mark = more .mark })
+    picked-mark (eqb (p .loop) 15) (record { entries = d .entries; mark = markAt n (pass s (bodyOf bodies p) .entries) }) (record { entries = d .entries ++ more .entries; mark = more .mark })
     ∙ pick-cong (eqb (p .loop) 15)
-    (λ h. mark-length n (d .entries) ∙ ap (markOf n) (pattern-count s bodies p ∙ one-time h))
+    (λ h. mark-length n (pass s (bodyOf bodies p) .entries) ∙ ap (markOf n) (pass-count s (bodyOf bodies p)))
     (λ h. list-mark (d .after) (remember bodies p) m ps ∙ ap (λ (x : ℕ). markFrom (remember bodies p) (n + x) ps) (pattern-count s bodies p))
-  where
-    one-time : eqb (p .loop) 15 ≡ true → notes (bodyOf bodies p) * passesOf (p .loop) ≡ notes (bodyOf bodies p)
-    one-time h = rw (once-only (p .loop) (eqb-true (p .loop) 15 h)) (mul-one (notes (bodyOf bodies p)))

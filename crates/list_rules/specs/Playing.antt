@@ -11,26 +11,30 @@ use Rattle.list_rules.specs.declared.Settings.{Settings}
 use Rattle.list_rules.specs.declared.Entry.{Entry}
 use Rattle.list_rules.specs.Sounding.{atStart, applied, sounded}
 
--- entries that were added, and the settings after them
+-- the walk's state: what one instruction hands on to the next
+abbrev pub State : Type 0
+State = Settings
+
+-- entries that were added, and the state after them
 pub record Played : Type 0 where
   pub entries : List Entry
-  pub after : Settings
+  pub after : State
 
 -- entries ahead of what was played
 abbrev pub ahead : List Entry → Played → Played
 ahead rs p = record { entries = rs ++ p .entries; after = p .after }
 
--- a note or pause adds its entry; each instruction hands back the next settings
-unfoldable pub step : Settings → ℕ → Played
+-- a note or pause adds its entry; each instruction hands on the next state
+unfoldable pub step : State → ℕ → Played
 step s e = record { entries = pick (eqb (kind e) 1) (sounded s (payload e) ∷ []) []; after = applied s e }
 
 -- one pass of a body
-abbrev pub pass : Settings → List ℕ → Played
+abbrev pub pass : State → List ℕ → Played
 pass s [] = record { entries = []; after = s }
 pass s (e ∷ b) = ahead (step s e .entries) (pass (step s e .after) b)
 
--- so many passes, the settings carried on
-abbrev pub passes : ℕ → Settings → List ℕ → Played
+-- so many passes, the state carried on
+abbrev pub passes : ℕ → State → List ℕ → Played
 passes zero s b = record { entries = []; after = s }
 passes (suc n) s b = ahead (pass s b .entries) (passes n (pass s b .after) b)
 
@@ -41,23 +45,24 @@ pub record Listing : Type 0 where
   pub entries : List Entry
   pub mark : ℕ
 
--- the mark of a loop-15 pass that starts at n: none where the pass adds no entry
+-- the mark of a loop 15 with n entries ahead, of which a pass adds these: the second pass's first entry, or none where a
+-- pass adds no entry
 abbrev pub markAt : ℕ → List Entry → ℕ
 markAt n [] = noMark
-markAt n (r ∷ rs) = n
+markAt n (r ∷ rs) = n + length (r ∷ rs)
 
 -- what a pattern adds
-unfoldable pub patternPlayed : Settings → List Remembered → Pattern → Played
+unfoldable pub patternPlayed : State → List Remembered → Pattern → Played
 patternPlayed s bodies p = passes (passesOf (p .loop)) s (bodyOf bodies p)
 
 -- the patterns from one on, with n entries listed: listing stops with a loop 15
-abbrev pub play : Settings → List Remembered → ℕ → List Pattern → Listing
+abbrev pub play : State → List Remembered → ℕ → List Pattern → Listing
 play s bodies n [] = record { entries = []; mark = noMark }
 play s bodies n (p ∷ ps) =
     let d = patternPlayed s bodies p in
     let more = play (d .after) (remember bodies p) (n + length (d .entries)) ps in
     pick (eqb (p .loop) 15)
-    (record { entries = d .entries; mark = markAt n (d .entries) })
+    (record { entries = d .entries; mark = markAt n (pass s (bodyOf bodies p) .entries) })
     (record { entries = d .entries ++ more .entries; mark = more .mark })
 
 -- the playing list of a tone

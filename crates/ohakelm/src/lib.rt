@@ -72,12 +72,12 @@ pub struct EditAnswer {
 
 // ---- the version
 
-// The version of the library, 0.5.0.
+// The version of the library, 0.6.0.
 #[no_mangle]
 pub extern "C" fn ohakelm_version() -> u32
     ensures { λ r. ⌜ VersionExport r ⌝ }
 {
-    500
+    600
 }
 
 // ---- tones

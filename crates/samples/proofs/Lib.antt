@@ -4,6 +4,7 @@ pub mod Table
 pub mod Titles
 pub mod Label
 pub mod List
+pub mod Endless
 pub mod Edits
 pub mod Bounds
 pub mod Pinned

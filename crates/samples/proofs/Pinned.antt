@@ -8,6 +8,7 @@ use Rattle.samples.proofs.Table.{readings, writings}
 use Rattle.samples.proofs.Titles.{titles}
 use Rattle.samples.proofs.Label.{labels}
 use Rattle.samples.proofs.List.{lists}
+use Rattle.samples.proofs.Endless.{endless}
 use Rattle.samples.proofs.Edits.{edits}
 use Rattle.samples.proofs.Bounds.{bounds}
 use Rattle.samples.proofs.Text.{texts}
@@ -20,6 +21,7 @@ pinned = record {
   titles = titles;
   labels = labels;
   lists = lists;
+  endless = endless;
   durations = lengths.durations;
   edits = edits;
   bounds = bounds;

@@ -62,19 +62,19 @@ pub record Lists : Type 0 where
   pub once : heard (part 0 0 (c ∷ []) ∷ []) ≡ 1 ∷ []
   pub twice : heard (part 0 1 (c ∷ []) ∷ []) ≡ 1 ∷ 1 ∷ []
   pub fifteenTimes : heard (part 0 14 (c ∷ []) ∷ []) ≡ replicate 15 1
-  -- with loop 15 one pass is listed and listing stops
-  pub stops : heard (part 0 1 (c ∷ []) ∷ part 1 15 (c ∷ d ∷ []) ∷ part 2 0 (c ∷ []) ∷ []) ≡ 1 ∷ 1 ∷ 1 ∷ 3 ∷ []
-  -- the mark is the position of that pass's first entry
-  pub returns : markOf (part 0 1 (c ∷ []) ∷ part 1 15 (c ∷ d ∷ []) ∷ part 2 0 (c ∷ []) ∷ []) ≡ 2
-  pub returnsToStart : markOf (part 0 15 (c ∷ []) ∷ []) ≡ 0
-  -- there is none where that pass adds no entry, and with no loop 15
+  -- with loop 15 two passes are listed and listing stops
+  pub stops : heard (part 0 1 (c ∷ []) ∷ part 1 15 (c ∷ d ∷ []) ∷ part 2 0 (c ∷ []) ∷ []) ≡ 1 ∷ 1 ∷ 1 ∷ 3 ∷ 1 ∷ 3 ∷ []
+  -- the mark is the position of the second pass's first entry
+  pub returns : markOf (part 0 1 (c ∷ []) ∷ part 1 15 (c ∷ d ∷ []) ∷ part 2 0 (c ∷ []) ∷ []) ≡ 4
+  pub returnsAlone : markOf (part 0 15 (c ∷ []) ∷ []) ≡ 1
+  -- there is none where a pass adds no entry, and with no loop 15
   pub silent : markOf (part 0 0 (c ∷ []) ∷ part 1 15 (131072 ∷ []) ∷ []) ≡ 4294967295
   pub noReturn : markOf (part 0 14 (c ∷ []) ∷ []) ≡ 4294967295
   -- a silent loop 15 stops the listing too
   pub silentStops : heard (part 0 15 (131072 ∷ []) ∷ part 1 0 (c ∷ []) ∷ []) ≡ []
   -- a recall sounds its part's body with its own loop value
   pub recall : heard (part 0 0 (c ∷ []) ∷ part 1 0 (d ∷ []) ∷ part 0 2 [] ∷ []) ≡ 1 ∷ 3 ∷ 1 ∷ 1 ∷ 1 ∷ []
-  pub recallReturns : markOf (part 0 1 (c ∷ []) ∷ part 0 15 [] ∷ []) ≡ 2
+  pub recallReturns : markOf (part 0 1 (c ∷ []) ∷ part 0 15 [] ∷ []) ≡ 3
   -- a later definition replaces the earlier one, and no other part's
   pub redefined : heard (part 3 0 (c ∷ []) ∷ part 2 0 (65544 ∷ []) ∷ part 3 0 (d ∷ []) ∷ part 3 0 [] ∷ part 2 0 [] ∷ []) ≡ 1 ∷ 0 ∷ 3 ∷ 3 ∷ 0 ∷ []
   -- settings carry on through patterns and recalls: A is recalled with the volume that B set, and not the one that it was defined with
@@ -96,5 +96,5 @@ pub record Lists : Type 0 where
   pub cells : cellsAfter (listTone message (fitsNumbers 3)) (77 ∷ 77 ∷ 77 ∷ []) ≡ 10503 ∷ 480000 ∷ 77 ∷ []
   pub rows : rowsAfter (listTone message (fitsBoth 2 2)) (replicate 2 (record { note = 0; scale = 0; style = 0; volume = 0; microseconds = 0 }))
       ≡ record { note = 10; scale = 1; style = 0; volume = 7; microseconds = 480000 } ∷ record { note = 0; scale = 0; style = 0; volume = 0; microseconds = 0 } ∷ []
-  -- P1 with loop 15: the mark is 0
-  pub endless : listNumbers (listTone (set (set message 4 0x41) 5 0xE0) (fitsNumbers 2)) ≡ record { refusal = 0; place = 0; entries = 1; mark = 0 }
+  -- P1 with loop 15: two entries, and the mark is 1
+  pub endless : listNumbers (listTone (set (set message 4 0x41) 5 0xE0) (fitsNumbers 4)) ≡ record { refusal = 0; place = 0; entries = 2; mark = 1 }

@@ -7,6 +7,7 @@ use Rattle.samples.specs.Table.{Readings, Writings}
 use Rattle.samples.specs.Titles.{Titles}
 use Rattle.samples.specs.Label.{Labels}
 use Rattle.samples.specs.List.{Lists}
+use Rattle.samples.specs.Endless.{Endless}
 use Rattle.samples.specs.Edits.{Edits}
 use Rattle.samples.specs.Bounds.{Bounds}
 use Rattle.samples.specs.Text.{Texts}
@@ -19,6 +20,7 @@ pub record Pinned : Type 0 where
   pub titles : Titles
   pub labels : Labels
   pub lists : Lists
+  pub endless : Endless
   pub durations : Durations
   pub edits : Edits
   pub bounds : Bounds

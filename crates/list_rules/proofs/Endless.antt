@@ -1,0 +1,175 @@
+-- Loop 15: two passes are listed, the return mark stands on the second, and whoever goes on from it hears endless passes.
+use Prim.Native.Nat.{ℕ, zero, suc, _+_, _*_, _≤_}
+use native.Mathlib.Omega.{arith}
+use native.Mathlib.Nat.{zero-add}
+use mathlib.Core.Path.{_≡_, refl, sym, ap, ap₂, _∙_}
+use mathlib.Core.Bool.{Bool, true, false}
+use mathlib.Core.List.{List, [], _∷_, _++_, append-assoc, append-nil}
+use lib.ListN.{length, drop, length-append}
+use lib.Seq.{drop-at}
+use lib.Dec.{eqb}
+use borrow.Author.Tests.{ne-eqb}
+use Rattle.bits.specs.Choice.{pick}
+use Rattle.tone.specs.Tone.{Pattern, Tone, Formed}
+use Rattle.tone_elements.specs.Answers.{notes}
+use Rattle.list_count.specs.Bodies.{Remembered, noBodies, noMark, bodyOf, remember}
+use Rattle.list_count.proofs.Bodies.{endless-passes}
+use Rattle.list_rules.specs.declared.Entry.{Entry}
+use Rattle.list_rules.specs.Duration.{beats, units, microseconds}
+use Rattle.list_rules.specs.Sounding.{atStart, applied, sounded, numbers}
+use Rattle.list_rules.specs.Playing.{State, Listing, step, pass, passes, patternPlayed, play, playingList, markAt}
+use Rattle.list_rules.proofs.Joining.{stateAfter, bodiesAfter, NoneEndless, listed-ahead, play-last, joined, same-behind}
+use Rattle.list_rules.proofs.Counts.{pass-count}
+use Rattle.list_rules.proofs.Bounds.{list-most}
+use Rattle.list_rules.proofs.Settling.{pass-settles}
+
+-- ---- the list
+
+-- two passes are listed
+pub endless-twice : (s : State) (bodies : List Remembered) (p : Pattern) → p .loop ≡ 15 → patternPlayed s bodies p ≡ passes 2 s (bodyOf bodies p)
+unfolding patternPlayed
+endless-twice s bodies p h = ap (λ (n : ℕ). passes n s (bodyOf bodies p)) (endless-passes (p .loop) h)
+
+-- listing stops with it
+pub none-behind : (s : State) (bodies : List Remembered) (n : ℕ) (ps : List Pattern) (p : Pattern) (qs : List Pattern) → p .loop ≡ 15
+    → play s bodies n (ps ++ p ∷ qs) ≡ play s bodies n (ps ++ p ∷ [])
+none-behind s bodies n ps p qs h = same-behind s bodies n ps (p ∷ qs) (p ∷ []) (λ s n. play-last s (bodiesAfter bodies ps) n p qs h ∙ sym (play-last s (bodiesAfter bodies ps) n p [] h))
+
+-- ---- the passes
+
+-- a third pass would equal the second: from the state after two passes, a pass of the body gives the second pass's entries
+pub third-pass-is-second : (s : State) (b : List ℕ) → pass (passes 2 s b .after) b .entries ≡ pass (pass s b .after) b .entries
+third-pass-is-second s b = ap (λ (r : State). pass r b .entries) (pass-settles s b)
+
+-- the same entries so many times
+abbrev pub repeated : ℕ → List Entry → List Entry
+repeated zero rs = []
+repeated (suc k) rs = rs ++ repeated k rs
+
+-- so every pass behind the first equals the second
+pub later-passes : (k : ℕ) (s : State) (b : List ℕ) → passes k (pass s b .after) b .entries ≡ repeated k (pass (pass s b .after) b .entries)
+later-passes zero s b = refl
+later-passes (suc k) s b =
+    ap (λ (rs : List Entry). pass (pass s b .after) b .entries ++ rs)
+    (later-passes k (pass s b .after) b ∙ ap (repeated k) (third-pass-is-second s b))
+
+-- the chime that is loud in its first round alone: C as a quarter, and then volume 2
+abbrev pub chime : List ℕ
+chime = 65576 ∷ 327682 ∷ []
+
+-- its first three passes at the start: volume 7, and then 2 for good
+pub chime-passes : numbers (passes 3 atStart chime .entries) ≡ 1287 ∷ 952380 ∷ 1282 ∷ 952380 ∷ 1282 ∷ 952380 ∷ []
+unfolding step applied sounded beats units microseconds
+chime-passes = refl
+
+-- so a second pass need not equal the first, and one pass would not do
+pub second-pass-differs : pass atStart chime .entries ≡ pass (pass atStart chime .after) chime .entries → ⊥
+unfolding step applied sounded beats units microseconds
+second-pass-differs h = let e : _≡_ {A = ℕ} 7 2 = ap (λ (rs : List Entry). volume-of rs) h in omega arith
+  where
+    volume-of : List Entry → ℕ
+    volume-of [] = 0
+    volume-of (r ∷ rs) = r .volume
+
+-- ---- the mark
+
+-- passes of a body are silent alike
+silent-alike : (s r : State) (b : List ℕ) → pass s b .entries ≡ [] → pass r b .entries ≡ []
+silent-alike s r b h = none (pass r b .entries) (pass-count r b ∙ sym (pass-count s b) ∙ ap length h)
+  where
+    none : (rs : List Entry) → length rs ≡ 0 → rs ≡ []
+    none [] e = refl
+    none (x ∷ rs) e = absurd (omega arith)
+
+module _ (s : State) (bodies : List Remembered) (n : ℕ) (ps : List Pattern) (p : Pattern) (qs : List Pattern) (h : NoneEndless ps) (k : p .loop ≡ 15) where
+  -- the state at the first loop 15, and the body that sounds for ever
+  abbrev start : State
+  start = stateAfter s bodies ps
+
+  abbrev body : List ℕ
+  body = bodyOf (bodiesAfter bodies ps) p
+
+  abbrev pub firstPass : List Entry
+  firstPass = pass start body .entries
+
+  abbrev pub secondPass : List Entry
+  secondPass = pass (pass start body .after) body .entries
+
+  -- the entries ahead of it, and then its two passes, with the mark that these give
+  pub endless-list : play s bodies n (ps ++ p ∷ qs) ≡ record { entries = play s bodies n ps .entries ++ (firstPass ++ secondPass); mark = markAt (n + length (play s bodies n ps .entries)) firstPass }
+  endless-list =
+      let m = n + length (play s bodies n ps .entries) in
+      joined s bodies n ps (p ∷ qs) h
+      ∙ ap (listed-ahead (play s bodies n ps .entries)) (play-last start (bodiesAfter bodies ps) m p qs k)
+      ∙ ap (λ (rs : List Entry). record { entries = play s bodies n ps .entries ++ rs; mark = markAt m firstPass })
+        (ap (λ d. d .entries) (endless-twice start (bodiesAfter bodies ps) p k) ∙ ap (λ (rs : List Entry). firstPass ++ rs) (append-nil secondPass))
+
+  -- both passes count: twice the notes of the body
+  pub endless-count : length (play s bodies n (ps ++ p ∷ qs) .entries) ≡ length (play s bodies n ps .entries) + notes body * 2
+  endless-count =
+      ap (λ (g : Listing). length (g .entries)) endless-list
+      ∙ length-append (play s bodies n ps .entries) (firstPass ++ secondPass)
+      ∙ (rw (length-append firstPass secondPass, pass-count start body, pass-count (pass start body .after) body) (omega arith))
+
+  -- the mark is the position of the second pass's first entry: so many as there are entries ahead of it
+  pub mark-there : 1 ≤ length firstPass → play s bodies n (ps ++ p ∷ qs) .mark ≡ n + length (play s bodies n ps .entries ++ firstPass)
+  mark-there some = ap (λ (g : Listing). g .mark) endless-list ∙ there firstPass some
+    where
+      there : (rs : List Entry) → 1 ≤ length rs → markAt (n + length (play s bodies n ps .entries)) rs ≡ n + length (play s bodies n ps .entries ++ rs)
+      there [] h = let z : ⊥ = omega arith in absurd z
+      there (r ∷ rs) h = rw (length-append (play s bodies n ps .entries) (r ∷ rs)) (omega arith)
+
+  -- none where a pass adds no entry
+  pub mark-silent : firstPass ≡ [] → play s bodies n (ps ++ p ∷ qs) .mark ≡ noMark
+  mark-silent none = ap (λ (g : Listing). g .mark) endless-list ∙ ap (markAt (n + length (play s bodies n ps .entries))) none
+
+-- none where there is no loop 15
+pub mark-none : (s : State) (bodies : List Remembered) (n : ℕ) (ps : List Pattern) → NoneEndless ps → play s bodies n ps .mark ≡ noMark
+mark-none s bodies n [] h = refl
+mark-none s bodies n (p ∷ ps) h = rw (ne-eqb (p .loop) 15 (h .0)) (mark-none (patternPlayed s bodies p .after) (remember bodies p) (n + length (patternPlayed s bodies p .entries)) ps (h .1))
+
+-- ---- the player
+
+-- what a player comes back to: the entries from the return mark on; with no mark there are none
+abbrev pub fromMark : Listing → List Entry
+fromMark g = pick (eqb (g .mark) noMark) [] (drop (g .mark) (g .entries))
+
+-- what it hears: the list, and then k rounds from the mark
+abbrev pub heard : ℕ → Listing → List Entry
+heard k g = g .entries ++ repeated k (fromMark g)
+
+-- behind the entries ahead and the first pass stands the second
+from-second : (a f b : List Entry) → length (a ++ (f ++ b)) ≤ 975375 → (f ≡ [] → b ≡ []) → fromMark (record { entries = a ++ (f ++ b); mark = markAt (length a) f }) ≡ b
+from-second a [] b most silent = sym (silent refl)
+from-second a (r ∷ f) b most silent =
+    let m = length a + length (r ∷ f) in
+    let few : m ≤ 975375 = omega (arith, length-append a ((r ∷ f) ++ b), length-append (r ∷ f) b) in
+    rw (ne-eqb m noMark (λ e. omega arith))
+    (ap (drop m) (sym (append-assoc a (r ∷ f) b)) ∙ drop-at (a ++ (r ∷ f)) b m (length-append a (r ∷ f)))
+
+module _ (t : Tone) (formed : Formed t) (k : ℕ) where
+  -- through the list, and then k rounds from the mark: the entries ahead of the endless pattern, and then k + 2 passes of it
+  pub heard-for-ever : (ps : List Pattern) (p : Pattern) (qs : List Pattern) → t .patterns ≡ ps ++ p ∷ qs → NoneEndless ps → p .loop ≡ 15
+      → heard k (playingList t) ≡ play atStart noBodies 0 ps .entries ++ passes (k + 2) (stateAfter atStart noBodies ps) (bodyOf (bodiesAfter noBodies ps) p) .entries
+  unfolding playingList
+  heard-for-ever ps p qs split h e =
+      let a = play atStart noBodies 0 ps .entries in
+      let s = stateAfter atStart noBodies ps in
+      let b = bodyOf (bodiesAfter noBodies ps) p in
+      let f = pass s b .entries in
+      let g = pass (pass s b .after) b .entries in
+      let two : k + 2 ≡ suc (suc k) = omega arith in
+      let list : playingList t ≡ record { entries = a ++ (f ++ g); mark = markAt (length a) f } =
+      ap (play atStart noBodies 0) split ∙ endless-list atStart noBodies 0 ps p qs h e ∙ ap (λ (n : ℕ). record { entries = a ++ (f ++ g); mark = markAt n f }) (zero-add (length a)) in
+      let most : length (a ++ (f ++ g)) ≤ 975375 = rw (ap (λ (l : Listing). l .entries) list) at (list-most t formed) in
+      rw (list, from-second a f g most (silent-alike s (pass s b .after) b), two, later-passes (suc k) s b)
+      (append-assoc a (f ++ g) (repeated k g) ∙ ap (λ (rs : List Entry). a ++ rs) (append-assoc f g (repeated k g)))
+
+  -- with no loop 15 the list alone
+  pub heard-once : NoneEndless (t .patterns) → heard k (playingList t) ≡ playingList t .entries
+  unfolding playingList
+  heard-once h = rw (mark-none atStart noBodies 0 (t .patterns) h) (nothing k)
+    where
+      nothing : (k : ℕ) → playingList t .entries ++ repeated k [] ≡ playingList t .entries
+      nothing zero = append-nil (playingList t .entries)
+      nothing (suc k) = nothing k
