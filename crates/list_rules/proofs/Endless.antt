@@ -2,8 +2,7 @@
 use Prim.Native.Nat.{ℕ, zero, suc, _+_, _*_, _≤_}
 use native.Mathlib.Omega.{arith}
 use native.Mathlib.Nat.{zero-add}
-use mathlib.Core.Path.{_≡_, refl, sym, ap, ap₂, _∙_}
-use mathlib.Core.Bool.{Bool, true, false}
+use mathlib.Core.Path.{_≡_, refl, sym, ap, _∙_}
 use mathlib.Core.List.{List, [], _∷_, _++_, append-assoc, append-nil}
 use lib.ListN.{length, drop, length-append}
 use lib.Seq.{drop-at}
@@ -102,7 +101,7 @@ module _ (s : State) (bodies : List Remembered) (n : ℕ) (ps : List Pattern) (p
       joined s bodies n ps (p ∷ qs) h
       ∙ ap (listed-ahead (play s bodies n ps .entries)) (play-last start (bodiesAfter bodies ps) m p qs k)
       ∙ ap (λ (rs : List Entry). record { entries = play s bodies n ps .entries ++ rs; mark = markAt m firstPass })
-        (ap (λ d. d .entries) (endless-twice start (bodiesAfter bodies ps) p k) ∙ ap (λ (rs : List Entry). firstPass ++ rs) (append-nil secondPass))
+      (ap (λ d. d .entries) (endless-twice start (bodiesAfter bodies ps) p k) ∙ ap (λ (rs : List Entry). firstPass ++ rs) (append-nil secondPass))
 
   -- both passes count: twice the notes of the body
   pub endless-count : length (play s bodies n (ps ++ p ∷ qs) .entries) ≡ length (play s bodies n ps .entries) + notes body * 2
