@@ -11,11 +11,12 @@
  *
  * Checks. Both must answer alike and leave the same octets. A refusal must
  * leave all as it was. What was read must write again, what an edit lists must
- * be the list of its octets, and a deletion must undo an insertion. A title that
- * was read or written must have no refused character. An icon and a logo that
- * were written must read again. Buffers end at a page that cannot be touched,
- * and guard cells stand ahead of them, so a read or a write past the end ends
- * the run.
+ * be the list of its octets, and a deletion must undo an insertion. A list that
+ * returns to its mark once must be that of the endless part sounding three times.
+ * A title that was read or written must have no refused character. An icon and a
+ * logo that were written must read again. Buffers end at a page that cannot be
+ * touched, and guard cells stand ahead of them, so a read or a write past the end
+ * ends the run.
  *
  * Input. One octet names the call and whether a buffer of nothing is passed as
  * null to the library, some more are the call's numbers, and the rest is the
@@ -355,6 +356,43 @@ static void fuzz_label(struct input *in)
     check_lent(&second);
 }
 
+/* The position of the first endless header in a table, or the table's end. */
+static size_t endless_header(const uint32_t *table, size_t entries)
+{
+    size_t at = 0;
+    while (at < entries && OHAKELM_HEADER_LOOP(table[at]) != 15)
+        at += 1 + OHAKELM_HEADER_SPECIFIER(table[at]);
+    return at;
+}
+
+/* An endless part that sounds three times instead, with nothing behind it, makes
+ * the same list and then once more what is behind the mark. */
+static void check_third_pass(const uint8_t *msg, size_t count, struct ohakelm_listed made,
+                             const uint32_t *list)
+{
+    static uint32_t table[AMPLE_TABLE], again[AMPLE_LIST + 2 * 255];
+    static uint8_t title[30], out[OHAKELM_LARGEST_TONE];
+    struct ohakelm_tone tone = ohakelm_read(msg, count, table, AMPLE_TABLE, title, sizeof title);
+    size_t octets = tone.characters * (tone.unicode ? 2 : 1);
+    size_t at = endless_header(table, tone.entries);
+    bool returns = made.mark != OHAKELM_NO_MARK;
+    if (at == tone.entries) {
+        check(!returns, "a list without an endless part has no mark");
+        return;
+    }
+    table[at] -= (15 - 2) * 256;
+    size_t kept = at + 1 + OHAKELM_HEADER_SPECIFIER(table[at]);
+    struct ohakelm_written done =
+        ohakelm_write(tone.song, tone.unicode, title, octets, table, kept, out, sizeof out);
+    struct ohakelm_listed thrice = ohakelm_list(out, done.octets, again, sizeof again / 4);
+    size_t pass = returns ? made.entries - made.mark : 0;
+    check(thrice.refusal == 0 && thrice.entries == made.entries + pass,
+          "an endless part has two passes");
+    check(memcmp(again, list, 8 * made.entries) == 0, "they are its first two");
+    check(pass == 0 || memcmp(again + 2 * made.entries, list + 2 * made.mark, 8 * pass) == 0,
+          "a third pass is like the second");
+}
+
 static void fuzz_list(struct input *in)
 {
     size_t room = take_room(in, AMPLE_LIST);
@@ -367,6 +405,8 @@ static void fuzz_list(struct input *in)
     check_lent(&second);
     if (made.refusal != 0)
         check_untouched(&second);
+    else
+        check_third_pass(first.ours, count, made, words(second.ours));
 }
 
 static void fuzz_rows(struct input *in)
@@ -407,6 +447,7 @@ static void check_list_of(struct ohakelm_edited done)
     check(made.refusal == 0 && made.entries == done.entries && made.mark == done.mark,
           "an edit's answer is that of its octets");
     check(memcmp(list, second.ours, 8 * done.entries) == 0, "an edit's list is that of its octets");
+    check_third_pass(first.ours, done.length, made, list);
 }
 
 /* Deleting what was inserted brings the octets back. */

@@ -48,7 +48,16 @@
  * refused, and 0900 is not.
  *
  * A LIST has two numbers an entry: note * 1024 + scale * 256 + style * 16 +
- * volume, and the duration in microseconds.
+ * volume, and the duration in microseconds. To play it, go through the whole
+ * list, and then for ever from the entry that `mark` names to the end. Where
+ * `mark` is OHAKELM_NO_MARK, the tone ends with the list.
+ *
+ * AN ENDLESS PART is one with loop 15, or recalled with it. Two passes of it
+ * are listed and nothing behind them, and `mark` names the first entry of the
+ * second. Settings carry on from the first pass into the second. So a part that
+ * ends with a volume may be loud in the first pass and soft in the second. Each
+ * later pass is like the second. Where a pass has no note and no pause, there
+ * is no entry to return to, and no mark.
  *
  * A BITMAP is the info octet 00, the width, the height, the depth 01 and the
  * image. An ICON is the version, which is the character 0, and a bitmap. A LOGO
@@ -82,8 +91,8 @@ extern "C" {
  * refusal or a rule is new or another; CHANGELOG.md says what a caller must
  * change then. The third is raised where none is. A header goes with an archive
  * of the same first two numbers. */
-#define OHAKELM_VERSION_STRING "0.5.0"
-#define OHAKELM_VERSION 500 /* first * 10000 + second * 100 + third */
+#define OHAKELM_VERSION_STRING "0.6.0"
+#define OHAKELM_VERSION 600 /* first * 10000 + second * 100 + third */
 
 /* Answers the OHAKELM_VERSION of the archive that is linked. */
 uint32_t ohakelm_version(void);
@@ -163,8 +172,9 @@ static inline const char *ohakelm_words(uint32_t refusal)
 #define OHAKELM_LARGEST_LOGO 7932
 
 /* The largest list is that of a part of 255 notes with 254 recalls, all with
- * loop 14, and takes 7.8 million octets. Where that is too much to lend, lend
- * what a tone is to have: OHAKELM_NO_ROOM then says that one has more. */
+ * loop 14, and takes 7.8 million octets; an endless part adds two passes only.
+ * Where that is too much to lend, lend what a tone is to have: OHAKELM_NO_ROOM
+ * then says that one has more. */
 
 /* How many octets of stack a call needs at most, those of memmove and memset not
  * counted: the edits; reading, writing and listing a tone; all others. */
@@ -214,7 +224,8 @@ enum ohakelm_kind {
 #define OHAKELM_LISTED_STYLE(first) ((first) / 16u % 16u)
 #define OHAKELM_LISTED_VOLUME(first) ((first) % 16u)
 
-/* A list that returns nowhere has this mark. */
+/* A list that returns nowhere has this mark. Any other is the position of an
+ * entry, counted from 0, whose first number is list[2 * mark]. */
 #define OHAKELM_NO_MARK 4294967295u
 
 /* ---- Answers */
@@ -322,8 +333,9 @@ struct ohakelm_label_stretch ohakelm_label(const uint8_t *title,
 
 /* Makes the playing list of a tone message. Fills the front of `list`, two
  * numbers an entry. `list_len` counts numbers and not entries: twelve have room
- * for six entries. Answers how many entries there are and where an endless part
- * returns to. Refuses 1 to 11 and 21. */
+ * for six entries. An endless part needs room for both passes. Answers how many
+ * entries there are and to which of them the list returns. Refuses 1 to 11 and
+ * 21. */
 struct ohakelm_listed ohakelm_list(const uint8_t *msg, size_t msg_len,
                                    uint32_t *list, size_t list_len);
 

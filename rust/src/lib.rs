@@ -14,6 +14,9 @@
 //! # Ok::<(), ohakelm::Refusal>(())
 //! ```
 //!
+//! To play a list, go through all of it, and then for ever from the entry at its
+//! mark to the end. Without a mark the tone ends with the list.
+//!
 //! A [`Refusal`] has a number, which [`Refusal::kind`] names, and a place. The
 //! constants `LARGEST_..` say what to lend at most. The module [`entry`] puts
 //! table entries together and takes them apart.
@@ -57,7 +60,8 @@ pub struct Tone {
 pub struct Playing {
     /// Entries that were made.
     pub entries: usize,
-    /// The entry to which an endless part returns.
+    /// The position of the entry to which the list returns from its end: the first
+    /// one of an endless part's second pass. None where the tone ends with the list.
     pub mark: Option<u32>,
 }
 
@@ -68,7 +72,7 @@ pub struct Edited {
     pub length: usize,
     /// Entries of the new list.
     pub entries: usize,
-    /// The entry to which an endless part returns.
+    /// The position of the entry to which the new list returns, as in [`Playing`].
     pub mark: Option<u32>,
     /// The new length minus the old one.
     pub change: i32,
@@ -221,9 +225,16 @@ pub fn label_stretch(title: &[u8], unicode: bool, stand_in: &[u8]) -> Label {
 /// numbers an entry: note * 1024 + scale * 256 + style * 16 + volume, and the
 /// duration in microseconds.
 ///
+/// A part with loop 15, or recalled with it, is endless. Two passes of it are
+/// listed and nothing behind them. Settings carry on from the first pass into the
+/// second, and each later pass is like the second. So a player goes through the
+/// list, and then for ever from the mark, which is the second pass's first entry.
+/// A pass without an entry has no mark.
+///
 /// # Errors
 ///
 /// Refuses 1 to 10 and 21 as [`read`] does, then 11 where the list has no room.
+/// An endless part needs it for both passes.
 ///
 /// ```
 /// use ohakelm::{entry, Kind};
@@ -236,6 +247,13 @@ pub fn label_stretch(title: &[u8], unicode: bool, stand_in: &[u8]) -> Label {
 /// // One number has no room for an entry.
 /// let refused = ohakelm::list(&message, &mut list[..1]);
 /// assert_eq!(refused.map_err(|refusal| refusal.kind()), Err(Kind::NoRoom));
+///
+/// // A note and then volume 2, for ever: only the first round is loud.
+/// let message = [0x02, 0x4A, 0x3A, 0x80, 0x41, 0xE0, 0x44, 0x51, 0x48, 0x00];
+/// let mut list = [0; 4];
+/// let playing = ohakelm::list(&message, &mut list)?;
+/// assert_eq!((playing.entries, playing.mark), (2, Some(1)));
+/// assert_eq!((entry::listed_volume(list[0]), entry::listed_volume(list[2])), (7, 2));
 /// # Ok::<(), ohakelm::Refusal>(())
 /// ```
 pub fn list(message: &[u8], list: &mut [u32]) -> Result<Playing, Refusal> {

@@ -10,7 +10,8 @@ mod support;
 use std::panic::{catch_unwind, AssertUnwindSafe};
 use std::time::Instant;
 
-use ohakelm_answers::{Bitmap, Edited, Entry, Label, Listed, Logo, Tone, Written};
+use ohakelm::LARGEST_TABLE;
+use ohakelm_answers::{Bitmap, Edited, Entry, Label, Listed, Logo, Tone, Written, NO_MARK};
 use support::codecs::{Codec, Edit, LogoParts, Obvious, Spot, ALL};
 use support::compare::Comparison;
 use support::rng::{cases_set, seed_from_clock, seed_set};
@@ -111,9 +112,15 @@ enum Fault {
     JudgesCharactersAheadOfTitle,
     JudgesTableAheadOfTitle,
     JudgesEntryAheadOfMessage,
+    MarksFirstPass,
+    CountsOnePass,
+    SetsBackForSecondPass,
+    MarksSilentPasses,
+    JudgesRoomByOnePass,
+    ListsOnePass,
 }
 
-const FAULTS: [Fault; 28] = [
+const FAULTS: [Fault; 34] = [
     Fault::TouchesCellOnRefusal,
     Fault::ClearsOddLastCell,
     Fault::CountsOneEntryMore,
@@ -142,6 +149,12 @@ const FAULTS: [Fault; 28] = [
     Fault::JudgesCharactersAheadOfTitle,
     Fault::JudgesTableAheadOfTitle,
     Fault::JudgesEntryAheadOfMessage,
+    Fault::MarksFirstPass,
+    Fault::CountsOnePass,
+    Fault::SetsBackForSecondPass,
+    Fault::MarksSilentPasses,
+    Fault::JudgesRoomByOnePass,
+    Fault::ListsOnePass,
 ];
 
 /// The comparison itself must be able to fail, at each of these faults.
@@ -195,6 +208,47 @@ fn with_title_of_ones(message: &[u8]) -> Vec<u8> {
         }
     }
     ones
+}
+
+/// How many entries a pass of the endless part has. They are those behind the mark,
+/// and without a mark there are none.
+fn entries_of_pass(entries: usize, mark: u32) -> usize {
+    match mark {
+        NO_MARK => 0,
+        mark => entries - mark as usize,
+    }
+}
+
+/// Whether a sound message has a header with loop 15.
+fn has_endless_part(message: &[u8]) -> bool {
+    let mut table = vec![0; LARGEST_TABLE];
+    let entries = Obvious.read(message, &mut table, &mut [0; 30]).entries;
+    let mut headers = table[..entries].iter().filter(|&&entry| entry < 65536);
+    headers.any(|header| header / 256 % 16 == 15)
+}
+
+/// Rows that are made where there is room for one pass. Where that ends, they end
+/// too.
+fn rows_with_room_for_one_pass(
+    message: &[u8],
+    list: &mut [u32],
+    rows: &mut [Entry],
+) -> Option<Listed> {
+    let whole = (list.len() + 2 * 255, rows.len() + 255);
+    let (mut cells, mut records) = (vec![0; whole.0], vec![Entry::default(); whole.1]);
+    let answer = Obvious.rows(message, &mut cells, &mut records);
+    // As many entries are ahead of the mark as there are with one pass.
+    let ahead = answer.mark as usize;
+    if answer.refusal != 0 || list.len() < 2 * ahead || rows.len() < ahead {
+        return None;
+    }
+    let filled = (
+        list.len().min(2 * answer.entries),
+        rows.len().min(answer.entries),
+    );
+    list[..filled.0].copy_from_slice(&cells[..filled.0]);
+    rows[..filled.1].copy_from_slice(&records[..filled.1]);
+    Some(answer)
 }
 
 /// The obvious implementation with one fault.
@@ -276,10 +330,17 @@ impl Codec for Wrong {
     fn list(&self, message: &[u8], list: &mut [u32]) -> Listed {
         let mut answer = Obvious.list(message, list);
         if answer.refusal == 0 {
+            let pass = entries_of_pass(answer.entries, answer.mark);
             match self.0 {
                 Fault::MarksOneEntryLate if answer.mark != u32::MAX => answer.mark += 1,
                 Fault::ClearsOddLastCell if list.len() == 2 * answer.entries + 1 => {
                     list[2 * answer.entries] = 0
+                }
+                Fault::MarksFirstPass => answer.mark -= pass as u32,
+                Fault::CountsOnePass => answer.entries -= pass,
+                Fault::SetsBackForSecondPass => {
+                    let second = 2 * (answer.entries - pass);
+                    list.copy_within(second - 2 * pass..second, second);
                 }
                 _ => {}
             }
@@ -290,15 +351,24 @@ impl Codec for Wrong {
     fn rows(&self, message: &[u8], list: &mut [u32], rows: &mut [Entry]) -> Listed {
         let last = rows.len().wrapping_sub(1);
         let old = rows.last().copied();
-        let answer = Obvious.rows(message, list, rows);
-        if let (Fault::LeavesOneRow, Some(old)) = (self.0, old) {
-            rows[last] = old;
+        let mut answer = Obvious.rows(message, list, rows);
+        match (self.0, answer.refusal, old) {
+            (Fault::LeavesOneRow, _, Some(old)) => rows[last] = old,
+            (Fault::JudgesRoomByOnePass, 11, _) => {
+                return rows_with_room_for_one_pass(message, list, rows).unwrap_or(answer);
+            }
+            (Fault::MarksSilentPasses, 0, _)
+                if answer.mark == NO_MARK && has_endless_part(message) =>
+            {
+                answer.mark = answer.entries as u32;
+            }
+            _ => {}
         }
         answer
     }
 
     fn edit(&self, buffer: &mut [u8], spot: Spot, edit: Edit, list: &mut [u32]) -> Edited {
-        let old = buffer.to_vec();
+        let (old, old_list) = (buffer.to_vec(), list.to_vec());
         let mut answer = Obvious.edit(buffer, spot, edit, list);
         match (self.0, answer.refusal) {
             (Fault::LeavesOldOctets, 0) if answer.change < 0 => {
@@ -310,6 +380,13 @@ impl Codec for Wrong {
             }
             (Fault::JudgesEntryAheadOfMessage, 21) if !names_instruction(edit) => {
                 (answer.refusal, answer.place) = (6, 0);
+            }
+            (Fault::ListsOnePass, 0) => {
+                let pass = entries_of_pass(answer.entries, answer.mark);
+                answer.entries -= pass;
+                answer.mark -= pass as u32;
+                let left = 2 * answer.entries..2 * (answer.entries + pass);
+                list[left.clone()].copy_from_slice(&old_list[left]);
             }
             _ => {}
         }

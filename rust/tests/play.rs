@@ -120,6 +120,22 @@ fn a_title_with_a_tab_prints_its_refusal() {
     assert_eq!(printed, "entries 1 return none\n1 1 0 7 952380\n");
 }
 
+/// A part for ever: the note C, a quarter, and then volume 2. The first round has
+/// volume 7, and the second has what all later ones have.
+#[test]
+fn a_chime_prints_two_rounds_and_returns_to_the_second() {
+    let message = octets("02 4A 3A 80 41 E0 44 51 48 00");
+    let output = play(&message, usize::MAX, Duration::ZERO);
+    let printed = String::from_utf8_lossy(&output.stdout);
+    let rounds = "entries 2 return 1\n1 1 0 7 952380\n1 1 0 2 952380\n";
+    assert_eq!(printed, rounds);
+    // The same with scale 0 for the note: two rounds of nothing.
+    let message = octets("02 4A 3A 80 41 E0 48 A4 00");
+    let output = play(&message, usize::MAX, Duration::ZERO);
+    let printed = String::from_utf8_lossy(&output.stdout);
+    assert_eq!(printed, "entries 0 return none\n");
+}
+
 #[test]
 fn a_few_hundred_messages_play() {
     let seed = seed_set().unwrap_or(5505);
@@ -193,6 +209,29 @@ fn there_is_room_for_4096_entries() {
     assert_plays_at_once(&tone_of_entries(ROOM));
     assert_eq!(expected(&tone_of_entries(ROOM + 1)), "refused 11 at 0\n");
     assert_plays_at_once(&tone_of_entries(ROOM + 1));
+}
+
+/// A full part sounding 14 times, one of a few notes, and the first for ever:
+/// 3,570 entries, the few, and twice 255.
+fn endless_tone(few: usize) -> Vec<u8> {
+    let note = 65536 + 32;
+    let mut table = vec![13 * 256 + 255];
+    table.extend([note; 255]);
+    table.push(4096 + few as u32);
+    table.extend(vec![note; few]);
+    table.push(15 * 256);
+    tones::written(2, false, &[], &table)
+}
+
+/// With 17 notes one pass would still fit, and both are one entry too many.
+#[test]
+fn there_is_room_for_4096_entries_with_both_passes() {
+    let whole = endless_tone(16);
+    assert!(expected(&whole).starts_with("entries 4096 return 3841\n"));
+    assert_plays_at_once(&whole);
+    let output = play(&endless_tone(17), usize::MAX, Duration::ZERO);
+    let printed = String::from_utf8_lossy(&output.stdout);
+    assert_eq!(printed, "refused 11 at 0\n");
 }
 
 /// More than 4,096 octets are refused, and the program does not read on.

@@ -83,12 +83,51 @@ fn both_forms_of_the_list() {
     assert_eq!(ohakelm::rows(&P1, &mut list, &mut rows), Ok(one));
     assert_eq!(list, [10503, 480_000]);
     assert_eq!((rows[0].note, rows[0].microseconds), (10, 480_000));
-    // The same part for ever returns to its first entry.
+    // The same part for ever has two passes and returns to the second.
     let mut endless = P1;
     endless[4] |= 1;
     endless[5] |= 0xE0;
-    let playing = ohakelm::list(&endless, &mut list);
-    assert_eq!(playing.map(|playing| playing.mark), Ok(Some(0)));
+    let two = Playing {
+        entries: 2,
+        mark: Some(1),
+    };
+    assert_eq!(number(ohakelm::list(&endless, &mut list)), 11);
+    let mut list = [0; 4];
+    assert_eq!(ohakelm::list(&endless, &mut list), Ok(two));
+    assert_eq!(number(ohakelm::rows(&endless, &mut list, &mut rows)), 11);
+    let mut rows = [Entry::default(); 2];
+    assert_eq!(ohakelm::rows(&endless, &mut list, &mut rows), Ok(two));
+    assert_eq!(list, [10503, 480_000, 10503, 480_000]);
+    assert_eq!(rows[0], rows[1]);
+}
+
+/// A temporary song whose only part sounds for ever: the note C, a quarter, and
+/// then volume 2. The first round has volume 7, that of the start.
+#[test]
+fn a_chime_changes_after_its_first_round() {
+    let mut buffer = [0; 10];
+    buffer.copy_from_slice(&[0x02, 0x4A, 0x3A, 0x80, 0x41, 0xE0, 0x44, 0x51, 0x48, 0x00]);
+    let mut list = [0; 4];
+    let playing = ohakelm::list(&buffer, &mut list);
+    let two = Playing {
+        entries: 2,
+        mark: Some(1),
+    };
+    assert_eq!(playing, Ok(two));
+    assert_eq!(list, [1287, 952_380, 1282, 952_380]);
+    // Without the volume both rounds are alike.
+    let done = ohakelm::edit(&mut buffer, 10, 0, 1, Edit::Delete, &mut list);
+    let expected = Edited {
+        length: 9,
+        entries: 2,
+        mark: Some(1),
+        change: -1,
+    };
+    assert_eq!(done, Ok(expected));
+    assert_eq!(list, [1287, 952_380, 1287, 952_380]);
+    // With a scale for the note nothing is heard.
+    let done = ohakelm::edit(&mut buffer, 9, 0, 0, Edit::Replace(131_072), &mut list);
+    assert_eq!(done.map(|done| (done.entries, done.mark)), Ok((0, None)));
 }
 
 #[test]

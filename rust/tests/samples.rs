@@ -496,13 +496,13 @@ fn a_recall_takes_the_nearest_body() {
 #[test]
 fn an_endless_part_ends_the_list() {
     each(|codec| {
-        // A, then B for ever, then A again, which is never heard.
+        // A, then B for ever, in two passes, then A again, which is never heard.
         let b_endless = 4096 + 15 * 256;
         let message = temporary(&[1, NOTE_C, b_endless + 2, NOTE_D, NOTE_C, 0]);
-        assert_eq!(listed(codec, &message).0, accepted_list(3, 1));
+        assert_eq!(listed(codec, &message).0, accepted_list(5, 3));
         // A recall has its own loop value.
         let message = temporary(&[1, NOTE_C, 15 * 256, 1, NOTE_D]);
-        assert_eq!(listed(codec, &message).0, accepted_list(2, 1));
+        assert_eq!(listed(codec, &message).0, accepted_list(3, 2));
         // A pass without an entry has no place to return to.
         let message = temporary(&[1, NOTE_C, b_endless + 1, SCALE_0, 0]);
         assert_eq!(listed(codec, &message).0, accepted_list(1, NO_MARK));

@@ -35,6 +35,7 @@ fn main() {
         rows.push(list(&tone));
     }
     rows.extend(recalls());
+    rows.extend(endless_part());
     for (width, height) in [(72, 14), (248, 255)] {
         rows.extend(bitmaps(width, height));
         rows.extend(icons(width, height));
@@ -79,10 +80,13 @@ fn write(tone: &Tone) -> Row {
 }
 
 fn list(tone: &Tone) -> Row {
-    let message = &tone.message[..];
+    list_of(&tone.message, &name("list", tone))
+}
+
+fn list_of(message: &[u8], name: &str) -> Row {
     let cells = vec![0; 2 * entries(message)];
     compare(
-        &name("list", tone),
+        name,
         repeated(message.len()),
         &cells,
         |cells| proved::list(message, cells),
@@ -165,6 +169,14 @@ fn recalls() -> [Row; 3] {
     );
     let rows = rows_of(message, &format!("rows, {} entries", cells.len() / 2));
     [decoding, copying, rows]
+}
+
+/// One part for ever, of which two passes are listed.
+fn endless_part() -> [Row; 2] {
+    let message = &tones::of_endless_part()[..];
+    let name = format!("list, endless part, {} octets", message.len());
+    let rows = rows_of(message, "rows, endless part");
+    [list_of(message, &name), rows]
 }
 
 fn image(width: u32, height: u32) -> Vec<u8> {

@@ -81,6 +81,14 @@ pub fn of_recalls() -> Vec<u8> {
     written(false, b"", &table)
 }
 
+/// The tone of one full part that sounds for ever.
+pub fn of_endless_part() -> Vec<u8> {
+    let mut instructions = Instructions { state: 7 };
+    let mut table = vec![15 * 256 + 255];
+    table.extend((0..255).map(|_| instructions.next()));
+    written(false, b"Chime", &table)
+}
+
 /// Headers and bodies. After every third part comes a recall of the first one
 /// of the same id. The last part may still be empty.
 fn table(parts: &[Vec<u32>]) -> Vec<u32> {

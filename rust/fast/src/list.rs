@@ -12,6 +12,17 @@ use crate::window::window;
 /// The loop value of a part that sounds for ever.
 const ENDLESS: usize = 15;
 
+/// How many passes are listed. Of an endless part it is two: the second starts
+/// with what the first one set, and all later ones are like it.
+#[inline(always)]
+fn passes(repeats: usize) -> usize {
+    if repeats == ENDLESS {
+        2
+    } else {
+        repeats + 1
+    }
+}
+
 /// Makes the list, two numbers an entry.
 pub fn list(message: &[u8], list: &mut [u32]) -> Listed {
     answer(list_into(message, list, fill))
@@ -66,15 +77,14 @@ impl Count {
         if self.stopped {
             return;
         }
-        if repeats < ENDLESS {
-            self.entries += (repeats + 1) * notes;
-            return;
+        if repeats == ENDLESS {
+            self.stopped = true;
+            if notes > 0 {
+                // Behind the first pass.
+                self.mark = (self.entries + notes) as u32;
+            }
         }
-        if notes > 0 {
-            self.mark = self.entries as u32;
-        }
-        self.entries += notes;
-        self.stopped = true;
+        self.entries += passes(repeats) * notes;
     }
 }
 
@@ -222,9 +232,8 @@ pub fn fill(message: &[u8], front: &Front, list: &mut [u32]) {
     let mut place = front.first;
     for _ in 0..front.patterns {
         let (body, repeats) = next_body(message, &mut place, &mut parts);
-        let passes = if repeats == ENDLESS { 1 } else { repeats + 1 };
         let mut end = place;
-        for _ in 0..passes {
+        for _ in 0..passes(repeats) {
             (settings, end) = sound(message, body.place, body.count, settings, &mut cells);
         }
         if repeats == ENDLESS {
@@ -270,7 +279,7 @@ fn fill_by_copying(message: &[u8], front: &Front, list: &mut [u32]) {
     let mut last: Option<Sounded> = None;
     for _ in 0..front.patterns {
         let (body, repeats) = next_body(message, &mut place, &mut parts);
-        let mut left = if repeats == ENDLESS { 1 } else { repeats + 1 };
+        let mut left = passes(repeats);
         let mut end = place;
         while left > 0 {
             match last {

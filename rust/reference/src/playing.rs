@@ -101,12 +101,15 @@ impl Playing {
         playing
     }
 
-    /// Adds one pass and marks where it begins.
+    /// Adds two passes and marks where the second one begins. The first one starts
+    /// with whatever was set ahead of it. Each pass leaves the same settings, so
+    /// all later ones start like the second.
     fn sound_endlessly(&mut self, body: &[Instruction], settings: &mut Settings) {
-        let first = self.entries.len();
         self.sound(body, settings);
-        if self.entries.len() > first {
-            self.return_to = Some(first);
+        let second = self.entries.len();
+        self.sound(body, settings);
+        if self.entries.len() > second {
+            self.return_to = Some(second);
         }
     }
 

@@ -56,6 +56,28 @@ static void check_rows(void)
     CHECK(row.microseconds == 480000);
 }
 
+/* A part for ever: the note C, a quarter, and then volume 2. Its first round has
+ * volume 7. A full note takes the volume's place. */
+static void check_endless(void)
+{
+    uint8_t buf[11] = {0x02, 0x4A, 0x3A, 0x80, 0x41, 0xE0, 0x44, 0x51, 0x48, 0x00, 0x00};
+    uint32_t list[8] = {0};
+    struct ohakelm_entry rows[2] = {{0, 0, 0, 0, 0}, {0, 0, 0, 0, 0}};
+    struct ohakelm_listed made = ohakelm_list(buf, 10, list, 3);
+    CHECK(made.refusal == OHAKELM_NO_ROOM && made.entries == 0 && made.mark == 0);
+    made = ohakelm_list(buf, 10, list, 4);
+    CHECK(made.refusal == OHAKELM_ACCEPTED && made.entries == 2 && made.mark == 1);
+    CHECK(OHAKELM_LISTED_VOLUME(list[0]) == 7 && list[1] == 952380);
+    CHECK(OHAKELM_LISTED_VOLUME(list[2]) == 2 && list[3] == 952380);
+    made = ohakelm_rows(buf, 10, list, 4, rows, 2);
+    CHECK(made.refusal == OHAKELM_ACCEPTED && made.entries == 2 && made.mark == 1);
+    CHECK(rows[0].volume == 7 && rows[1].volume == 2 && rows[1].note == 1);
+    struct ohakelm_edited done =
+        ohakelm_replace(buf, 11, 10, 0, 1, OHAKELM_NOTE(3, 0, 0), list, 8);
+    CHECK(done.refusal == OHAKELM_ACCEPTED && done.entries == 4 && done.mark == 2);
+    CHECK(OHAKELM_LISTED_NOTE(list[6]) == 3 && list[7] == 3809523);
+}
+
 static void check_label(void)
 {
     static const uint8_t title[3] = {'A', ' ', ' '}, stand_in[2] = {'B', 'C'};
@@ -132,6 +154,7 @@ int main(void)
     check_tones();
     check_titles();
     check_rows();
+    check_endless();
     check_label();
     check_edits();
     check_bitmaps();

@@ -189,10 +189,10 @@ fn message(rng: &mut Rng) -> Vec<u8> {
     }
 }
 
-/// A sound tone whose list is empty.
+/// A sound tone whose list is empty, now and then for ever.
 fn silent(rng: &mut Rng) -> Vec<u8> {
     let count = rng.within(1, 5);
-    let mut table = vec![count as u32];
+    let mut table = vec![rng.pick(&[0, 14, 15]) * 256 + count as u32];
     table.extend((0..count).map(|_| 4 * 65536 + rng.below(32) as u32));
     tones::written(2, false, &[], &table)
 }
