@@ -16,7 +16,7 @@ use Rattle.list_count.proofs.Bodies.{endless-passes}
 use Rattle.list_rules.specs.declared.Entry.{Entry}
 use Rattle.list_rules.specs.Duration.{beats, units, microseconds}
 use Rattle.list_rules.specs.Sounding.{atStart, applied, sounded, numbers}
-use Rattle.list_rules.specs.Playing.{State, Listing, step, pass, passes, patternPlayed, play, playingList, markAt}
+use Rattle.list_rules.specs.Playing.{State, Played, Listing, step, pass, passes, patternPlayed, play, playingList, markAt}
 use Rattle.list_rules.proofs.Joining.{stateAfter, bodiesAfter, NoneEndless, listed-ahead, play-last, joined, same-behind}
 use Rattle.list_rules.proofs.Counts.{pass-count}
 use Rattle.list_rules.proofs.Bounds.{list-most}
@@ -72,55 +72,60 @@ second-pass-differs h = let e : _≡_ {A = ℕ} 7 2 = ap (λ (rs : List Entry). 
 
 -- ---- the mark
 
--- passes of a body are silent alike
-silent-alike : (s r : State) (b : List ℕ) → pass s b .entries ≡ [] → pass r b .entries ≡ []
+-- where one pass of a body adds no entry, none does
+pub silent-alike : (s r : State) (b : List ℕ) → pass s b .entries ≡ [] → pass r b .entries ≡ []
 silent-alike s r b h = none (pass r b .entries) (pass-count r b ∙ sym (pass-count s b) ∙ ap length h)
   where
     none : (rs : List Entry) → length rs ≡ 0 → rs ≡ []
     none [] e = refl
     none (x ∷ rs) e = absurd (omega arith)
 
+-- the first pass of a pattern behind others, from the state and the bodies that these leave
+abbrev pub firstPass : State → List Remembered → List Pattern → Pattern → Played
+firstPass s bodies ps p = pass (stateAfter s bodies ps) (bodyOf (bodiesAfter bodies ps) p)
+
+-- its second, from the state that the first leaves
+abbrev pub secondPass : State → List Remembered → List Pattern → Pattern → Played
+secondPass s bodies ps p = pass (firstPass s bodies ps p .after) (bodyOf (bodiesAfter bodies ps) p)
+
 module _ (s : State) (bodies : List Remembered) (n : ℕ) (ps : List Pattern) (p : Pattern) (qs : List Pattern) (h : NoneEndless ps) (k : p .loop ≡ 15) where
-  -- the state at the first loop 15, and the body that sounds for ever
-  abbrev start : State
-  start = stateAfter s bodies ps
+  abbrev listedAhead : List Entry
+  listedAhead = play s bodies n ps .entries
 
-  abbrev body : List ℕ
-  body = bodyOf (bodiesAfter bodies ps) p
+  abbrev first : List Entry
+  first = firstPass s bodies ps p .entries
 
-  abbrev pub firstPass : List Entry
-  firstPass = pass start body .entries
+  abbrev second : List Entry
+  second = secondPass s bodies ps p .entries
 
-  abbrev pub secondPass : List Entry
-  secondPass = pass (pass start body .after) body .entries
-
-  -- the entries ahead of it, and then its two passes, with the mark that these give
-  pub endless-list : play s bodies n (ps ++ p ∷ qs) ≡ record { entries = play s bodies n ps .entries ++ (firstPass ++ secondPass); mark = markAt (n + length (play s bodies n ps .entries)) firstPass }
+  -- the entries ahead of the first loop 15, and then its two passes, with the mark that these give
+  pub endless-list : play s bodies n (ps ++ p ∷ qs) ≡ record { entries = listedAhead ++ (first ++ second); mark = markAt (n + length listedAhead) first }
   endless-list =
-      let m = n + length (play s bodies n ps .entries) in
+      let m = n + length listedAhead in
       joined s bodies n ps (p ∷ qs) h
-      ∙ ap (listed-ahead (play s bodies n ps .entries)) (play-last start (bodiesAfter bodies ps) m p qs k)
-      ∙ ap (λ (rs : List Entry). record { entries = play s bodies n ps .entries ++ rs; mark = markAt m firstPass })
-      (ap (λ d. d .entries) (endless-twice start (bodiesAfter bodies ps) p k) ∙ ap (λ (rs : List Entry). firstPass ++ rs) (append-nil secondPass))
+      ∙ ap (listed-ahead listedAhead) (play-last (stateAfter s bodies ps) (bodiesAfter bodies ps) m p qs k)
+      ∙ ap (λ (rs : List Entry). record { entries = listedAhead ++ rs; mark = markAt m first })
+      (ap (λ d. d .entries) (endless-twice (stateAfter s bodies ps) (bodiesAfter bodies ps) p k) ∙ ap (λ (rs : List Entry). first ++ rs) (append-nil second))
 
   -- both passes count: twice the notes of the body
-  pub endless-count : length (play s bodies n (ps ++ p ∷ qs) .entries) ≡ length (play s bodies n ps .entries) + notes body * 2
+  pub endless-count : length (play s bodies n (ps ++ p ∷ qs) .entries) ≡ length listedAhead + notes (bodyOf (bodiesAfter bodies ps) p) * 2
   endless-count =
+      let b = bodyOf (bodiesAfter bodies ps) p in
       ap (λ (g : Listing). length (g .entries)) endless-list
-      ∙ length-append (play s bodies n ps .entries) (firstPass ++ secondPass)
-      ∙ (rw (length-append firstPass secondPass, pass-count start body, pass-count (pass start body .after) body) (omega arith))
+      ∙ length-append listedAhead (first ++ second)
+      ∙ (rw (length-append first second, pass-count (stateAfter s bodies ps) b, pass-count (firstPass s bodies ps p .after) b) (omega arith))
 
   -- the mark is the position of the second pass's first entry: so many as there are entries ahead of it
-  pub mark-there : 1 ≤ length firstPass → play s bodies n (ps ++ p ∷ qs) .mark ≡ n + length (play s bodies n ps .entries ++ firstPass)
-  mark-there some = ap (λ (g : Listing). g .mark) endless-list ∙ there firstPass some
+  pub mark-there : 1 ≤ length first → play s bodies n (ps ++ p ∷ qs) .mark ≡ n + length (listedAhead ++ first)
+  mark-there some = ap (λ (g : Listing). g .mark) endless-list ∙ there first some
     where
-      there : (rs : List Entry) → 1 ≤ length rs → markAt (n + length (play s bodies n ps .entries)) rs ≡ n + length (play s bodies n ps .entries ++ rs)
+      there : (rs : List Entry) → 1 ≤ length rs → markAt (n + length listedAhead) rs ≡ n + length (listedAhead ++ rs)
       there [] h = let z : ⊥ = omega arith in absurd z
-      there (r ∷ rs) h = rw (length-append (play s bodies n ps .entries) (r ∷ rs)) (omega arith)
+      there (r ∷ rs) h = rw (length-append listedAhead (r ∷ rs)) (omega arith)
 
   -- none where a pass adds no entry
-  pub mark-silent : firstPass ≡ [] → play s bodies n (ps ++ p ∷ qs) .mark ≡ noMark
-  mark-silent none = ap (λ (g : Listing). g .mark) endless-list ∙ ap (markAt (n + length (play s bodies n ps .entries))) none
+  pub mark-silent : first ≡ [] → play s bodies n (ps ++ p ∷ qs) .mark ≡ noMark
+  mark-silent none = ap (λ (g : Listing). g .mark) endless-list ∙ ap (markAt (n + length listedAhead)) none
 
 -- none where there is no loop 15
 pub mark-none : (s : State) (bodies : List Remembered) (n : ℕ) (ps : List Pattern) → NoneEndless ps → play s bodies n ps .mark ≡ noMark
@@ -146,29 +151,41 @@ from-second a (r ∷ f) b most silent =
     rw (ne-eqb m noMark (λ e. omega arith))
     (ap (drop m) (sym (append-assoc a (r ∷ f) b)) ∙ drop-at (a ++ (r ∷ f)) b m (length-append a (r ∷ f)))
 
-module _ (t : Tone) (formed : Formed t) (k : ℕ) where
-  -- through the list, and then k rounds from the mark: the entries ahead of the endless pattern, and then k + 2 passes of it
-  pub heard-for-ever : (ps : List Pattern) (p : Pattern) (qs : List Pattern) → t .patterns ≡ ps ++ p ∷ qs → NoneEndless ps → p .loop ≡ 15
-      → heard k (playingList t) ≡ play atStart noBodies 0 ps .entries ++ passes (k + 2) (stateAfter atStart noBodies ps) (bodyOf (bodiesAfter noBodies ps) p) .entries
-  unfolding playingList
-  heard-for-ever ps p qs split h e =
-      let a = play atStart noBodies 0 ps .entries in
-      let s = stateAfter atStart noBodies ps in
-      let b = bodyOf (bodiesAfter noBodies ps) p in
-      let f = pass s b .entries in
-      let g = pass (pass s b .after) b .entries in
-      let two : k + 2 ≡ suc (suc k) = omega arith in
-      let list : playingList t ≡ record { entries = a ++ (f ++ g); mark = markAt (length a) f } =
-      ap (play atStart noBodies 0) split ∙ endless-list atStart noBodies 0 ps p qs h e ∙ ap (λ (n : ℕ). record { entries = a ++ (f ++ g); mark = markAt n f }) (zero-add (length a)) in
-      let most : length (a ++ (f ++ g)) ≤ 975375 = rw (ap (λ (l : Listing). l .entries) list) at (list-most t formed) in
-      rw (list, from-second a f g most (silent-alike s (pass s b .after) b), two, later-passes (suc k) s b)
-      (append-assoc a (f ++ g) (repeated k g) ∙ ap (λ (rs : List Entry). a ++ rs) (append-assoc f g (repeated k g)))
+module _ (t : Tone) (formed : Formed t) (ps : List Pattern) (p : Pattern) (qs : List Pattern) (split : t .patterns ≡ ps ++ p ∷ qs) (h : NoneEndless ps) (e : p .loop ≡ 15) where
+  abbrev before : List Entry
+  before = play atStart noBodies 0 ps .entries
 
-  -- with no loop 15 the list alone
-  pub heard-once : NoneEndless (t .patterns) → heard k (playingList t) ≡ playingList t .entries
+  abbrev one : Played
+  one = firstPass atStart noBodies ps p
+
+  abbrev two : Played
+  two = secondPass atStart noBodies ps p
+
+  listed : playingList t ≡ record { entries = before ++ (one .entries ++ two .entries); mark = markAt (length before) (one .entries) }
   unfolding playingList
-  heard-once h = rw (mark-none atStart noBodies 0 (t .patterns) h) (nothing k)
-    where
-      nothing : (k : ℕ) → playingList t .entries ++ repeated k [] ≡ playingList t .entries
-      nothing zero = append-nil (playingList t .entries)
-      nothing (suc k) = nothing k
+  listed =
+      ap (play atStart noBodies 0) split ∙ endless-list atStart noBodies 0 ps p qs h e
+      ∙ ap (λ (n : ℕ). record { entries = before ++ (one .entries ++ two .entries); mark = markAt n (one .entries) }) (zero-add (length before))
+
+  -- from the mark on stands the second pass, whole
+  pub second-from-mark : fromMark (playingList t) ≡ secondPass atStart noBodies ps p .entries
+  second-from-mark =
+      let most = rw (ap (λ (g : Listing). g .entries) listed) at (list-most t formed) in
+      ap fromMark listed ∙ from-second before (one .entries) (two .entries) most (silent-alike (stateAfter atStart noBodies ps) (one .after) (bodyOf (bodiesAfter noBodies ps) p))
+
+  -- through the list, and then k rounds from the mark: the entries ahead of the endless pattern, and then k + 2 passes of it
+  pub heard-for-ever : (k : ℕ) → heard k (playingList t) ≡ play atStart noBodies 0 ps .entries ++ passes (k + 2) (stateAfter atStart noBodies ps) (bodyOf (bodiesAfter noBodies ps) p) .entries
+  heard-for-ever k =
+      let more : k + 2 ≡ suc (suc k) = omega arith in
+      rw (second-from-mark, ap (λ (g : Listing). g .entries) listed, more, later-passes (suc k) (stateAfter atStart noBodies ps) (bodyOf (bodiesAfter noBodies ps) p))
+      (append-assoc before (one .entries ++ two .entries) (repeated k (two .entries))
+      ∙ ap (λ (rs : List Entry). before ++ rs) (append-assoc (one .entries) (two .entries) (repeated k (two .entries))))
+
+-- with no loop 15 the list alone
+pub heard-once : (t : Tone) (k : ℕ) → NoneEndless (t .patterns) → heard k (playingList t) ≡ playingList t .entries
+unfolding playingList
+heard-once t k h = rw (mark-none atStart noBodies 0 (t .patterns) h) (nothing k)
+  where
+    nothing : (k : ℕ) → playingList t .entries ++ repeated k [] ≡ playingList t .entries
+    nothing zero = append-nil (playingList t .entries)
+    nothing (suc k) = nothing k
