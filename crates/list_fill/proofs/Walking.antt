@@ -26,6 +26,7 @@ use Rattle.list_count.specs.Bodies.{passesOf}
 use Rattle.list_fill.specs.Filling.{entrySeen, stateOf, Ready, Begun, Advanced}
 use Rattle.tone_elements.specs.Standing.{bodyIn, behindIn, BodyAt}
 use Rattle.list_rules.proofs.Packing.{length-numbers, numbers-append}
+use Rattle.list_rules.proofs.Joining.{ahead-twice, pass-append}
 use Rattle.list_rules.proofs.Counts.{pass-count, passes-count}
 use Rattle.tone_elements.proofs.Seeing.{instruction-width}
 use Rattle.tone_elements.proofs.Steps.{onward-got, onward-made}
@@ -60,9 +61,6 @@ and-then {i} {d} {f} {old = old} {w = w} a b =
 -- the list keeps its length
 pub advanced-long : {i : ℕ} {d : Played} {q : ℕ} {old new : List ℕ} {w : Walk} → Advanced i d q old new w → length new ≡ length old
 advanced-long {i} {d} {old = old} a = ap length (a .list) ∙ length-sets old i (numbers (d .entries))
-
-ahead-twice : (a b : List Entry) (d : Played) → ahead a (ahead b d) ≡ ahead (a ++ b) d
-ahead-twice a b d = λ i. record { entries = sym (append-assoc a b (d .entries)) i; after = d .after }
 
 -- with nothing more to play
 all-played : {i : ℕ} {d f : Played} {q q′ : ℕ} {old new : List ℕ} {w : Walk} → Advanced i d q old new w → f ≡ ahead (d .entries) (record { entries = []; after = stateOf w }) → q ≡ q′ → Advanced i f q′ old new w
@@ -115,13 +113,6 @@ split-of m k p left {b} {q} h e =
     let i = onward-got (bodyDue k l p) (λ a r. onward (bodyDue (left - k) l r) (λ t s. got (a ++ t) s) bad) (sym (ap (λ (x : ℕ). bodyDue x l p) both ∙ body-more k (left - k) l p) ∙ e) in
     let j = onward-made (bodyDue (left - k) l (i .1)) (λ t. i .0 ++ t) (i .3) in
     record { front = i .0; others = j .0; behind = i .1; body = j .2; first = i .2; more = j .1 }
-
--- two bodies on end are played on end
-pass-append : (s : State) (a b : List ℕ) → pass s (a ++ b) ≡ ahead (pass s a .entries) (pass (pass s a .after) b)
-pass-append s [] b = refl
-pass-append s (e ∷ a) b =
-    let d = step s e in
-    ap (ahead (d .entries)) (pass-append (d .after) a b) ∙ ahead-twice (d .entries) (pass (d .after) a .entries) (pass (pass (d .after) a .after) b)
 
 -- ---- one pass
 

@@ -11,7 +11,7 @@ use Rattle.bits.specs.Choice.{pick}
 use Rattle.tone.specs.Tone.{Pattern}
 use Rattle.list_rules.specs.declared.Entry.{Entry}
 use Rattle.list_rules.specs.Sounding.{State}
-use Rattle.list_rules.specs.Playing.{Listing, ahead, pass, onePass, passes, patternPlayed, play, markAt}
+use Rattle.list_rules.specs.Playing.{Played, Listing, ahead, step, pass, onePass, passes, patternPlayed, play, markAt}
 use Rattle.list_count.specs.Bodies.{Remembered, passesOf, bodyOf, remember}
 
 -- the state that patterns leave
@@ -89,3 +89,15 @@ unfolding patternPlayed passesOf
 pattern-carried s bodies p h =
     let times : passesOf (p .loop) ≡ p .loop + 1 = rw (ne-eqb (p .loop) 15 h) refl in
     carried-on (p .loop) (passesOf (p .loop)) s (bodyOf bodies p) h ∙ ap (λ (n : ℕ). passes 0 n s (bodyOf bodies p)) times
+
+-- ---- bodies on end
+
+pub ahead-twice : (a b : List Entry) (d : Played) → ahead a (ahead b d) ≡ ahead (a ++ b) d
+ahead-twice a b d = λ i. record { entries = sym (append-assoc a b (d .entries)) i; after = d .after }
+
+-- two bodies on end are played on end
+pub pass-append : (s : State) (a b : List ℕ) → pass s (a ++ b) ≡ ahead (pass s a .entries) (pass (pass s a .after) b)
+pass-append s [] b = refl
+pass-append s (e ∷ a) b =
+    let d = step s e in
+    ap (ahead (d .entries)) (pass-append (d .after) a b) ∙ ahead-twice (d .entries) (pass (d .after) a .entries) (pass (pass (d .after) a .after) b)

@@ -10,5 +10,7 @@ pub mod Bounds
 pub mod Order
 pub mod Packing
 pub mod Settling
+pub mod Boundaries
 pub mod Endless
+pub mod Spans
 pub mod Samples

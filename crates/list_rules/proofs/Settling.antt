@@ -25,7 +25,8 @@ lastCode k v (e ∷ b) = lastCode k (coded k v e) b
 abbrev pub codes : Settings → List ℕ → Settings
 codes s b = record { scale = lastCode 2 (s .scale) b; style = lastCode 3 (s .style) b; tempo = lastCode 4 (s .tempo) b; volume = lastCode 5 (s .volume) b }
 
-either : {P : Type 0} (t : Bool) → (t ≡ true → P) → (t ≡ false → P) → P
+-- a test holds, or it does not
+pub either : {P : Type 0} (t : Bool) → (t ≡ true → P) → (t ≡ false → P) → P
 either true f g = f refl
 either false f g = g refl
 

@@ -77,7 +77,7 @@ pub struct EditAnswer {
 pub extern "C" fn ohakelm_version() -> u32
     ensures { λ r. ⌜ VersionExport r ⌝ }
 {
-    600
+    700
 }
 
 // ---- tones

@@ -5,6 +5,7 @@ pub mod Titles
 pub mod Label
 pub mod List
 pub mod Endless
+pub mod Drift
 pub mod Edits
 pub mod Bounds
 pub mod Pinned

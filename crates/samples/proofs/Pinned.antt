@@ -9,6 +9,7 @@ use Rattle.samples.proofs.Titles.{titles}
 use Rattle.samples.proofs.Label.{labels}
 use Rattle.samples.proofs.List.{lists}
 use Rattle.samples.proofs.Endless.{endless}
+use Rattle.samples.proofs.Drift.{drift}
 use Rattle.samples.proofs.Edits.{edits}
 use Rattle.samples.proofs.Bounds.{bounds}
 use Rattle.samples.proofs.Text.{texts}
@@ -22,6 +23,7 @@ pinned = record {
   labels = labels;
   lists = lists;
   endless = endless;
+  drift = drift;
   durations = lengths.durations;
   edits = edits;
   bounds = bounds;

@@ -81,8 +81,8 @@ pub record Edits : Type 0 where
   pub kept : bufferAfter (ofP1 Delete 1 0) 10 message ++ listAfter (ofP1 Delete 1 0) (77 ∷ 77 ∷ []) ≡ message ++ (77 ∷ 77 ∷ [])
   -- a pause for C in part A: its recall sounds the new body too; the numbers behind are left
   pub first : octetsLeft (ofTwo (Replace 65544) 0 0) ≡ set twoParts 7 0x10 ++ (0xEE ∷ [])
-  pub firstList : numbersLeft (ofTwo (Replace 65544) 0 0) ≡ 263 ∷ 952380 ∷ 3335 ∷ 952380 ∷ 263 ∷ 952380 ∷ 77 ∷ 77 ∷ []
+  pub firstList : numbersLeft (ofTwo (Replace 65544) 0 0) ≡ 263 ∷ 952380 ∷ 3335 ∷ 952381 ∷ 263 ∷ 952381 ∷ 77 ∷ 77 ∷ []
   -- scale 3 behind D in part B: the recall of A sounds at it
   pub second : octetsLeft (ofTwo (Insert 131075) 1 1) ≡ 0x02 ∷ 0x4A ∷ 0x3A ∷ 0x80 ∷ 0xC0 ∷ 0x00 ∷ 0x24 ∷ 0x50 ∷ 0x10 ∷ 0x02 ∷ 0x26 ∷ 0x85 ∷ 0x80 ∷ 0x00 ∷ 0x00 ∷ 0x00 ∷ []
-  pub secondList : numbersLeft (ofTwo (Insert 131075) 1 1) ≡ 1287 ∷ 952380 ∷ 3335 ∷ 952380 ∷ 1799 ∷ 952380 ∷ 77 ∷ 77 ∷ []
+  pub secondList : numbersLeft (ofTwo (Insert 131075) 1 1) ≡ 1287 ∷ 952380 ∷ 3335 ∷ 952381 ∷ 1799 ∷ 952381 ∷ 77 ∷ 77 ∷ []
   pub secondNumbers : editNumbers 15 (ofTwo (Insert 131075) 1 1) ≡ record { refusal = 0; place = 0; length = 16; entries = 3; mark = 4294967295; change = pos 1 }

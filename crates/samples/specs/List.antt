@@ -78,11 +78,11 @@ pub record Lists : Type 0 where
   -- a later definition replaces the earlier one, and no other part's
   pub redefined : heard (part 3 0 (c ∷ []) ∷ part 2 0 (65544 ∷ []) ∷ part 3 0 (d ∷ []) ∷ part 3 0 [] ∷ part 2 0 [] ∷ []) ≡ 1 ∷ 0 ∷ 3 ∷ 3 ∷ 0 ∷ []
   -- settings carry on through patterns and recalls: A is recalled with the volume that B set, and not the one that it was defined with
-  pub carried : cellsOf (part 0 0 (c ∷ []) ∷ part 1 0 (327689 ∷ []) ∷ part 0 0 [] ∷ []) ≡ 1287 ∷ 952380 ∷ 1289 ∷ 952380 ∷ []
+  pub carried : cellsOf (part 0 0 (c ∷ []) ∷ part 1 0 (327689 ∷ []) ∷ part 0 0 [] ∷ []) ≡ 1287 ∷ 952380 ∷ 1289 ∷ 952381 ∷ []
   -- and through passes: the second pass begins with the volume that the first ended with
-  pub carriedOn : cellsOf (part 0 1 (c ∷ 327689 ∷ []) ∷ []) ≡ 1287 ∷ 952380 ∷ 1289 ∷ 952380 ∷ []
+  pub carriedOn : cellsOf (part 0 1 (c ∷ 327689 ∷ []) ∷ []) ≡ 1287 ∷ 952380 ∷ 1289 ∷ 952381 ∷ []
   -- each instruction sets its own: scale 2, style 1, tempo 14, volume 0, between notes
-  pub each : cellsOf (part 0 0 (131074 ∷ c ∷ 196609 ∷ c ∷ 262158 ∷ c ∷ 327680 ∷ c ∷ []) ∷ []) ≡ 1543 ∷ 952380 ∷ 1559 ∷ 952380 ∷ 1559 ∷ 480000 ∷ 1552 ∷ 480000 ∷ []
+  pub each : cellsOf (part 0 0 (131074 ∷ c ∷ 196609 ∷ c ∷ 262158 ∷ c ∷ 327680 ∷ c ∷ []) ∷ []) ≡ 1543 ∷ 952380 ∷ 1559 ∷ 952381 ∷ 1559 ∷ 480000 ∷ 1552 ∷ 480000 ∷ []
   -- two numbers an entry and one row: exact, and one too few
   pub room : listTone message (fitsNumbers 2) ≡ accepted (oneNote 480000)
   pub noRoom : listTone message (fitsNumbers 1) ≡ refused 11 0

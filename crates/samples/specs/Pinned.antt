@@ -8,6 +8,7 @@ use Rattle.samples.specs.Titles.{Titles}
 use Rattle.samples.specs.Label.{Labels}
 use Rattle.samples.specs.List.{Lists}
 use Rattle.samples.specs.Endless.{Endless}
+use Rattle.samples.specs.Drift.{Drift}
 use Rattle.samples.specs.Edits.{Edits}
 use Rattle.samples.specs.Bounds.{Bounds}
 use Rattle.samples.specs.Text.{Texts}
@@ -21,6 +22,7 @@ pub record Pinned : Type 0 where
   pub labels : Labels
   pub lists : Lists
   pub endless : Endless
+  pub drift : Drift
   pub durations : Durations
   pub edits : Edits
   pub bounds : Bounds

@@ -19,9 +19,9 @@ itsLine = 0x31 ∷ 0x30 ∷ 0x20 ∷ 0x31 ∷ 0x20 ∷ 0x30 ∷ 0x20 ∷ 0x37 �
 abbrev pub lineC : List ℕ
 lineC = 0x31 ∷ 0x20 ∷ 0x31 ∷ 0x20 ∷ 0x30 ∷ 0x20 ∷ 0x37 ∷ 0x20 ∷ 0x39 ∷ 0x35 ∷ 0x32 ∷ 0x33 ∷ 0x38 ∷ 0x30 ∷ 0x0A ∷ []
 
--- "3 1 0 7 952380" and a line feed
+-- "3 1 0 7 952381" and a line feed
 abbrev pub lineD : List ℕ
-lineD = 0x33 ∷ 0x20 ∷ 0x31 ∷ 0x20 ∷ 0x30 ∷ 0x20 ∷ 0x37 ∷ 0x20 ∷ 0x39 ∷ 0x35 ∷ 0x32 ∷ 0x33 ∷ 0x38 ∷ 0x30 ∷ 0x0A ∷ []
+lineD = 0x33 ∷ 0x20 ∷ 0x31 ∷ 0x20 ∷ 0x30 ∷ 0x20 ∷ 0x37 ∷ 0x20 ∷ 0x39 ∷ 0x35 ∷ 0x32 ∷ 0x33 ∷ 0x38 ∷ 0x31 ∷ 0x0A ∷ []
 
 -- the digits of a number, behind which a line feed stands
 abbrev pub decimal : ℕ → List ℕ
@@ -32,8 +32,8 @@ pub record Texts : Type 0 where
   -- P1, whole, with room for one entry and for more
   pub p1 : answerOf message (replicate 2 0) ≡ oneEntry ++ itsLine
   pub p1Roomy : answerOf message (replicate 5 0) ≡ oneEntry ++ itsLine
-  -- C, D and C again: "entries 3 return none", line feed, and their lines
-  pub three : answerOf twoParts (replicate 6 0) ≡ set oneEntry 8 0x33 ++ (lineC ++ (lineD ++ lineC))
+  -- C, D and C again, one microsecond longer from the second on: "entries 3 return none", line feed, and their lines
+  pub three : answerOf twoParts (replicate 6 0) ≡ set oneEntry 8 0x33 ++ (lineC ++ (lineD ++ set lineC 13 0x31))
   -- P4: "refused 2 at 72", line feed
   pub p4 : answerOf (take 9 message) (replicate 2 0) ≡ 0x72 ∷ 0x65 ∷ 0x66 ∷ 0x75 ∷ 0x73 ∷ 0x65 ∷ 0x64 ∷ 0x20 ∷ 0x32 ∷ 0x20 ∷ 0x61 ∷ 0x74 ∷ 0x20 ∷ 0x37 ∷ 0x32 ∷ 0x0A ∷ []
   -- no room for the entry: "refused 11 at 0", line feed
