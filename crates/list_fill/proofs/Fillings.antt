@@ -22,16 +22,15 @@ use Rattle.tone.proofs.Rows.{Header, Body, header-exact, body-exact}
 use Rattle.tone.proofs.Instructions.{header-in-table}
 use Rattle.tone_elements.specs.Answers.{Within, notes, EntryAt, SomeEntry, Passed}
 use Rattle.tone_elements.proofs.Steps.{onward-got, onward-made}
-use Rattle.list_rules.specs.declared.Settings.{Settings}
 use Rattle.list_rules.specs.declared.Entry.{Entry}
 use Rattle.list_fill.specs.declared.Part.{Part}
 use Rattle.list_fill.specs.declared.Part.the-variants.{Unknown, Known}
 use Rattle.list_fill.specs.declared.Walk.{Walk}
-use Rattle.list_rules.specs.Sounding.{atStart, numbers}
+use Rattle.list_rules.specs.Sounding.{State, atStart, numbers}
 use Rattle.list_rules.specs.Playing.{Played, ahead, Listing, passes, patternPlayed, play}
 use Rattle.list_count.specs.Bodies.{Remembered, unknown, known, recalled, noBodies, passesOf, bodyOf, remember}
 use Rattle.list_count.specs.Counting.{entryCount}
-use Rattle.list_fill.specs.Filling.{PatternsAt, partAfter, behindPattern, Ready, Advanced}
+use Rattle.list_fill.specs.Filling.{PatternsAt, partAfter, behindPattern, stateOf, Ready, Advanced}
 use Rattle.tone_elements.specs.Standing.{BodyAt, behindOr, bodyIn, behindIn}
 use Rattle.list_rules.proofs.Counts.{list-count}
 use Rattle.list_count.proofs.Bodies.{isKnown, knownOf, remember-length, body-sounding, learn-read}
@@ -89,7 +88,7 @@ unknown-there m (Known at n) r h e k = let y : _≡_ {A = ℕ} 0 1 = cc in omega
 
 -- ---- the loop
 
--- with `left` patterns to come at p, from the bodies that are remembered and the settings of the walk
+-- with `left` patterns to come at p, from the bodies that are remembered and the state of the walk
 pub record ListWalk (m : List ℕ) (ps : List Pattern) (old new : List ℕ) (parts : List Part) (p : ℕ) (w : Walk) (left : ℕ) : Type 0 where
   pub within : Within m p
   pub bodies : List Remembered
@@ -99,12 +98,12 @@ pub record ListWalk (m : List ℕ) (ps : List Pattern) (old new : List ℕ) (par
   pub end : ℕ
   pub reads : patternsDue left (knownOf bodies) (bitsOf m) p ≡ got others end
   pub done : List Entry
-  pub advanced : Advanced 0 (record { entries = done; after = w .settings }) (w .at .0) old new w
-  pub goes : play atStart noBodies 0 ps .entries ≡ done ++ play (w .settings) bodies (length done) others .entries
+  pub advanced : Advanced 0 (record { entries = done; after = stateOf w }) (w .at .0) old new w
+  pub goes : play atStart noBodies 0 ps .entries ≡ done ++ play (stateOf w) bodies (length done) others .entries
   pub room : 2 * entryCount noBodies ps ≤ length old
 
 pub list-begins : {m : List ℕ} {at n : ℕ} {ps : List Pattern} {q : ℕ} {old : List ℕ} {w : Walk} {p : BitPlace} → PatternsAt m at n ps q → 2 * entryCount noBodies ps ≤ length old
-    → Ready w × (w .settings ≡ atStart) × (w .at ≡ p) × (w .cells ≡ 0) → ListWalk m ps old old (replicate 4 Unknown) at w n
+    → Ready w × (stateOf w ≡ atStart) × (w .at ≡ p) × (w .cells ≡ 0) → ListWalk m ps old old (replicate 4 Unknown) at w n
 list-begins {ps = ps} {q} {w = w} h k s = record {
   within = h .within;
   bodies = noBodies;
@@ -114,7 +113,7 @@ list-begins {ps = ps} {q} {w = w} h k s = record {
   end = q;
   reads = h .reads;
   done = [];
-  advanced = record { settings = refl; ready = s .0; place = refl; cells = s .3; list = refl };
+  advanced = record { state = refl; ready = s .0; place = refl; cells = s .3; list = refl };
   goes = rw (s .1) refl;
   room = k;
 }
@@ -138,7 +137,7 @@ module _ {m : List ℕ} {ps : List Pattern} {old new : List ℕ} {parts : List P
       let e : got [] p ≡ got (v .others) (v .end) = subst (λ (x : ℕ). patternsDue x (knownOf (v .bodies)) (bitsOf m) p ≡ got (v .others) (v .end)) z (v .reads) in
       let e₁ : v .others ≡ [] = cc in
       let f : play atStart noBodies 0 ps .entries ≡ v .done =
-      v .goes ∙ ap (λ (x : List Pattern). v .done ++ play (w .settings) (v .bodies) (length (v .done)) x .entries) e₁ ∙ append-nil (v .done) in
+      v .goes ∙ ap (λ (x : List Pattern). v .done ++ play (stateOf w) (v .bodies) (length (v .done)) x .entries) e₁ ∙ append-nil (v .done) in
       v .advanced .list ∙ ap (λ (x : List Entry). sets old 0 (numbers x)) (sym f) ∙ over-sets old (play atStart noBodies 0 ps .entries) count
 
   module _ (h : 0 < left) where
@@ -213,73 +212,72 @@ module _ {m : List ℕ} {ps : List Pattern} {old new : List ℕ} {parts : List P
           list-body = record { within = body .1 .within; short = body .1 .short; reads = rw (body .1 .reads) refl }
 
           -- a pattern's passes are the passes of its body
-          module _ {times : ℕ} (x : (times ≡ passesOf (loopOf cell)) × (1 ≤ times) × (times ≤ 15)) where
-            played : passes times (w .settings) (bodyIn m (from .0) n) ≡ patternPlayed (w .settings) (v .bodies) one
-            unfolding patternPlayed one
-            played = ap₂ (λ (y : ℕ) (b : List ℕ). passes y (w .settings) b) (x .0) body-is
+          played : passes (loopOf cell) (passesOf (loopOf cell)) (stateOf w) (bodyIn m (from .0) n) ≡ patternPlayed (stateOf w) (v .bodies) one
+          unfolding patternPlayed one
+          played = ap (passes (loopOf cell) (passesOf (loopOf cell)) (stateOf w)) body-is
 
-            -- there is room for them
-            pub list-fits : w .cells + 2 * (notes (bodyIn m (from .0) n) * times) ≤ length new
-            unfolding one
-            list-fits =
-                let e : entryCount noBodies ps ≡ length (v .done) + entryCount (v .bodies) (v .others) =
-                sym (list-count atStart noBodies 0 ps) ∙ ap length (v .goes) ∙ length-append (v .done) (play (w .settings) (v .bodies) (length (v .done)) (v .others) .entries)
-                ∙ ap (λ (y : ℕ). length (v .done) + y) (list-count (w .settings) (v .bodies) (length (v .done)) (v .others)) in
-                let f : notes (bodyIn m (from .0) n) * times ≡ notes (bodyOf (v .bodies) one) * passesOf (loopOf cell) = ap₂ (λ (b : List ℕ) (y : ℕ). notes b * y) body-is (x .0) in
-                omega (arith, ap (entryCount (v .bodies)) others, v .room, v .advanced .cells, list-same)
+          -- there is room for them
+          pub list-fits : w .cells + 2 * (notes (bodyIn m (from .0) n) * passesOf (loopOf cell)) ≤ length new
+          unfolding one
+          list-fits =
+              let e : entryCount noBodies ps ≡ length (v .done) + entryCount (v .bodies) (v .others) =
+              sym (list-count atStart noBodies 0 ps) ∙ ap length (v .goes) ∙ length-append (v .done) (play (stateOf w) (v .bodies) (length (v .done)) (v .others) .entries)
+              ∙ ap (λ (y : ℕ). length (v .done) + y) (list-count (stateOf w) (v .bodies) (length (v .done)) (v .others)) in
+              let f : notes (bodyIn m (from .0) n) * passesOf (loopOf cell) ≡ notes (bodyOf (v .bodies) one) * passesOf (loopOf cell) = ap (λ (b : List ℕ). notes b * passesOf (loopOf cell)) body-is in
+              omega (arith, ap (entryCount (v .bodies)) others, v .room, v .advanced .cells, list-same)
 
-            module _ {new′ : List ℕ} {w′ : Walk} (a : Advanced (w .cells) (passes times (w .settings) (bodyIn m (from .0) n)) (behindIn m (from .0) n) new new′ w′) where
-              d : Played
-              d = patternPlayed (w .settings) (v .bodies) one
+          module _ {new′ : List ℕ} {w′ : Walk} (a : Advanced (w .cells) (passes (loopOf cell) (passesOf (loopOf cell)) (stateOf w) (bodyIn m (from .0) n)) (behindIn m (from .0) n) new new′ w′) where
+            d : Played
+            d = patternPlayed (stateOf w) (v .bodies) one
 
-              both : Advanced 0 (ahead (v .done) d) (behindIn m (from .0) n) old new′ w′
-              unfolding d
-              both = and-then (v .advanced) (subst (λ (y : Played). Advanced (w .cells) y (behindIn m (from .0) n) new new′ w′) played a)
+            both : Advanced 0 (ahead (v .done) d) (behindIn m (from .0) n) old new′ w′
+            unfolding d
+            both = and-then (v .advanced) (subst (λ (y : Played). Advanced (w .cells) y (behindIn m (from .0) n) new new′ w′) played a)
 
-              -- listing stops with a loop 15
-              pub list-ends : loopOf cell ≡ 15 → new′ ≡ over (numbers (play atStart noBodies 0 ps .entries)) old
-              unfolding d one
-              list-ends z =
-                  let f : play atStart noBodies 0 ps .entries ≡ v .done ++ d .entries =
-                  v .goes ∙ ap (λ (y : List Pattern). v .done ++ play (w .settings) (v .bodies) (length (v .done)) y .entries) others
-                  ∙ ap (λ (y : Listing). v .done ++ y .entries) (play-last (w .settings) (v .bodies) (length (v .done)) one (head .others) z) in
-                  both .list ∙ ap (λ (y : List Entry). sets old 0 (numbers y)) (sym f) ∙ over-sets old (play atStart noBodies 0 ps .entries) count
+            -- listing stops with a loop 15
+            pub list-ends : loopOf cell ≡ 15 → new′ ≡ over (numbers (play atStart noBodies 0 ps .entries)) old
+            unfolding d one
+            list-ends z =
+                let f : play atStart noBodies 0 ps .entries ≡ v .done ++ d .entries =
+                v .goes ∙ ap (λ (y : List Pattern). v .done ++ play (stateOf w) (v .bodies) (length (v .done)) y .entries) others
+                ∙ ap (λ (y : Listing). v .done ++ y .entries) (play-last (stateOf w) (v .bodies) (length (v .done)) one (head .others) z) in
+                both .list ∙ ap (λ (y : List Entry). sets old 0 (numbers y)) (sym f) ∙ over-sets old (play atStart noBodies 0 ps .entries) count
 
-              behind-is : {place′ : BitPlace} → place′ ≡ behindPattern cell next (w′ .at) → place′ .0 ≡ head .behind
-              unfolding bodyDue
-              behind-is z = ap (λ (y : BitPlace). y .0) z ∙ go (eqb (specifier cell) 0) refl
-                where
-                  go : (t : Bool) → eqb (specifier cell) 0 ≡ t → pick t next (w′ .at) .0 ≡ head .behind
-                  go true y =
-                      let r : got [] (next .0) ≡ got (head .body) (head .behind) = subst (λ (u : ℕ). bodyDue u (bitsOf m) (next .0) ≡ got (head .body) (head .behind)) (eqb-true (specifier cell) 0 y) reads in
-                      cc
-                  go false y =
-                      let r : Known next (specifier cell) ≡ Known from n = ap (λ (t : Bool). pick t (getD parts (partOf cell) Unknown) (Known next (specifier cell))) (sym y) ∙ sym e ∙ g in
-                      let e₁ : next ≡ from = cc in
-                      let e₂ : specifier cell ≡ n = cc in
-                      a .place ∙ ap₂ (λ (u : BitPlace) (c : ℕ). behindIn m (u .0) c) (sym e₁) (sym e₂) ∙ ap behindOr reads
+            behind-is : {place′ : BitPlace} → place′ ≡ behindPattern cell next (w′ .at) → place′ .0 ≡ head .behind
+            unfolding bodyDue
+            behind-is z = ap (λ (y : BitPlace). y .0) z ∙ go (eqb (specifier cell) 0) refl
+              where
+                go : (t : Bool) → eqb (specifier cell) 0 ≡ t → pick t next (w′ .at) .0 ≡ head .behind
+                go true y =
+                    let r : got [] (next .0) ≡ got (head .body) (head .behind) = subst (λ (u : ℕ). bodyDue u (bitsOf m) (next .0) ≡ got (head .body) (head .behind)) (eqb-true (specifier cell) 0 y) reads in
+                    cc
+                go false y =
+                    let r : Known next (specifier cell) ≡ Known from n = ap (λ (t : Bool). pick t (getD parts (partOf cell) Unknown) (Known next (specifier cell))) (sym y) ∙ sym e ∙ g in
+                    let e₁ : next ≡ from = cc in
+                    let e₂ : specifier cell ≡ n = cc in
+                    a .place ∙ ap₂ (λ (u : BitPlace) (c : ℕ). behindIn m (u .0) c) (sym e₁) (sym e₂) ∙ ap behindOr reads
 
-              pub list-on : {place′ : BitPlace} → (loopOf cell ≡ 15 → ⊥) → place′ ≡ behindPattern cell next (w′ .at) → ListWalk m ps old new′ (set parts (partOf cell) part) (place′ .0) w′ (left - 1)
-              unfolding d one
-              list-on {place′} other z =
-                  let q = behind-is z in
-                  let s : d .after ≡ w′ .settings = sym (both .settings) in
-                  record {
-                    within = record { inside = rw (q, ← length-bitsOf m) (read .inside); counted = v .within .counted };
-                    bodies = remember (v .bodies) one;
-                    four = remember-length (v .bodies) one ∙ v .four;
-                    places = places;
-                    others = head .others;
-                    end = v .end;
-                    reads = rw q (ap (λ (u : List Bool). patternsDue (left - 1) u (bitsOf m) (head .behind)) (sym (ap (learn (knownOf (v .bodies))) same ∙ learn-read (v .bodies) cell (head .body) (ap (λ (x : ℕ). eqb x 0) size))) ∙ head .more);
-                    done = v .done ++ d .entries;
-                    advanced = record { settings = refl; ready = both .ready; place = refl; cells = both .cells; list = both .list };
-                    goes = v .goes ∙ ap (λ (y : List Pattern). v .done ++ play (w .settings) (v .bodies) (length (v .done)) y .entries) others
-                        ∙ ap (λ (y : Listing). v .done ++ y .entries) (play-one (w .settings) (v .bodies) (length (v .done)) one (head .others) other)
-                        ∙ sym (append-assoc (v .done) (d .entries) (play (d .after) (remember (v .bodies) one) (length (v .done) + length (d .entries)) (head .others) .entries))
-                        ∙ ap₂ (λ (u : Settings) (k : ℕ). (v .done ++ d .entries) ++ play u (remember (v .bodies) one) k (head .others) .entries) s (sym (length-append (v .done) (d .entries)));
-                    room = v .room;
-                  }
+            pub list-on : {place′ : BitPlace} → (loopOf cell ≡ 15 → ⊥) → place′ ≡ behindPattern cell next (w′ .at) → ListWalk m ps old new′ (set parts (partOf cell) part) (place′ .0) w′ (left - 1)
+            unfolding d one
+            list-on {place′} other z =
+                let q = behind-is z in
+                let s : d .after ≡ stateOf w′ = sym (both .state) in
+                record {
+                  within = record { inside = rw (q, ← length-bitsOf m) (read .inside); counted = v .within .counted };
+                  bodies = remember (v .bodies) one;
+                  four = remember-length (v .bodies) one ∙ v .four;
+                  places = places;
+                  others = head .others;
+                  end = v .end;
+                  reads = rw q (ap (λ (u : List Bool). patternsDue (left - 1) u (bitsOf m) (head .behind)) (sym (ap (learn (knownOf (v .bodies))) same ∙ learn-read (v .bodies) cell (head .body) (ap (λ (x : ℕ). eqb x 0) size))) ∙ head .more);
+                  done = v .done ++ d .entries;
+                  advanced = record { state = refl; ready = both .ready; place = refl; cells = both .cells; list = both .list };
+                  goes = v .goes ∙ ap (λ (y : List Pattern). v .done ++ play (stateOf w) (v .bodies) (length (v .done)) y .entries) others
+                      ∙ ap (λ (y : Listing). v .done ++ y .entries) (play-one (stateOf w) (v .bodies) (length (v .done)) one (head .others) other)
+                      ∙ sym (append-assoc (v .done) (d .entries) (play (d .after) (remember (v .bodies) one) (length (v .done) + length (d .entries)) (head .others) .entries))
+                      ∙ ap₂ (λ (u : State) (k : ℕ). (v .done ++ d .entries) ++ play u (remember (v .bodies) one) k (head .others) .entries) s (sym (length-append (v .done) (d .entries)));
+                  room = v .room;
+                }
 
 -- the list keeps its length in a turn
 pub list-long : {m : List ℕ} {ps : List Pattern} {old new new′ : List ℕ} {parts : List Part} {p : ℕ} {w w′ : Walk} {left i q : ℕ} {d : Played} → ListWalk m ps old new parts p w left → Advanced i d q new new′ w′ → length new′ ≡ length old

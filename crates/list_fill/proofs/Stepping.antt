@@ -19,29 +19,65 @@ use Rattle.tone.specs.Writing.{entryBits}
 use Rattle.tone.proofs.Rows.{length-entryBits}
 use Rattle.tone_elements.specs.Answers.{noteIn}
 use Rattle.list_rules.specs.declared.Settings.{Settings}
+use Rattle.list_rules.specs.declared.Lasted.{Lasted}
 use Rattle.list_fill.specs.declared.Walk.{Walk}
-use Rattle.list_rules.specs.Duration.{beats, units, microseconds}
-use Rattle.list_rules.specs.Sounding.{atStart, applied, sounded, packed}
+use Rattle.list_rules.specs.Duration.{beats, units, microseconds, leftOver}
+use Rattle.list_rules.specs.Sounding.{defaults, applied, atStart, unitsOf, fractionAfter, sounded, packed}
 use Rattle.list_rules.specs.Ranges.{InRange}
-use Rattle.list_rules.specs.Playing.{step}
-use Rattle.list_rules.specs.Tempo.{paceOf, baseOf}
-use Rattle.list_fill.specs.Filling.{entrySeen, Ready, Advanced}
+use Rattle.list_rules.specs.Playing.{begun, step}
+use Rattle.list_rules.specs.Tempo.{paceOf, Paced, baseOf}
+use Rattle.list_fill.specs.Filling.{entrySeen, stateOf, Ready, Begun, Advanced}
 use Rattle.list_rules.proofs.Bounds.{range-start, range-applied}
-use Rattle.list_rules.proofs.Durations.{slowest, pace-most, units-short, pace-lasts}
+use Rattle.list_rules.proofs.Durations.{units-short, left-below, beats-least, beats-most}
+use Rattle.list_rules.proofs.Restarts.{applied-tempo, tempo-restarts, note-leaves, others-carry}
 use Rattle.list_fill.proofs.Seeing.{seen-kind, seen-note, seen-entry, seen-small, width-some}
 
 -- ---- the start
 
-pub start-ready : {s : Settings} {b k : ℕ} (p : BitPlace) → s ≡ atStart → b ≡ baseOf s → k ≡ paceOf (beats (s .tempo)) → Ready (record { settings = s; base = b; pace = k; at = p; cells = 0 })
-start-ready p e f g = record { range = rw e range-start; based = f; paced = g }
+-- the beats of a tempo with their pace, where nothing is left over
+pub fresh : {s : Settings} {b k : ℕ} → InRange s → b ≡ beats (s .tempo) → k ≡ paceOf b → Paced 0 b k
+fresh r e f = let l = beats-least e (r .tempo) in record { slowest = l; fastest = beats-most e (r .tempo); below = omega arith; pace = f }
 
-pub start-range : {s : Settings} → s ≡ atStart → InRange s
+pub start-range : {s : Settings} → s ≡ defaults → InRange s
 start-range e = rw e range-start
 
-pub start-tempo : {s : Settings} → s ≡ atStart → s .tempo ≤ 31
+pub start-tempo : {s : Settings} → s ≡ defaults → s .tempo ≤ 31
 start-tempo e = start-range e .tempo
 
-pub ruleset starts = (start-ready, start-range, start-tempo)
+pub start-beats : {s : Settings} {b : ℕ} → s ≡ defaults → b ≡ beats (s .tempo) → 25 ≤ b
+start-beats e f = beats-least f (start-tempo e)
+
+pub start-ready : {s : Settings} {c b k : ℕ} (p : BitPlace) → s ≡ defaults → c ≡ baseOf s → b ≡ beats (s .tempo) → k ≡ paceOf b
+    → Ready (record { settings = s; fraction = 0; base = c; beats = b; pace = k; at = p; cells = 0 })
+start-ready p e f g h = let r = start-range e in record { range = r; based = f; beating = g; paced = fresh r g h }
+
+pub start-state : {s : Settings} → s ≡ defaults → record { settings = s; fraction = 0 } ≡ atStart
+start-state e = λ i. record { settings = e i; fraction = 0 }
+
+pub ruleset starts = (start-range, start-tempo, start-beats, start-ready, start-state)
+
+-- ---- a pass begins
+
+module _ (w : Walk) (from : BitPlace) (value : ℕ) (r : Ready w) where
+  -- with loop 15 nothing is left over
+  pub begins-restarted : value ≡ 15 → Begun value from w (record { settings = w .settings; fraction = 0; base = w .base; beats = w .beats; pace = w .pace; at = from; cells = w .cells })
+  begins-restarted e = record {
+    ready = record { range = r .range; based = r .based; beating = r .beating; paced = fresh (r .range) (r .beating) (r .paced .pace) };
+    state = rw (eq-eqb value 15 e) refl;
+    place = refl;
+    cells = refl;
+  }
+
+  -- with any other the state is carried on
+  pub begins-carried : (value ≡ 15 → ⊥) → Begun value from w (record { settings = w .settings; fraction = w .fraction; base = w .base; beats = w .beats; pace = w .pace; at = from; cells = w .cells })
+  begins-carried e = record {
+    ready = record { range = r .range; based = r .based; beating = r .beating; paced = r .paced };
+    state = rw (ne-eqb value 15 e) refl;
+    place = refl;
+    cells = refl;
+  }
+
+pub ruleset beginnings = (begins-restarted, begins-carried)
 
 -- ---- one instruction
 
@@ -50,22 +86,10 @@ applied-note : (s : Settings) (e : ℕ) → kind e ≡ 1 → applied s e ≡ s
 unfolding applied
 applied-note s e h = rw h
 
--- only a tempo changes the tempo
-applied-tempo : (s : Settings) (e : ℕ) → (kind e ≡ 4 → ⊥) → applied s e .tempo ≡ s .tempo
-unfolding applied
-applied-tempo s e h =
-    pick-elim (λ (r : Settings). r .tempo ≡ s .tempo) (eqb (kind e) 2) (λ _. refl) (λ _.
-    pick-elim (λ (r : Settings). r .tempo ≡ s .tempo) (eqb (kind e) 3) (λ _. refl) (λ _. rw (ne-eqb (kind e) 4 h) (
-    pick-elim (λ (r : Settings). r .tempo ≡ s .tempo) (eqb (kind e) 5) (λ _. refl) (λ _. refl))))
-
 -- a tempo changes nothing else
 applied-base : (s : Settings) (e : ℕ) → kind e ≡ 4 → baseOf (applied s e) ≡ baseOf s
 unfolding applied
 applied-base s e h = rw h
-
--- no pace is longer than that of the slowest tempo
-pub step-pace : {w : Walk} → Ready w → w .pace ≤ 26214400001
-step-pace {w} r = rw (r .paced) (pace-most (beats (w .settings .tempo)) (slowest (w .settings .tempo) (omega (arith, r .range .tempo))))
 
 pub step-kind : (x : ℕ) → Instruction (entrySeen x) → x / 2 ^ 61 ≤ 5
 step-kind x i = omega (arith, seen-kind x, i .inTable .known)
@@ -112,21 +136,26 @@ module _ (x : ℕ) (h : x / 2 ^ 61 ≡ 1) where
     pub step-second : (v : ℕ) → w .cells + 1 < length (set old (w .cells) v)
     step-second v = rw (length-set old (w .cells) v) (omega (arith, i .1, one-note))
 
-    pub step-note : {u v : ℕ} → Ready w → u ≡ units (x / 2 ^ 54 % 8) (x / 2 ^ 52 % 4) → v ≡ u * w .pace / 2 ^ 20
-        → Advanced (w .cells) (step (w .settings) (entrySeen x)) (w .at .0 + length (entryBits (entrySeen x))) old
-        (set (set old (w .cells) (x / 2 ^ 57 % 16 * 1024 + w .base)) (w .cells + 1) v)
-        (record { settings = w .settings; base = w .base; pace = w .pace; at = place (w .at .0 + 12); cells = w .cells + 2 })
+    pub step-note : {u : ℕ} {t : Lasted} → Ready w → u ≡ units (x / 2 ^ 54 % 8) (x / 2 ^ 52 % 4) → (t .microseconds ≡ microseconds (w .fraction) u (w .beats)) × (t .fraction ≡ leftOver (w .fraction) u (w .beats))
+        → Advanced (w .cells) (step (stateOf w) (entrySeen x)) (w .at .0 + length (entryBits (entrySeen x))) old
+        (set (set old (w .cells) (x / 2 ^ 57 % 16 * 1024 + w .base)) (w .cells + 1) (t .microseconds))
+        (record { settings = w .settings; fraction = t .fraction; base = w .base; beats = w .beats; pace = w .pace; at = place (w .at .0 + 12); cells = w .cells + 2 })
     unfolding step sounded
-    step-note {u} {v} r f g =
-        let b = beats (w .settings .tempo) in
-        let first : noteOf (noteSeen x) * 1024 + w .base ≡ packed (sounded (w .settings) (payload (entrySeen x))) = omega (arith, r .based, seen-note x h) in
-        let second : v ≡ sounded (w .settings) (payload (entrySeen x)) .microseconds =
-        g ∙ ap₂ (λ (y z : ℕ). y * z / 2 ^ 20) (f ∙ ap₂ units (duration-seen x) (specifier-seen x)) (r .paced)
-        ∙ pace-lasts (durationOf (noteSeen x)) (specifierOf (noteSeen x)) (w .settings .tempo) (r .range .tempo)
-        ∙ ap (λ (y : ℕ). microseconds (units (durationOf y) (specifierOf y)) b) (sym (seen-note x h)) in
+    step-note {u} {t} r f g =
+        let p = payload (entrySeen x) in
+        let same : u ≡ unitsOf p = f ∙ ap₂ units (duration-seen x) (specifier-seen x) ∙ ap unitsOf (sym (seen-note x h)) in
+        let first : noteOf (noteSeen x) * 1024 + w .base ≡ packed (sounded (stateOf w) p) = omega (arith, r .based, seen-note x h) in
+        let second : t .microseconds ≡ sounded (stateOf w) p .microseconds = g .0 ∙ ap₂ (microseconds (w .fraction)) same (r .beating) in
+        let third : t .fraction ≡ fractionAfter (stateOf w) (entrySeen x) = g .1 ∙ ap₂ (leftOver (w .fraction)) same (r .beating) ∙ sym (note-leaves (stateOf w) (entrySeen x) note) in
+        let some : 0 < w .beats = omega (arith, r .paced .below) in
         record {
-          settings = sym (applied-note (w .settings) (entrySeen x) note);
-          ready = record { range = r .range; based = r .based; paced = r .paced };
+          state = λ i. record { settings = sym (applied-note (w .settings) (entrySeen x) note) i; fraction = third i };
+          ready = record {
+            range = r .range;
+            based = r .based;
+            beating = r .beating;
+            paced = record { slowest = r .paced .slowest; fastest = r .paced .fastest; below = rw (g .1) (left-below (w .fraction) u (w .beats) some); pace = r .paced .pace };
+          };
           place = ap (λ (n : ℕ). w .at .0 + n) (sym twelve);
           cells = rw (eq-eqb (kind (entrySeen x)) 1 note) refl;
           list = rw (pitch-seen x, eq-eqb (kind (entrySeen x)) 1 note, first, second, add-one (w .cells)) refl;
@@ -155,26 +184,35 @@ module _ {w : Walk} (x : ℕ) {n : ℕ} {s : Settings} (after : s ≡ applied (w
   pub step-slow : s .tempo ≤ 31
   step-slow = step-range .tempo
 
+  pub step-beats : {a : ℕ} → a ≡ beats (s .tempo) → 25 ≤ a
+  step-beats e = beats-least e step-slow
+
   module _ (h : x / 2 ^ 61 ≡ 1 → ⊥) (old : List ℕ) where
-    moved : {c k : ℕ} → c ≡ baseOf s → k ≡ paceOf (beats (s .tempo))
-        → Advanced (w .cells) (step (w .settings) (entrySeen x)) (w .at .0 + length (entryBits (entrySeen x))) old old (record { settings = s; base = c; pace = k; at = place (w .at .0 + 3 + n); cells = w .cells })
+    other : kind (entrySeen x) ≡ 1 → ⊥
+    other z = h (sym (seen-kind x) ∙ z)
+
+    moved : {f c a k : ℕ} → f ≡ fractionAfter (stateOf w) (entrySeen x) → c ≡ baseOf s → a ≡ beats (s .tempo) → Paced f a k
+        → Advanced (w .cells) (step (stateOf w) (entrySeen x)) (w .at .0 + length (entryBits (entrySeen x))) old old (record { settings = s; fraction = f; base = c; beats = a; pace = k; at = place (w .at .0 + 3 + n); cells = w .cells })
     unfolding step
-    moved f g =
-        let other : kind (entrySeen x) ≡ 1 → ⊥ = λ z. h (sym (seen-kind x) ∙ z) in
+    moved e f g p =
         record {
-          settings = same;
-          ready = record { range = step-range; based = f; paced = g };
+          state = λ j. record { settings = same j; fraction = e j };
+          ready = record { range = step-range; based = f; beating = g; paced = p };
           place = omega (arith, length-entryBits (entrySeen x), ap width (seen-kind x), b .0);
           cells = rw (ne-eqb (kind (entrySeen x)) 1 other) (sym (add-zero (w .cells)));
           list = rw (ne-eqb (kind (entrySeen x)) 1 other) refl;
         }
 
-    pub step-tempo : {k : ℕ} → x / 2 ^ 61 ≡ 4 → k ≡ paceOf (beats (s .tempo))
-        → Advanced (w .cells) (step (w .settings) (entrySeen x)) (w .at .0 + length (entryBits (entrySeen x))) old old (record { settings = s; base = w .base; pace = k; at = place (w .at .0 + 3 + n); cells = w .cells })
-    step-tempo z g = moved (r .based ∙ sym (ap baseOf same ∙ applied-base (w .settings) (entrySeen x) (seen-kind x ∙ z))) g
+    pub step-tempo : {a k : ℕ} → x / 2 ^ 61 ≡ 4 → a ≡ beats (s .tempo) → k ≡ paceOf a
+        → Advanced (w .cells) (step (stateOf w) (entrySeen x)) (w .at .0 + length (entryBits (entrySeen x))) old old (record { settings = s; fraction = 0; base = w .base; beats = a; pace = k; at = place (w .at .0 + 3 + n); cells = w .cells })
+    step-tempo z e g =
+        let tempo : kind (entrySeen x) ≡ 4 = seen-kind x ∙ z in
+        moved (sym (tempo-restarts (stateOf w) (entrySeen x) tempo)) (r .based ∙ sym (ap baseOf same ∙ applied-base (w .settings) (entrySeen x) tempo)) e (fresh step-range e g)
 
     pub step-other : {c : ℕ} → (x / 2 ^ 61 ≡ 4 → ⊥) → c ≡ baseOf s
-        → Advanced (w .cells) (step (w .settings) (entrySeen x)) (w .at .0 + length (entryBits (entrySeen x))) old old (record { settings = s; base = c; pace = w .pace; at = place (w .at .0 + 3 + n); cells = w .cells })
-    step-other z f = moved f (r .paced ∙ ap (λ (t : ℕ). paceOf (beats t)) (sym (ap (λ (t : Settings). t .tempo) same ∙ applied-tempo (w .settings) (entrySeen x) (λ y. z (sym (seen-kind x) ∙ y)))))
+        → Advanced (w .cells) (step (stateOf w) (entrySeen x)) (w .at .0 + length (entryBits (entrySeen x))) old old (record { settings = s; fraction = w .fraction; base = c; beats = w .beats; pace = w .pace; at = place (w .at .0 + 3 + n); cells = w .cells })
+    step-other z f =
+        let steady : kind (entrySeen x) ≡ 4 → ⊥ = λ y. z (sym (seen-kind x) ∙ y) in
+        moved (sym (others-carry (stateOf w) (entrySeen x) other steady)) f (r .beating ∙ ap beats (sym (ap (λ (t : Settings). t .tempo) same ∙ applied-tempo (w .settings) (entrySeen x) steady))) (r .paced)
 
-pub ruleset steps = (units-short, step-pace, step-kind, step-duration, step-first, step-second, step-note, step-shift, step-cast, step-sum, step-range, step-slow, step-tempo, step-other)
+pub ruleset steps = (units-short, step-kind, step-duration, step-first, step-second, step-note, step-shift, step-cast, step-sum, step-range, step-slow, step-beats, step-tempo, step-other)

@@ -6,6 +6,8 @@ use mathlib.Core.Path.{_≡_, refl, sym, ap, ap₂, subst, _∙_}
 use mathlib.Core.List.{List, [], _∷_, _++_, append-assoc, append-nil}
 use lib.ListN.{length, set, drop, length-append}
 use lib.Seq.{sets, length-sets}
+use lib.Dec.{eqb}
+use Rattle.bits.proofs.Choice.{pick-elim}
 use Rattle.bits.specs.Bits.{bitsOf}
 use Rattle.bits.specs.Window.{Sight}
 use Rattle.bits.specs.declared.BitPlace.{BitPlace}
@@ -16,12 +18,12 @@ use Rattle.tone.specs.Writing.{entryBits}
 use Rattle.tone.proofs.Exact.{Accepted}
 use Rattle.tone.proofs.Rows.{instruction-exact, body-exact}
 use Rattle.tone_elements.specs.Answers.{noteIn, notes}
-use Rattle.list_rules.specs.declared.Settings.{Settings}
 use Rattle.list_rules.specs.declared.Entry.{Entry}
 use Rattle.list_fill.specs.declared.Walk.{Walk}
-use Rattle.list_rules.specs.Sounding.{numbers}
-use Rattle.list_rules.specs.Playing.{Played, ahead, step, pass, passes}
-use Rattle.list_fill.specs.Filling.{entrySeen, Ready, Advanced}
+use Rattle.list_rules.specs.Sounding.{State, numbers}
+use Rattle.list_rules.specs.Playing.{Played, ahead, step, pass, begun, onePass, passes}
+use Rattle.list_count.specs.Bodies.{passesOf}
+use Rattle.list_fill.specs.Filling.{entrySeen, stateOf, Ready, Begun, Advanced}
 use Rattle.tone_elements.specs.Standing.{bodyIn, behindIn, BodyAt}
 use Rattle.list_rules.proofs.Packing.{length-numbers, numbers-append}
 use Rattle.list_rules.proofs.Counts.{pass-count, passes-count}
@@ -38,8 +40,8 @@ sets-append l i (v ∷ a) b =
     let e : i + suc (length a) ≡ suc i + length a = omega arith in
     ap (λ (n : ℕ). sets (sets (set l i v) (suc i) a) n b) e ∙ sets-append (set l i v) (suc i) a b
 
-nothing-yet : (w : Walk) (old : List ℕ) → Ready w → Advanced (w .cells) (record { entries = []; after = w .settings }) (w .at .0) old old w
-nothing-yet w old h = record { settings = refl; ready = h; place = refl; cells = sym (add-zero (w .cells)); list = refl }
+nothing-yet : (w : Walk) (old : List ℕ) → Ready w → Advanced (w .cells) (record { entries = []; after = stateOf w }) (w .at .0) old old w
+nothing-yet w old h = record { state = refl; ready = h; place = refl; cells = sym (add-zero (w .cells)); list = refl }
 
 -- what is played next is written next
 pub and-then : {i : ℕ} {d f : Played} {q q′ : ℕ} {old mid new : List ℕ} {w w′ : Walk} → Advanced i d q old mid w → Advanced (w .cells) f q′ mid new w′ → Advanced i (ahead (d .entries) f) q′ old new w′
@@ -47,7 +49,7 @@ and-then {i} {d} {f} {old = old} {w = w} a b =
     let k = length-append (d .entries) (f .entries) in
     let n : i + length (numbers (d .entries)) ≡ w .cells = ap (λ (x : ℕ). i + x) (length-numbers (d .entries)) ∙ sym (a .cells) in
     record {
-      settings = b .settings;
+      state = b .state;
       ready = b .ready;
       place = b .place;
       cells = omega (arith, a .cells, b .cells);
@@ -63,11 +65,11 @@ ahead-twice : (a b : List Entry) (d : Played) → ahead a (ahead b d) ≡ ahead 
 ahead-twice a b d = λ i. record { entries = sym (append-assoc a b (d .entries)) i; after = d .after }
 
 -- with nothing more to play
-all-played : {i : ℕ} {d f : Played} {q q′ : ℕ} {old new : List ℕ} {w : Walk} → Advanced i d q old new w → f ≡ ahead (d .entries) (record { entries = []; after = w .settings }) → q ≡ q′ → Advanced i f q′ old new w
+all-played : {i : ℕ} {d f : Played} {q q′ : ℕ} {old new : List ℕ} {w : Walk} → Advanced i d q old new w → f ≡ ahead (d .entries) (record { entries = []; after = stateOf w }) → q ≡ q′ → Advanced i f q′ old new w
 all-played {i} {d} {old = old} a e z =
     let n = append-nil (d .entries) in
     rw e (record {
-      settings = refl;
+      state = refl;
       ready = a .ready;
       place = a .place ∙ z;
       cells = a .cells ∙ ap (λ (rs : List Entry). i + 2 * length rs) (sym n);
@@ -75,7 +77,7 @@ all-played {i} {d} {old = old} a e z =
     })
 
 here-now : {i : ℕ} {d : Played} {q : ℕ} {old new : List ℕ} {w : Walk} → Advanced i d q old new w → Advanced i d (w .at .0) old new w
-here-now a = record { settings = a .settings; ready = a .ready; place = refl; cells = a .cells; list = a .list }
+here-now a = record { state = a .state; ready = a .ready; place = refl; cells = a .cells; list = a .list }
 
 -- ---- the instructions of a body
 
@@ -115,7 +117,7 @@ split-of m k p left {b} {q} h e =
     record { front = i .0; others = j .0; behind = i .1; body = j .2; first = i .2; more = j .1 }
 
 -- two bodies on end are played on end
-pass-append : (s : Settings) (a b : List ℕ) → pass s (a ++ b) ≡ ahead (pass s a .entries) (pass (pass s a .after) b)
+pass-append : (s : State) (a b : List ℕ) → pass s (a ++ b) ≡ ahead (pass s a .entries) (pass (pass s a .after) b)
 pass-append s [] b = refl
 pass-append s (e ∷ a) b =
     let d = step s e in
@@ -123,24 +125,20 @@ pass-append s (e ∷ a) b =
 
 -- ---- one pass
 
--- with `left` instructions to come at the walk's place, of the body b that began behind the first i cells with the settings s
-pub record PassWalk (m : List ℕ) (s : Settings) (b : List ℕ) (i q : ℕ) (old new : List ℕ) (w : Walk) (left : ℕ) : Type 0 where
+-- with `left` instructions to come at the walk's place, of the body b that began behind the first i cells from the state s
+pub record PassWalk (m : List ℕ) (s : State) (b : List ℕ) (i q : ℕ) (old new : List ℕ) (w : Walk) (left : ℕ) : Type 0 where
   pub done : Played
   pub others : List ℕ
   pub stands : BodyAt m (w .at .0) left others q
   pub advanced : Advanced i done (w .at .0) old new w
-  pub goes : pass s b ≡ ahead (done .entries) (pass (w .settings) others)
+  pub goes : pass s b ≡ ahead (done .entries) (pass (stateOf w) others)
   pub room : i + 2 * notes b ≤ length old
 
-begins : {m : List ℕ} {b : List ℕ} {q n : ℕ} {old : List ℕ} (w : Walk) → Ready w → BodyAt m (w .at .0) n b q → w .cells + 2 * notes b ≤ length old
-    → PassWalk m (w .settings) b (w .cells) q old old w n
-begins {b = b} {old = old} w r h k = record { done = record { entries = []; after = w .settings }; others = b; stands = h; advanced = nothing-yet w old r; goes = refl; room = k }
+pub pass-begins : {m : List ℕ} {b : List ℕ} {q n : ℕ} {old : List ℕ} (w : Walk) → Ready w → BodyAt m (w .at .0) n b q → w .cells + 2 * notes b ≤ length old
+    → PassWalk m (stateOf w) b (w .cells) q old old w n
+pass-begins {b = b} {old = old} w r h k = record { done = record { entries = []; after = stateOf w }; others = b; stands = h; advanced = nothing-yet w old r; goes = refl; room = k }
 
-pub pass-begins : {m : List ℕ} {b : List ℕ} {q n : ℕ} {old : List ℕ} (w : Walk) (from : BitPlace) → Ready w → BodyAt m (from .0) n b q → w .cells + 2 * notes b ≤ length old
-    → PassWalk m (w .settings) b (w .cells) q old old (record { settings = w .settings; base = w .base; pace = w .pace; at = from; cells = w .cells }) n
-pass-begins w from r h k = begins (record { settings = w .settings; base = w .base; pace = w .pace; at = from; cells = w .cells }) (record { range = r .range; based = r .based; paced = r .paced }) h k
-
-module _ {m : List ℕ} {s : Settings} {b : List ℕ} {i q : ℕ} {old new : List ℕ} {w : Walk} {left : ℕ} (v : PassWalk m s b i q old new w left) where
+module _ {m : List ℕ} {s : State} {b : List ℕ} {i q : ℕ} {old new : List ℕ} {w : Walk} {left : ℕ} (v : PassWalk m s b i q old new w left) where
   pub pass-long : length new ≡ length old
   pass-long = advanced-long (v .advanced)
 
@@ -148,12 +146,12 @@ module _ {m : List ℕ} {s : Settings} {b : List ℕ} {i q : ℕ} {old new : Lis
   left-room : w .cells + 2 * notes (v .others) ≤ length new
   left-room =
       let n : notes b ≡ length (v .done .entries) + notes (v .others) =
-      sym (pass-count s b) ∙ ap (λ (d : Played). length (d .entries)) (v .goes) ∙ length-append (v .done .entries) (pass (w .settings) (v .others) .entries)
-      ∙ ap (λ (x : ℕ). length (v .done .entries) + x) (pass-count (w .settings) (v .others)) in
+      sym (pass-count s b) ∙ ap (λ (d : Played). length (d .entries)) (v .goes) ∙ length-append (v .done .entries) (pass (stateOf w) (v .others) .entries)
+      ∙ ap (λ (x : ℕ). length (v .done .entries) + x) (pass-count (stateOf w) (v .others)) in
       omega (arith, v .advanced .cells, v .room, pass-long)
 
   -- what is played next, and what is left then
-  go-on : {d : Played} {p n : ℕ} {rest : List ℕ} {new′ : List ℕ} {w′ : Walk} → Advanced (w .cells) d p new new′ w′ → pass (w .settings) (v .others) ≡ ahead (d .entries) (pass (d .after) rest)
+  go-on : {d : Played} {p n : ℕ} {rest : List ℕ} {new′ : List ℕ} {w′ : Walk} → Advanced (w .cells) d p new new′ w′ → pass (stateOf w) (v .others) ≡ ahead (d .entries) (pass (d .after) rest)
       → bodyDue n (bitsOf m) p ≡ got rest q → p ≤ length (bitsOf m) → n ≤ 255 → PassWalk m s b i q old new′ w′ n
   go-on {d} {rest = rest} a e more inside short = record {
     done = ahead (v .done .entries) d;
@@ -165,7 +163,7 @@ module _ {m : List ℕ} {s : Settings} {b : List ℕ} {i q : ℕ} {old new : Lis
     };
     advanced = here-now (and-then (v .advanced) a);
     goes = v .goes ∙ ap (ahead (v .done .entries)) e ∙ ahead-twice (v .done .entries) (d .entries) (pass (d .after) rest)
-        ∙ ap (λ (r : Settings). ahead (v .done .entries ++ d .entries) (pass r rest)) (sym (a .settings));
+        ∙ ap (λ (r : State). ahead (v .done .entries ++ d .entries) (pass r rest)) (sym (a .state));
     room = v .room;
   }
 
@@ -186,36 +184,36 @@ module _ {m : List ℕ} {s : Settings} {b : List ℕ} {i q : ℕ} {old new : Lis
     pub pass-fits : w .cells + 2 * notes (bodyIn m (w .at .0) k) ≤ length new
     pass-fits = omega (arith, left-room, ap notes (split .body) ∙ notes-more (split .front) (split .others), ap notes front)
 
-    pub pass-on : {new′ : List ℕ} {w′ : Walk} → Advanced (w .cells) (pass (w .settings) (bodyIn m (w .at .0) k)) (behindIn m (w .at .0) k) new new′ w′
+    pub pass-on : {new′ : List ℕ} {w′ : Walk} → Advanced (w .cells) (pass (stateOf w) (bodyIn m (w .at .0) k)) (behindIn m (w .at .0) k) new new′ w′
         → PassWalk m s b i q old new′ w′ (left - k)
     pass-on a =
         let read = body-exact k .sound (bitsOf m) (w .at .0) (rw (length-bitsOf m) (v .stands .within .inside)) (split .first) in
-        go-on {rest = split .others} a (ap (pass (w .settings)) (split .body) ∙ pass-append (w .settings) (split .front) (split .others) ∙ ap (λ (x : List ℕ). ahead (pass (w .settings) x .entries) (pass (pass (w .settings) x .after) (split .others))) (sym front))
+        go-on {rest = split .others} a (ap (pass (stateOf w)) (split .body) ∙ pass-append (stateOf w) (split .front) (split .others) ∙ ap (λ (x : List ℕ). ahead (pass (stateOf w) x .entries) (pass (pass (stateOf w) x .after) (split .others))) (sym front))
         (rw behind (split .more)) (rw behind (read .inside)) (omega (arith, v .stands .short))
 
-pub pass-done : {m : List ℕ} {s : Settings} {b : List ℕ} {i q : ℕ} {old new : List ℕ} {w : Walk} {left : ℕ} → PassWalk m s b i q old new w left → left ≤ 0 → Advanced i (pass s b) q old new w
+pub pass-done : {m : List ℕ} {s : State} {b : List ℕ} {i q : ℕ} {old new : List ℕ} {w : Walk} {left : ℕ} → PassWalk m s b i q old new w left → left ≤ 0 → Advanced i (pass s b) q old new w
 unfolding bodyDue
 pass-done {m} {s} {b} {q = q} {w = w} {left} v h =
     let z : left ≡ 0 = omega arith in
     let e : got [] (w .at .0) ≡ got (v .others) q = subst (λ (x : ℕ). bodyDue x (bitsOf m) (w .at .0) ≡ got (v .others) q) z (v .stands .reads) in
     let e₁ : v .others ≡ [] = cc in
     let e₂ : w .at .0 ≡ q = cc in
-    all-played (v .advanced) (v .goes ∙ ap (λ (x : List ℕ). ahead (v .done .entries) (pass (w .settings) x)) e₁) e₂
+    all-played (v .advanced) (v .goes ∙ ap (λ (x : List ℕ). ahead (v .done .entries) (pass (stateOf w) x)) e₁) e₂
 
 pub ruleset passings = (pass-begins, pass-long, pass-few, pass-fits, pass-on, pass-done)
 
 -- ---- some instructions in one sight
 
 -- the same within one sight, that was taken at a place
-pub record FewWalk (m : List ℕ) (s : Settings) (b : List ℕ) (at i q : ℕ) (old new : List ℕ) (w : Walk) (left : ℕ) : Type 0 where
+pub record FewWalk (m : List ℕ) (s : State) (b : List ℕ) (at i q : ℕ) (old new : List ℕ) (w : Walk) (left : ℕ) : Type 0 where
   pub walked : PassWalk m s b i q old new w left
   pub seen : InSight at (w .at .0) left
 
 pub few-begins : {m : List ℕ} {b : List ℕ} {q n : ℕ} {old : List ℕ} (w : Walk) → Ready w × (n ≤ 4) → BodyAt m (w .at .0) n b q → w .cells + 2 * notes b ≤ length old
-    → FewWalk m (w .settings) b (w .at .0) (w .cells) q old old w n
-few-begins {n = n} w r h k = record { walked = begins w (r .0) h k; seen = sight-begins (w .at .0) n (r .1) }
+    → FewWalk m (stateOf w) b (w .at .0) (w .cells) q old old w n
+few-begins {n = n} w r h k = record { walked = pass-begins w (r .0) h k; seen = sight-begins (w .at .0) n (r .1) }
 
-module _ {m : List ℕ} {s : Settings} {b : List ℕ} {at i q : ℕ} {old new : List ℕ} {w : Walk} {left : ℕ} (f : FewWalk m s b at i q old new w left) where
+module _ {m : List ℕ} {s : State} {b : List ℕ} {at i q : ℕ} {old new : List ℕ} {w : Walk} {left : ℕ} (f : FewWalk m s b at i q old new w left) where
   pub few-ready : Ready w
   few-ready = f .walked .advanced .ready
 
@@ -256,15 +254,15 @@ module _ {m : List ℕ} {s : Settings} {b : List ℕ} {at i q : ℕ} {old new : 
       pub few-room : w .cells + 2 * noteIn (entrySeen y) ≤ length new
       few-room = omega (arith, left-room (f .walked), ap notes (head .body), ap noteIn same)
 
-      pub few-on : {new′ : List ℕ} {w′ : Walk} → Advanced (w .cells) (step (w .settings) (entrySeen y)) (w .at .0 + length (entryBits (entrySeen y))) new new′ w′
+      pub few-on : {new′ : List ℕ} {w′ : Walk} → Advanced (w .cells) (step (stateOf w) (entrySeen y)) (w .at .0 + length (entryBits (entrySeen y))) new new′ w′
           → FewWalk m s b at i q old new′ w′ (left - 1)
       unfolding step
       few-on {new′} {w′} a =
           let z : w .at .0 + length (entryBits (entrySeen y)) ≡ head .behind = ap (λ (c : ℕ). w .at .0 + length (entryBits c)) same ∙ sym (taken .end) in
-          let d : Advanced (w .cells) (step (w .settings) (head .entry)) (head .behind) new new′ w′ =
-          subst (λ (c : ℕ). Advanced (w .cells) (step (w .settings) c) (head .behind) new new′ w′) same (subst (λ (p : ℕ). Advanced (w .cells) (step (w .settings) (entrySeen y)) p new new′ w′) z a) in
+          let d : Advanced (w .cells) (step (stateOf w) (head .entry)) (head .behind) new new′ w′ =
+          subst (λ (c : ℕ). Advanced (w .cells) (step (stateOf w) c) (head .behind) new new′ w′) same (subst (λ (p : ℕ). Advanced (w .cells) (step (stateOf w) (entrySeen y)) p new new′ w′) z a) in
           record {
-            walked = go-on (f .walked) d (ap (pass (w .settings)) (head .body)) (head .more) (taken .inside) (omega (arith, f .walked .stands .short));
+            walked = go-on (f .walked) d (ap (pass (stateOf w)) (head .body)) (head .more) (taken .inside) (omega (arith, f .walked .stands .short));
             seen = rw (d .place) (sight-next (f .seen) h m (f .walked .stands .within .inside) (head .first));
           }
 
@@ -275,33 +273,46 @@ pub ruleset seeings = (few-begins, few-ready, few-long, few-back, few-near, few-
 
 -- ---- so many passes
 
--- with `left` of so many passes to come, of a body b that began behind the first i cells with the settings s; behind a pass the walk
--- is behind the body, at q
-pub record TimesWalk (s : Settings) (b : List ℕ) (i q : ℕ) (old new : List ℕ) (w : Walk) (times left : ℕ) : Type 0 where
+-- with `left` of the passes of a loop value to come, of the n instructions at a place, that began behind the first i cells from the
+-- state s; behind a pass the walk is behind the body
+pub record TimesWalk (m : List ℕ) (from : BitPlace) (n value : ℕ) (s : State) (i : ℕ) (old new : List ℕ) (w : Walk) (left : ℕ) : Type 0 where
   pub done : Played
   pub advanced : Advanced i done (w .at .0) old new w
-  pub goes : passes times s b ≡ ahead (done .entries) (passes left (w .settings) b)
-  pub behind : left < times → w .at .0 ≡ q
-  pub room : i + 2 * (notes b * times) ≤ length old
+  pub goes : passes value (passesOf value) s (bodyIn m (from .0) n) ≡ ahead (done .entries) (passes value left (stateOf w) (bodyIn m (from .0) n))
+  pub behind : left < passesOf value → w .at .0 ≡ behindIn m (from .0) n
+  pub room : i + 2 * (notes (bodyIn m (from .0) n) * passesOf value) ≤ length old
 
-one-pass-more : (times : ℕ) (s : Settings) (b : List ℕ) → 1 ≤ times → passes times s b ≡ ahead (pass s b .entries) (passes (times - 1) (pass s b .after) b)
-one-pass-more times s b h = let e : times ≡ suc (times - 1) = omega arith in ap (λ (n : ℕ). passes n s b) e
+passes-some : (value : ℕ) → 1 ≤ passesOf value
+unfolding passesOf
+passes-some value = pick-elim (λ (n : ℕ). 1 ≤ n) (eqb value 15) (λ _. omega arith) (λ _. omega arith)
+
+one-pass-more : (value times : ℕ) (s : State) (b : List ℕ) → 1 ≤ times → passes value times s b ≡ ahead (onePass value s b .entries) (passes value (times - 1) (onePass value s b .after) b)
+one-pass-more value times s b h = let e : times ≡ suc (times - 1) = omega arith in ap (λ (n : ℕ). passes value n s b) e
 
 one-time-more : (k times : ℕ) → 1 ≤ times → k * times ≡ k + k * (times - 1)
 one-time-more k times h = let e : times ≡ suc (times - 1) = omega arith in ap (λ (n : ℕ). k * n) e ∙ mul-suc k (times - 1) ∙ omega arith
 
 -- before the first pass
-pub times-begin : (w : Walk) (b : List ℕ) (q : ℕ) {old : List ℕ} {times : ℕ} → Ready w → (1 ≤ times) × (times ≤ 15) × (w .cells + 2 * (notes b * times) ≤ length old)
-    → TimesWalk (w .settings) b (w .cells) q old old w times times
-times-begin w b q {old} r h = record {
-  done = record { entries = []; after = w .settings };
+pub times-begin : (m : List ℕ) (from : BitPlace) (n : ℕ) (w : Walk) {value left : ℕ} {old : List ℕ} → Ready w → w .cells + 2 * (notes (bodyIn m (from .0) n) * passesOf value) ≤ length old → left ≡ passesOf value
+    → TimesWalk m from n value (stateOf w) (w .cells) old old w left
+times-begin m from n w {value} {left} {old} r h e = record {
+  done = record { entries = []; after = stateOf w };
   advanced = nothing-yet w old r;
-  goes = refl;
-  behind = λ l. absurd (omega arith);
-  room = h .2;
+  goes = ap (λ (k : ℕ). passes value k (stateOf w) (bodyIn m (from .0) n)) (sym e);
+  behind = λ l. absurd (omega (arith, e));
+  room = h;
 }
 
-module _ {s : Settings} {b : List ℕ} {i q : ℕ} {old new : List ℕ} {w : Walk} {times left : ℕ} (v : TimesWalk s b i q old new w times left) where
+-- a pass from where it begins is a pass of the rule
+pass-of : (m : List ℕ) (n : ℕ) {value : ℕ} {from : BitPlace} {new new′ : List ℕ} {w w₁ w′ : Walk} → Begun value from w w₁
+    → Advanced (w₁ .cells) (pass (stateOf w₁) (bodyIn m (w₁ .at .0) n)) (behindIn m (w₁ .at .0) n) new new′ w′
+    → Advanced (w .cells) (onePass value (stateOf w) (bodyIn m (from .0) n)) (behindIn m (from .0) n) new new′ w′
+pass-of m n g a = rw (g .cells, g .state, g .place) at a
+
+module _ {m : List ℕ} {from : BitPlace} {n value : ℕ} {s : State} {i : ℕ} {old new : List ℕ} {w : Walk} {left : ℕ} (v : TimesWalk m from n value s i old new w left) where
+  abbrev b : List ℕ
+  b = bodyIn m (from .0) n
+
   pub times-ready : Ready w
   times-ready = v .advanced .ready
 
@@ -309,28 +320,42 @@ module _ {s : Settings} {b : List ℕ} {i q : ℕ} {old new : List ℕ} {w : Wal
   times-long = advanced-long (v .advanced)
 
   module _ (h : 0 < left) where
-    pub times-room : w .cells + 2 * notes b ≤ length new
-    times-room =
-        let n : notes b * times ≡ length (v .done .entries) + notes b * left =
-        sym (passes-count times s b) ∙ ap (λ (d : Played). length (d .entries)) (v .goes) ∙ length-append (v .done .entries) (passes left (w .settings) b .entries)
-        ∙ ap (λ (x : ℕ). length (v .done .entries) + x) (passes-count left (w .settings) b) in
+    room-left : w .cells + 2 * notes b ≤ length new
+    room-left =
+        let k : notes b * passesOf value ≡ length (v .done .entries) + notes b * left =
+        sym (passes-count value (passesOf value) s b) ∙ ap (λ (d : Played). length (d .entries)) (v .goes) ∙ length-append (v .done .entries) (passes value left (stateOf w) b .entries)
+        ∙ ap (λ (x : ℕ). length (v .done .entries) + x) (passes-count value left (stateOf w) b) in
         omega (arith, one-time-more (notes b) left h, v .advanced .cells, v .room, times-long)
 
-    pub times-on : {new′ : List ℕ} {w′ : Walk} → Advanced (w .cells) (pass (w .settings) b) q new new′ w′ → TimesWalk s b i q old new′ w′ times (left - 1)
-    times-on a = record {
-      done = ahead (v .done .entries) (pass (w .settings) b);
-      advanced = here-now (and-then (v .advanced) a);
-      goes = v .goes ∙ ap (ahead (v .done .entries)) (one-pass-more left (w .settings) b h)
-          ∙ ahead-twice (v .done .entries) (pass (w .settings) b .entries) (passes (left - 1) (pass (w .settings) b .after) b)
-          ∙ ap (λ (r : Settings). ahead (v .done .entries ++ pass (w .settings) b .entries) (passes (left - 1) r b)) (sym (a .settings));
-      behind = λ l. a .place;
-      room = v .room;
-    }
+    module _ {w₁ : Walk} (g : Begun value from w w₁) where
+      pub times-room : w₁ .cells + 2 * notes (bodyIn m (w₁ .at .0) n) ≤ length new
+      times-room = rw (g .cells, g .place) room-left
+
+      pub times-on : {new′ : List ℕ} {w′ : Walk} → Advanced (w₁ .cells) (pass (stateOf w₁) (bodyIn m (w₁ .at .0) n)) (behindIn m (w₁ .at .0) n) new new′ w′
+          → TimesWalk m from n value s i old new′ w′ (left - 1)
+      times-on a′ =
+          let a = pass-of m n g a′ in
+          let d = onePass value (stateOf w) b in
+          record {
+            done = ahead (v .done .entries) d;
+            advanced = here-now (and-then (v .advanced) a);
+            goes = v .goes ∙ ap (ahead (v .done .entries)) (one-pass-more value left (stateOf w) b h)
+                ∙ ahead-twice (v .done .entries) (d .entries) (passes value (left - 1) (d .after) b)
+                ∙ ap (λ (r : State). ahead (v .done .entries ++ d .entries) (passes value (left - 1) r b)) (sym (a .state));
+            behind = λ l. a .place;
+            room = v .room;
+          }
 
   -- there is one pass at least, so the walk is behind the body
-  pub times-done : 1 ≤ times → left ≤ 0 → Advanced i (passes times s b) q old new w
-  times-done some l =
+  pub times-done : left ≤ 0 → Advanced i (passes value (passesOf value) s b) (behindIn m (from .0) n) old new w
+  times-done l =
+      let some = passes-some value in
       let z : left ≡ 0 = omega arith in
-      all-played (v .advanced) (v .goes ∙ ap (λ (n : ℕ). ahead (v .done .entries) (passes n (w .settings) b)) z) (v .behind (omega arith))
+      all-played (v .advanced) (v .goes ∙ ap (λ (k : ℕ). ahead (v .done .entries) (passes value k (stateOf w) b)) z) (v .behind (omega arith))
 
-pub ruleset timings = (times-begin, times-ready, times-long, times-room, times-on, times-done)
+-- the body stands where the pass begins
+pub times-body : {m : List ℕ} {value n : ℕ} {from : BitPlace} {w w₁ : Walk} → BodyAt m (from .0) n (bodyIn m (from .0) n) (behindIn m (from .0) n) → Begun value from w w₁
+    → BodyAt m (w₁ .at .0) n (bodyIn m (w₁ .at .0) n) (behindIn m (w₁ .at .0) n)
+times-body h g = rw (g .place) h
+
+pub ruleset timings = (times-begin, times-ready, times-long, times-body, times-room, times-on, times-done)

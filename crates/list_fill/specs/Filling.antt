@@ -18,10 +18,10 @@ use Rattle.list_fill.specs.declared.Part.the-variants.{Known}
 use Rattle.list_fill.specs.declared.Walk.{Walk}
 use Rattle.list_count.specs.Parts.{soundingPart}
 use Rattle.list_rules.specs.Duration.{beats}
-use Rattle.list_rules.specs.Tempo.{paceOf, baseOf}
-use Rattle.list_rules.specs.Sounding.{numbers}
+use Rattle.list_rules.specs.Tempo.{Paced, baseOf}
+use Rattle.list_rules.specs.Sounding.{State, numbers}
 use Rattle.list_rules.specs.Ranges.{InRange}
-use Rattle.list_rules.specs.Playing.{Played}
+use Rattle.list_rules.specs.Playing.{Played, begun}
 
 -- ---- what stands in a message
 
@@ -52,15 +52,27 @@ behindPattern h next reached = pick (eqb (specifier h) 0) next reached
 unfoldable pub entrySeen : ℕ → ℕ
 entrySeen x = let w = width (x / 2 ^ 61) in entry (x / 2 ^ 61) (x / 2 ^ (61 - w) % 2 ^ w)
 
--- the settings are in range, the base is theirs, and the pace is that of their tempo
+-- the state that a walk has come to
+abbrev pub stateOf : Walk → State
+stateOf w = record { settings = w .settings; fraction = w .fraction }
+
+-- the settings are in range, the base is theirs, the beats are those of their tempo, and have their pace and the fraction below them
 pub record Ready (w : Walk) : Type 0 where
   pub range : InRange (w .settings)
   pub based : w .base ≡ baseOf (w .settings)
-  pub paced : w .pace ≡ paceOf (beats (w .settings .tempo))
+  pub beating : w .beats ≡ beats (w .settings .tempo)
+  pub paced : Paced (w .fraction) (w .beats) (w .pace)
+
+-- a pass begins at a place
+pub record Begun (value : ℕ) (from : BitPlace) (w r : Walk) : Type 0 where
+  pub ready : Ready r
+  pub state : stateOf r ≡ begun value (stateOf w)
+  pub place : r .at ≡ from
+  pub cells : r .cells ≡ w .cells
 
 -- behind the first i cells d was played: its entries are written, and the next place is q
 pub record Advanced (i : ℕ) (d : Played) (q : ℕ) (old new : List ℕ) (r : Walk) : Type 0 where
-  pub settings : r .settings ≡ d .after
+  pub state : stateOf r ≡ d .after
   pub ready : Ready r
   pub place : r .at .0 ≡ q
   pub cells : r .cells ≡ i + 2 * length (d .entries)

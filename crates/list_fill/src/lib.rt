@@ -7,9 +7,9 @@ ghost use Rattle.tone.specs.Writing.{entryBits};
 ghost use Rattle.tone_elements.specs.Answers.{noteIn, notes as notesOf};
 ghost use Rattle.list_rules.specs.Sounding.{atStart, numbers};
 ghost use Rattle.list_rules.specs.Playing.{step, pass, passes, play};
-ghost use Rattle.list_count.specs.Bodies.{noBodies};
+ghost use Rattle.list_count.specs.Bodies.{noBodies, passesOf};
 ghost use Rattle.list_count.specs.Counting.{entryCount};
-ghost use Rattle.list_fill.specs.Filling.{patternsIn, endIn, PatternsAt, partAfter, behindPattern, entrySeen, Ready, Advanced};
+ghost use Rattle.list_fill.specs.Filling.{patternsIn, endIn, PatternsAt, partAfter, behindPattern, entrySeen, stateOf, Ready, Advanced, Begun};
 ghost use Rattle.tone_elements.specs.Standing.{bodyIn, behindIn, BodyAt};
 use bits::BitPlace;
 use list_rules::Settings;
@@ -20,46 +20,67 @@ pub enum Part {
     Known { at: BitPlace, count: u32 },
 }
 
-// How far filling has come: the settings, what they put in an entry's first number, the pace of their tempo, the place in
-// the message, and the cells filled.
+// How far filling has come: the settings, the fraction left over, what the settings put in an entry's first number, the
+// beats of their tempo and the pace of these, the place in the message, and the cells filled.
 pub struct Walk {
     pub settings: Settings,
+    pub fraction: u32,
     pub base: u32,
+    pub beats: u32,
     pub pace: u64,
     pub at: BitPlace,
     pub cells: usize,
 }
 
 impl Walk {
-    // Nothing is filled, and the settings are those of the start.
+    // Nothing is filled, the settings are those of the start, and nothing is left over.
     fn start(at: BitPlace) -> Walk
-        ensures { λ r. ⌜ Ready r × (r .settings ≡ atStart) × (r .at ≡ at) × (r .cells ≡ 0) ⌝ }
+        ensures { λ r. ⌜ Ready r × (stateOf r ≡ atStart) × (r .at ≡ at) × (r .cells ≡ 0) ⌝ }
     {
         let settings = Settings::at_start();
+        let beats = list_rules::beats(settings.tempo);
         Walk {
             settings,
+            fraction: 0,
             base: list_rules::base(settings),
-            pace: list_rules::pace(settings.tempo),
+            beats,
+            pace: list_rules::pace(beats),
             at,
             cells: 0,
         }
     }
 
-    // One instruction, that on top of a sight: a note or pause adds its entry, any other changes the settings. Most are
-    // notes: told first, the next place does not wait for a width. The walk is copied and its fields are changed, since a
+    // A pass of a body that stands at a place, of a pattern with this loop value, begins: with loop 15 the fraction restarts.
+    fn begun(self, from: BitPlace, value: u32) -> Walk
+        requires { ⌜ Ready self ⌝ }
+        ensures { λ r. ⌜ Begun value from self r ⌝ }
+    {
+        let mut walk = self;
+        walk.at = from;
+        if value == 15 {
+            walk.fraction = 0;
+            return walk;
+        }
+        walk
+    }
+
+    // One instruction, that on top of a sight: a note or pause adds its entry, any other changes the settings, and a tempo
+    // restarts the fraction. Most are notes: told first, the next place does not wait for a width. The walk is copied and its fields are changed, since a
     // new one laid out for each return is slower.
     fn step(self, x: u64, list: &mut [u32]) -> Walk
         requires { ⌜ Ready self × (self .at .0 < 2 ^ 63) ⌝ }
         requires { ⌜ Instruction (entrySeen x) × (self .cells + 2 * noteIn (entrySeen x) ≤ length (now list)) ⌝ }
-        ensures { λ r. ⌜ Advanced (self .cells) (step (self .settings) (entrySeen x)) (self .at .0 + length (entryBits (entrySeen x))) (now (list .entry)) (now (list .exit)) r ⌝ }
+        ensures { λ r. ⌜ Advanced (self .cells) (step (stateOf self) (entrySeen x)) (self .at .0 + length (entryBits (entrySeen x))) (now (list .entry)) (now (list .exit)) r ⌝ }
     {
         let mut walk = self;
         let cells = self.cells;
         if x >> 61 == 1 {
             list[cells] = ((x >> 57) % 16) as u32 * 1024 + self.base;
             let units = list_rules::units(((x >> 54) % 8) as u32, ((x >> 52) % 4) as u32);
-            list[cells + 1] = list_rules::microseconds(units, self.pace);
+            let lasted = list_rules::duration_step(self.fraction, units, self.beats, self.pace);
+            list[cells + 1] = lasted.microseconds;
             let next = BitPlace(self.at.0 + 12);
+            walk.fraction = lasted.fraction;
             walk.at = next;
             walk.cells = cells + 2;
             return walk;
@@ -72,7 +93,10 @@ impl Walk {
         walk.at = next;
         walk.settings = after;
         if kind == 4 {
-            walk.pace = list_rules::pace(after.tempo);
+            let beats = list_rules::beats(after.tempo);
+            walk.fraction = 0;
+            walk.beats = beats;
+            walk.pace = list_rules::pace(beats);
             return walk;
         }
         walk.base = list_rules::base(after);
@@ -86,7 +110,7 @@ fn fill_few(msg: &[u8], n: u32, list: &mut [u32], w: Walk) -> Walk
     requires { ⌜ Ready w × (n ≤ 4) ⌝ }
     requires { ⌜ BodyAt (now msg) (w .at .0) n (bodyIn (now msg) (w .at .0) n) (behindIn (now msg) (w .at .0) n) ⌝ }
     requires { ⌜ w .cells + 2 * notesOf (bodyIn (now msg) (w .at .0) n) ≤ length (now list) ⌝ }
-    ensures { λ r. ⌜ Advanced (w .cells) (pass (w .settings) (bodyIn (now (msg .entry)) (w .at .0) n)) (behindIn (now (msg .entry)) (w .at .0) n) (now (list .entry)) (now (list .exit)) r ⌝ }
+    ensures { λ r. ⌜ Advanced (w .cells) (pass (stateOf w) (bodyIn (now (msg .entry)) (w .at .0) n)) (behindIn (now (msg .entry)) (w .at .0) n) (now (list .entry)) (now (list .exit)) r ⌝ }
 {
     let at = w.at;
     let s = bits::sight(msg, at);
@@ -100,15 +124,14 @@ fn fill_few(msg: &[u8], n: u32, list: &mut [u32], w: Walk) -> Walk
     walk
 }
 
-// Fills in one pass of the `n` instructions that stand at a place.
-fn fill_pass(msg: &[u8], from: BitPlace, n: u32, list: &mut [u32], w: Walk) -> Walk
+// Fills in one pass of the `n` instructions that stand at the walk's place.
+fn fill_pass(msg: &[u8], n: u32, list: &mut [u32], w: Walk) -> Walk
     requires { ⌜ Ready w ⌝ }
-    requires { ⌜ BodyAt (now msg) (from .0) n (bodyIn (now msg) (from .0) n) (behindIn (now msg) (from .0) n) ⌝ }
-    requires { ⌜ w .cells + 2 * notesOf (bodyIn (now msg) (from .0) n) ≤ length (now list) ⌝ }
-    ensures { λ r. ⌜ Advanced (w .cells) (pass (w .settings) (bodyIn (now (msg .entry)) (from .0) n)) (behindIn (now (msg .entry)) (from .0) n) (now (list .entry)) (now (list .exit)) r ⌝ }
+    requires { ⌜ BodyAt (now msg) (w .at .0) n (bodyIn (now msg) (w .at .0) n) (behindIn (now msg) (w .at .0) n) ⌝ }
+    requires { ⌜ w .cells + 2 * notesOf (bodyIn (now msg) (w .at .0) n) ≤ length (now list) ⌝ }
+    ensures { λ r. ⌜ Advanced (w .cells) (pass (stateOf w) (bodyIn (now (msg .entry)) (w .at .0) n)) (behindIn (now (msg .entry)) (w .at .0) n) (now (list .entry)) (now (list .exit)) r ⌝ }
 {
     let mut walk = w;
-    walk.at = from;
     let mut left = n;
     while 0 < left {
         let k = tone_elements::turn(left);
@@ -118,17 +141,18 @@ fn fill_pass(msg: &[u8], from: BitPlace, n: u32, list: &mut [u32], w: Walk) -> W
     walk
 }
 
-// Fills in so many passes of the `n` instructions that stand at a place. The settings carry on.
-fn fill_passes(msg: &[u8], from: BitPlace, n: u32, times: u32, list: &mut [u32], w: Walk) -> Walk
-    requires { ⌜ Ready w ⌝ }
+// Fills in the passes of a loop value, of the `n` instructions that stand at a place. The state carries on, but for the
+// restarts of a loop 15.
+fn fill_passes(msg: &[u8], from: BitPlace, n: u32, value: u32, list: &mut [u32], w: Walk) -> Walk
+    requires { ⌜ Ready w × (value ≤ 15) ⌝ }
     requires { ⌜ BodyAt (now msg) (from .0) n (bodyIn (now msg) (from .0) n) (behindIn (now msg) (from .0) n) ⌝ }
-    requires { ⌜ (1 ≤ times) × (times ≤ 15) × (w .cells + 2 * (notesOf (bodyIn (now msg) (from .0) n) * times) ≤ length (now list)) ⌝ }
-    ensures { λ r. ⌜ Advanced (w .cells) (passes times (w .settings) (bodyIn (now (msg .entry)) (from .0) n)) (behindIn (now (msg .entry)) (from .0) n) (now (list .entry)) (now (list .exit)) r ⌝ }
+    requires { ⌜ w .cells + 2 * (notesOf (bodyIn (now msg) (from .0) n) * passesOf value) ≤ length (now list) ⌝ }
+    ensures { λ r. ⌜ Advanced (w .cells) (passes value (passesOf value) (stateOf w) (bodyIn (now (msg .entry)) (from .0) n)) (behindIn (now (msg .entry)) (from .0) n) (now (list .entry)) (now (list .exit)) r ⌝ }
 {
     let mut walk = w;
-    let mut left = times;
+    let mut left = list_count::passes_of(value);
     while 0 < left {
-        walk = fill_pass(msg, from, n, list, walk);
+        walk = fill_pass(msg, n, list, walk.begun(from, value));
         left -= 1;
     }
     walk
@@ -176,7 +200,7 @@ pub fn fill_list(msg: &[u8], at: BitPlace, n: u32, list: &mut [u32])
                 return;
             }
             Part::Known { at: from, count } => {
-                walk = fill_passes(msg, from, count, list_count::passes_of(value), list, walk);
+                walk = fill_passes(msg, from, count, value, list, walk);
             }
         }
         if value == 15 {

@@ -14,8 +14,8 @@ use Rattle.bits.proofs.Choice.{pick-elim}
 use Rattle.tone.specs.Table.{kind, payload}
 use Rattle.tone.specs.Tone.{Pattern}
 use Rattle.list_rules.specs.declared.Entry.{Entry}
-use Rattle.list_rules.specs.Sounding.{applied, sounded}
-use Rattle.list_rules.specs.Playing.{State, step, pass, passes, Listing, patternPlayed, play, markAt}
+use Rattle.list_rules.specs.Sounding.{State, following, sounded}
+use Rattle.list_rules.specs.Playing.{step, pass, begun, onePass, passes, Listing, patternPlayed, play, markAt}
 use Rattle.list_count.specs.Bodies.{passesOf, Remembered, bodyOf, remember, noMark}
 use Rattle.tone_elements.specs.Answers.{notes}
 use Rattle.list_count.specs.Counting.{entryCount}
@@ -26,30 +26,31 @@ pub pass-count : (s : State) (b : List ℕ) → length (pass s b .entries) ≡ n
 unfolding step
 pass-count s [] = refl
 pass-count s (e ∷ b) =
-    length-append (step s e .entries) (pass (applied s e) b .entries)
-    ∙ ap₂ (λ (x y : ℕ). x + y) (go (eqb (kind e) 1)) (pass-count (applied s e) b)
+    length-append (step s e .entries) (pass (following s e) b .entries)
+    ∙ ap₂ (λ (x y : ℕ). x + y) (go (eqb (kind e) 1)) (pass-count (following s e) b)
   where
     go : (t : Bool) → length (pick t (sounded s (payload e) ∷ []) []) ≡ pick t 1 0
     go true = refl
     go false = refl
 
 -- so many passes, so many times the notes
-pub passes-count : (n : ℕ) (s : State) (b : List ℕ) → length (passes n s b .entries) ≡ notes b * n
-passes-count zero s b = sym (mul-zero (notes b))
-passes-count (suc n) s b =
-    length-append (pass s b .entries) (passes n (pass s b .after) b .entries)
-    ∙ (rw (pass-count s b, passes-count n (pass s b .after) b, mul-suc (notes b) n) (omega arith))
+pub passes-count : (loop n : ℕ) (s : State) (b : List ℕ) → length (passes loop n s b .entries) ≡ notes b * n
+passes-count loop zero s b = sym (mul-zero (notes b))
+passes-count loop (suc n) s b =
+    let d = onePass loop s b in
+    length-append (d .entries) (passes loop n (d .after) b .entries)
+    ∙ (rw (pass-count (begun loop s) b, passes-count loop n (d .after) b, mul-suc (notes b) n) (omega arith))
 
 pub pattern-count : (s : State) (bodies : List Remembered) (p : Pattern) → length (patternPlayed s bodies p .entries) ≡ notes (bodyOf bodies p) * passesOf (p .loop)
 unfolding patternPlayed
-pattern-count s bodies p = passes-count (passesOf (p .loop)) _ (bodyOf bodies p)
+pattern-count s bodies p = passes-count (p .loop) (passesOf (p .loop)) _ (bodyOf bodies p)
 
 -- the count is the notes times the passes, summed up to the first loop 15
 pub list-count : (s : State) (bodies : List Remembered) (n : ℕ) (ps : List Pattern) → length (play s bodies n ps .entries) ≡ entryCount bodies ps
 list-count s bodies n [] = refl
 list-count s bodies n (p ∷ ps) =
     let d = patternPlayed s bodies p in
-    go (eqb (p .loop) 15) (d .entries) (markAt n (pass s (bodyOf bodies p) .entries)) (play (d .after) (remember bodies p) (n + length (d .entries)) ps) (pattern-count s bodies p) (list-count (d .after) (remember bodies p) (n + length (d .entries)) ps)
+    go (eqb (p .loop) 15) (d .entries) (markAt n (onePass (p .loop) s (bodyOf bodies p) .entries)) (play (d .after) (remember bodies p) (n + length (d .entries)) ps) (pattern-count s bodies p) (list-count (d .after) (remember bodies p) (n + length (d .entries)) ps)
   where
     go : (t : Bool) (a : List Entry) (m : ℕ) (g : Listing) {k c : ℕ} → length a ≡ c → length (g .entries) ≡ k
         → length (pick {A = Listing} t (record { entries = a; mark = m }) (record { entries = a ++ g .entries; mark = g .mark }) .entries) ≡ c + pick t 0 k
@@ -67,12 +68,12 @@ mark-placed s bodies n (p ∷ ps) =
     let k = n + length (d .entries) in
     let more = play (d .after) (remember bodies p) k ps in
     pick-elim (Placed n) (eqb (p .loop) 15)
-    (λ h. first (d .entries) (pass s (bodyOf bodies p) .entries) (twice (eqb-true (p .loop) 15 h)))
+    (λ h. first (d .entries) (onePass (p .loop) s (bodyOf bodies p) .entries) (twice (eqb-true (p .loop) 15 h)))
     (λ _. later (d .entries) more (mark-placed (d .after) (remember bodies p) k ps))
   where
     -- two passes have as many entries each
-    twice : p .loop ≡ 15 → length (patternPlayed s bodies p .entries) ≡ length (pass s (bodyOf bodies p) .entries) * 2
-    twice h = pattern-count s bodies p ∙ (rw (pass-count s (bodyOf bodies p), endless-passes (p .loop) h))
+    twice : p .loop ≡ 15 → length (patternPlayed s bodies p .entries) ≡ length (onePass (p .loop) s (bodyOf bodies p) .entries) * 2
+    twice h = pattern-count s bodies p ∙ (rw (pass-count (begun (p .loop) s) (bodyOf bodies p), endless-passes (p .loop) h))
 
     first : (all rs : List Entry) → length all ≡ length rs * 2 → Placed n (record { entries = all; mark = markAt n rs })
     first all [] h = inr refl

@@ -1,18 +1,15 @@
 -- No duration is longer than 16.8 seconds, and units are whole.
 use Prim.Native.Nat.{ℕ, _+_, _-_, _*_, _/_, _%_, _^_, _≤_, _<_}
 use native.Mathlib.Omega.{arith}
-use native.Mathlib.Nat.{eq-zero-or-pos, zero-add, add-zero, mul-add, add-mul, mul-assoc, mul-le-mul, lt-of-le-of-lt, mod-lt, div-zero, div-le-self, div-le-of-le-mul, div-eq-of-lt, div-lt-iff-lt-mul, div-add-mod', mul-add-div, mul-div-mul-right, div-div-eq-div-mul}
-use mathlib.Core.Path.{_≡_, refl, sym, ap, ap₂, _∙_}
+use native.Mathlib.Nat.{eq-zero-or-pos, mod-lt, div-le-self, div-lt-iff-lt-mul}
+use mathlib.Core.Path.{_≡_, refl, ap₂, _∙_}
 use mathlib.Core.Logic.{⊎-elim}
 use lib.ListN.{List·getD-eq-default}
-use lib.Dec.{leb, eqb, lit<}
-use mir.Val.{Fits}
-use mir.Syntax.{w32, w64}
+use lib.Dec.{leb, eqb}
 use borrow.Author.Tests.{leb-true}
 use Rattle.bits.proofs.Choice.{pick-elim}
 use Rattle.tone.specs.Table.{durationOf, specifierOf}
-use Rattle.list_rules.specs.Duration.{tempos, beats, plainUnits, units, microseconds}
-use Rattle.list_rules.specs.Tempo.{paceOf}
+use Rattle.list_rules.specs.Duration.{tempos, beats, plainUnits, units, microseconds, leftOver}
 use Rattle.bits.proofs.Below.{at-each, same-each}
 
 -- ---- bounds
@@ -46,7 +43,8 @@ units-most d s =
     pick-elim (λ (n : ℕ). n ≤ 672) (eqb s 3) (λ _. omega arith) (λ _. omega arith)))
 
 -- no duration exceeds 16,800,000 microseconds, whatever fraction below the beats is left over from before it
-pub longest-duration : (d s tempo fraction : ℕ) → fraction < beats tempo → (fraction + units d s * 625000) / beats tempo ≤ 16800000
+pub longest-duration : (d s tempo fraction : ℕ) → fraction < beats tempo → microseconds fraction (units d s) (beats tempo) ≤ 16800000
+unfolding microseconds
 longest-duration d s tempo fraction h =
     let some : 0 < beats tempo = omega arith in
     let u = units-most d s in
@@ -55,15 +53,17 @@ longest-duration d s tempo fraction h =
     omega arith
 
 -- so every duration fits 32 bits
-pub duration-fits : (d s tempo fraction : ℕ) → fraction < beats tempo → (fraction + units d s * 625000) / beats tempo < 2 ^ 32
+pub duration-fits : (d s tempo fraction : ℕ) → fraction < beats tempo → microseconds fraction (units d s) (beats tempo) < 2 ^ 32
 duration-fits d s tempo fraction h = let l = longest-duration d s tempo fraction h in omega arith
 
--- as the rule has it: nothing is left over, and a number that is no tempo code gives 0
-pub duration-most : (d s tempo : ℕ) → microseconds (units d s) (beats tempo) ≤ 16800000
-unfolding microseconds
-duration-most d s tempo =
-    let n = units d s * 625000 in
-    ⊎-elim (λ e. rw e (omega (arith, div-zero n))) (λ h. rw (zero-add n) at (longest-duration d s tempo 0 h)) (eq-zero-or-pos (beats tempo))
+-- and what is divided does too
+pub sum-fits : (d s tempo fraction : ℕ) → fraction < beats tempo → fraction + units d s * 625000 < 2 ^ 32
+sum-fits d s tempo fraction h = let u = units-most d s in let b = fastest tempo in omega arith
+
+-- the fraction that is left over is below the beats again
+pub left-below : (fraction u b : ℕ) → 0 < b → leftOver fraction u b < b
+unfolding leftOver
+left-below fraction u b h = mod-lt (fraction + u * 625000) h
 
 -- ---- whole units
 
@@ -104,50 +104,13 @@ on-sheet d s {k} h z e =
     let r : k % 4 ≡ s = omega arith in
     e ∙ ap₂ units q r
 
--- the pace of the slowest tempo is the longest
-pub pace-most : (b : ℕ) → 25 ≤ b → paceOf b ≤ 26214400001
-pace-most b h = let l : 655360000000 / b ≤ 26214400000 = div-le-of-le-mul b (omega arith) in omega arith
-
 -- in the code's terms
+pub units-short : (d s : ℕ) {u : ℕ} → u ≡ units d s → u ≤ 672
+units-short d s e = rw e (units-most d s)
+
 module _ {b tempo : ℕ} (e : b ≡ beats tempo) (h : tempo ≤ 31) where
   pub beats-least : 25 ≤ b
   beats-least = rw e (slowest tempo (omega arith))
 
-  pub pace-fits : Fits w64 (655360000000 / b + 1)
-  pace-fits = let p = pace-most b beats-least in record { fits = omega arith }
-
-pub units-short : (d s : ℕ) {u : ℕ} → u ≡ units d s → u ≤ 672
-units-short d s e = rw e (units-most d s)
-
-module _ {u k : ℕ} (h : (u ≤ 672) × (k ≤ 26214400001)) where
-  product-most : u * k ≤ 17616076800672
-  product-most = mul-le-mul (h .0) (h .1)
-
-  pub product-fits : Fits w64 (u * k)
-  product-fits = let p = product-most in record { fits = omega arith }
-
-  pub short-fits : Fits w32 (u * k / 2 ^ 20)
-  short-fits = let p = product-most in record { fits = omega arith }
-
-rounded-up : (q k b n : ℕ) → q * b + k ≡ n → k < b → (q + 1) * b ≡ n + (b - k)
-rounded-up q k b n e h = add-mul q 1 b ∙ omega arith
-
--- units times pace comes to the rule's quotient: what the pace is too long by does not add up to a microsecond
-pub pace-exact : (u b : ℕ) → u ≤ 672 → 25 ≤ b → b ≤ 900 → u * paceOf b / 2 ^ 20 ≡ microseconds u b
-unfolding microseconds
-pace-exact u b hu low high =
-    let n : ℕ = 655360000000 in
-    let some : 0 < b = omega arith in
-    let r : ℕ = b - n % b in
-    let up : paceOf b * b ≡ n + r = rounded-up (n / b) (n % b) b n (div-add-mod' n b) (mod-lt n some) in
-    let whole : u * paceOf b * b ≡ 1048576 * (u * 625000) + u * r =
-    mul-assoc u (paceOf b) b ∙ ap (λ (x : ℕ). u * x) up ∙ mul-add u n r ∙ ap (λ (x : ℕ). x + u * r) (omega arith) in
-    let most : r ≤ 900 = omega arith in
-    let small : u * r < 1048576 = lt-of-le-of-lt (mul-le-mul hu most) (lit< tt) in
-    sym (mul-div-mul-right (u * paceOf b) 1048576 some) ∙ ap (λ (x : ℕ). x / (1048576 * b)) whole
-    ∙ sym (div-div-eq-div-mul (1048576 * (u * 625000) + u * r) 1048576 b)
-    ∙ ap (λ (x : ℕ). x / b) (mul-add-div (lit< tt) (u * 625000) (u * r) ∙ ap (λ (x : ℕ). u * 625000 + x) (div-eq-of-lt small) ∙ add-zero (u * 625000))
-
--- so at the pace of its tempo a note lasts as long as the rule says
-pub pace-lasts : (d s tempo : ℕ) → tempo ≤ 31 → units d s * paceOf (beats tempo) / 2 ^ 20 ≡ microseconds (units d s) (beats tempo)
-pace-lasts d s tempo h = pace-exact (units d s) (beats tempo) (units-most d s) (slowest tempo (omega arith)) (fastest tempo)
+  pub beats-most : b ≤ 900
+  beats-most = rw e (fastest tempo)

@@ -2,7 +2,7 @@
 use Prim.Native.Nat.{ℕ, zero, suc, _+_, _*_, _≤_}
 use native.Mathlib.Omega.{arith}
 use native.Mathlib.Nat.{zero-add}
-use mathlib.Core.Path.{_≡_, refl, sym, ap, _∙_}
+use mathlib.Core.Path.{_≡_, refl, sym, ap, ap₂, _∙_}
 use mathlib.Core.List.{List, [], _∷_, _++_, append-assoc, append-nil}
 use lib.ListN.{length, drop, length-append}
 use lib.Seq.{drop-at}
@@ -14,9 +14,9 @@ use Rattle.tone_elements.specs.Answers.{notes}
 use Rattle.list_count.specs.Bodies.{Remembered, noBodies, noMark, bodyOf, remember}
 use Rattle.list_count.proofs.Bodies.{endless-passes}
 use Rattle.list_rules.specs.declared.Entry.{Entry}
-use Rattle.list_rules.specs.Duration.{beats, units, microseconds}
-use Rattle.list_rules.specs.Sounding.{atStart, applied, sounded, numbers}
-use Rattle.list_rules.specs.Playing.{State, Played, Listing, step, pass, passes, patternPlayed, play, playingList, markAt}
+use Rattle.list_rules.specs.Duration.{beats, units, microseconds, leftOver}
+use Rattle.list_rules.specs.Sounding.{State, restarted, atStart, applied, fractionAfter, sounded, numbers}
+use Rattle.list_rules.specs.Playing.{Played, Listing, step, pass, onePass, passes, patternPlayed, play, playingList, markAt}
 use Rattle.list_rules.proofs.Joining.{stateAfter, bodiesAfter, NoneEndless, listed-ahead, play-last, joined, same-behind}
 use Rattle.list_rules.proofs.Counts.{pass-count}
 use Rattle.list_rules.proofs.Bounds.{list-most}
@@ -25,9 +25,9 @@ use Rattle.list_rules.proofs.Settling.{pass-settles}
 -- ---- the list
 
 -- two passes are listed
-pub endless-twice : (s : State) (bodies : List Remembered) (p : Pattern) → p .loop ≡ 15 → patternPlayed s bodies p ≡ passes 2 s (bodyOf bodies p)
+pub endless-twice : (s : State) (bodies : List Remembered) (p : Pattern) → p .loop ≡ 15 → patternPlayed s bodies p ≡ passes 15 2 s (bodyOf bodies p)
 unfolding patternPlayed
-endless-twice s bodies p h = ap (λ (n : ℕ). passes n s (bodyOf bodies p)) (endless-passes (p .loop) h)
+endless-twice s bodies p h = ap₂ (λ (l n : ℕ). passes l n s (bodyOf bodies p)) h (endless-passes (p .loop) h)
 
 -- listing stops with it
 pub none-behind : (s : State) (bodies : List Remembered) (n : ℕ) (ps : List Pattern) (p : Pattern) (qs : List Pattern) → p .loop ≡ 15
@@ -36,9 +36,16 @@ none-behind s bodies n ps p qs h = same-behind s bodies n ps (p ∷ qs) (p ∷ [
 
 -- ---- the passes
 
--- a third pass would equal the second: from the state after two passes, a pass of the body gives the second pass's entries
-pub third-pass-is-second : (s : State) (b : List ℕ) → pass (passes 2 s b .after) b .entries ≡ pass (pass s b .after) b .entries
-third-pass-is-second s b = ap (λ (r : State). pass r b .entries) (pass-settles s b)
+-- from the same settings a restart gives the same state
+same-restart : (s r : State) → s .settings ≡ r .settings → restarted s ≡ restarted r
+same-restart s r e = λ i. record { settings = e i; fraction = 0 }
+
+-- a third pass would equal the second: from the state after two passes, a pass of the body gives the second pass's entries, since
+-- each pass begins with a restart
+pub third-pass-is-second : (s : State) (b : List ℕ) → onePass 15 (passes 15 2 s b .after) b .entries ≡ onePass 15 (onePass 15 s b .after) b .entries
+third-pass-is-second s b =
+    let one = onePass 15 s b .after in
+    ap (λ (r : State). pass r b .entries) (same-restart (pass (restarted one) b .after) one (pass-settles (restarted s) (restarted one) b refl))
 
 -- the same entries so many times
 abbrev pub repeated : ℕ → List Entry → List Entry
@@ -46,24 +53,24 @@ repeated zero rs = []
 repeated (suc k) rs = rs ++ repeated k rs
 
 -- so every pass behind the first equals the second
-pub later-passes : (k : ℕ) (s : State) (b : List ℕ) → passes k (pass s b .after) b .entries ≡ repeated k (pass (pass s b .after) b .entries)
+pub later-passes : (k : ℕ) (s : State) (b : List ℕ) → passes 15 k (onePass 15 s b .after) b .entries ≡ repeated k (onePass 15 (onePass 15 s b .after) b .entries)
 later-passes zero s b = refl
 later-passes (suc k) s b =
-    ap (λ (rs : List Entry). pass (pass s b .after) b .entries ++ rs)
-    (later-passes k (pass s b .after) b ∙ ap (repeated k) (third-pass-is-second s b))
+    let one = onePass 15 s b .after in
+    ap (λ (rs : List Entry). onePass 15 one b .entries ++ rs) (later-passes k one b ∙ ap (repeated k) (third-pass-is-second s b))
 
 -- the chime that is loud in its first round alone: C as a quarter, and then volume 2
 abbrev pub chime : List ℕ
 chime = 65576 ∷ 327682 ∷ []
 
 -- its first three passes at the start: volume 7, and then 2 for good
-pub chime-passes : numbers (passes 3 atStart chime .entries) ≡ 1287 ∷ 952380 ∷ 1282 ∷ 952380 ∷ 1282 ∷ 952380 ∷ []
-unfolding step applied sounded beats units microseconds
+pub chime-passes : numbers (passes 15 3 atStart chime .entries) ≡ 1287 ∷ 952380 ∷ 1282 ∷ 952380 ∷ 1282 ∷ 952380 ∷ []
+unfolding step applied fractionAfter sounded beats units microseconds leftOver
 chime-passes = refl
 
 -- so a second pass need not equal the first, and one pass would not do
-pub second-pass-differs : pass atStart chime .entries ≡ pass (pass atStart chime .after) chime .entries → ⊥
-unfolding step applied sounded beats units microseconds
+pub second-pass-differs : onePass 15 atStart chime .entries ≡ onePass 15 (onePass 15 atStart chime .after) chime .entries → ⊥
+unfolding step applied fractionAfter sounded beats units microseconds leftOver
 second-pass-differs h = let e : _≡_ {A = ℕ} 7 2 = ap (λ (rs : List Entry). volume-of rs) h in omega arith
   where
     volume-of : List Entry → ℕ
@@ -80,13 +87,13 @@ silent-alike s r b h = none (pass r b .entries) (pass-count r b ∙ sym (pass-co
     none [] e = refl
     none (x ∷ rs) e = absurd (omega arith)
 
--- the first pass of a pattern behind others, from the state and the bodies that these leave
+-- the first pass of a pattern with loop 15 behind others, from the state and the bodies that these leave
 abbrev pub firstPass : State → List Remembered → List Pattern → Pattern → Played
-firstPass s bodies ps p = pass (stateAfter s bodies ps) (bodyOf (bodiesAfter bodies ps) p)
+firstPass s bodies ps p = onePass 15 (stateAfter s bodies ps) (bodyOf (bodiesAfter bodies ps) p)
 
 -- its second, from the state that the first leaves
 abbrev pub secondPass : State → List Remembered → List Pattern → Pattern → Played
-secondPass s bodies ps p = pass (firstPass s bodies ps p .after) (bodyOf (bodiesAfter bodies ps) p)
+secondPass s bodies ps p = onePass 15 (firstPass s bodies ps p .after) (bodyOf (bodiesAfter bodies ps) p)
 
 module _ (s : State) (bodies : List Remembered) (n : ℕ) (ps : List Pattern) (p : Pattern) (qs : List Pattern) (h : NoneEndless ps) (k : p .loop ≡ 15) where
   abbrev listedAhead : List Entry
@@ -113,7 +120,7 @@ module _ (s : State) (bodies : List Remembered) (n : ℕ) (ps : List Pattern) (p
       let b = bodyOf (bodiesAfter bodies ps) p in
       ap (λ (g : Listing). length (g .entries)) endless-list
       ∙ length-append listedAhead (first ++ second)
-      ∙ (rw (length-append first second, pass-count (stateAfter s bodies ps) b, pass-count (firstPass s bodies ps p .after) b) (omega arith))
+      ∙ (rw (length-append first second, pass-count (restarted (stateAfter s bodies ps)) b, pass-count (restarted (firstPass s bodies ps p .after)) b) (omega arith))
 
   -- the mark is the position of the second pass's first entry: so many as there are entries ahead of it
   pub mark-there : 1 ≤ length first → play s bodies n (ps ++ p ∷ qs) .mark ≡ n + length (listedAhead ++ first)
@@ -171,10 +178,10 @@ module _ (t : Tone) (formed : Formed t) (ps : List Pattern) (p : Pattern) (qs : 
   pub second-from-mark : fromMark (playingList t) ≡ secondPass atStart noBodies ps p .entries
   second-from-mark =
       let most = rw (ap (λ (g : Listing). g .entries) listed) at (list-most t formed) in
-      ap fromMark listed ∙ from-second before (one .entries) (two .entries) most (silent-alike (stateAfter atStart noBodies ps) (one .after) (bodyOf (bodiesAfter noBodies ps) p))
+      ap fromMark listed ∙ from-second before (one .entries) (two .entries) most (silent-alike (restarted (stateAfter atStart noBodies ps)) (restarted (one .after)) (bodyOf (bodiesAfter noBodies ps) p))
 
   -- through the list, and then k rounds from the mark: the entries ahead of the endless pattern, and then k + 2 passes of it
-  pub heard-for-ever : (k : ℕ) → heard k (playingList t) ≡ play atStart noBodies 0 ps .entries ++ passes (k + 2) (stateAfter atStart noBodies ps) (bodyOf (bodiesAfter noBodies ps) p) .entries
+  pub heard-for-ever : (k : ℕ) → heard k (playingList t) ≡ play atStart noBodies 0 ps .entries ++ passes 15 (k + 2) (stateAfter atStart noBodies ps) (bodyOf (bodiesAfter noBodies ps) p) .entries
   heard-for-ever k =
       let more : k + 2 ≡ suc (suc k) = omega arith in
       rw (second-from-mark, ap (λ (g : Listing). g .entries) listed, more, later-passes (suc k) (stateAfter atStart noBodies ps) (bodyOf (bodiesAfter noBodies ps) p))

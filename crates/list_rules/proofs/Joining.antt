@@ -1,8 +1,8 @@
 -- The list of patterns and then others.
-use Prim.Native.Nat.{ℕ, _+_}
+use Prim.Native.Nat.{ℕ, zero, suc, _+_}
 use native.Mathlib.Omega.{arith}
 use native.Mathlib.Nat.{add-zero}
-use mathlib.Core.Path.{_≡_, sym, ap, _∙_}
+use mathlib.Core.Path.{_≡_, refl, sym, ap, _∙_}
 use mathlib.Core.List.{List, [], _∷_, _++_, append-assoc, append-nil}
 use lib.ListN.{length, length-append}
 use lib.Dec.{eqb}
@@ -10,8 +10,9 @@ use borrow.Author.Tests.{eq-eqb, ne-eqb}
 use Rattle.bits.specs.Choice.{pick}
 use Rattle.tone.specs.Tone.{Pattern}
 use Rattle.list_rules.specs.declared.Entry.{Entry}
-use Rattle.list_rules.specs.Playing.{State, Listing, pass, passes, patternPlayed, play, markAt}
-use Rattle.list_count.specs.Bodies.{Remembered, bodyOf, remember}
+use Rattle.list_rules.specs.Sounding.{State}
+use Rattle.list_rules.specs.Playing.{Listing, ahead, pass, onePass, passes, patternPlayed, play, markAt}
+use Rattle.list_count.specs.Bodies.{Remembered, passesOf, bodyOf, remember}
 
 -- the state that patterns leave
 abbrev pub stateAfter : State → List Remembered → List Pattern → State
@@ -39,7 +40,7 @@ play-one s bodies n p ps h = rw (ne-eqb (p .loop) 15 h)
 
 -- a pattern with loop 15 ends the list
 pub play-last : (s : State) (bodies : List Remembered) (n : ℕ) (p : Pattern) (ps : List Pattern) → p .loop ≡ 15
-    → play s bodies n (p ∷ ps) ≡ record { entries = patternPlayed s bodies p .entries; mark = markAt n (pass s (bodyOf bodies p) .entries) }
+    → play s bodies n (p ∷ ps) ≡ record { entries = patternPlayed s bodies p .entries; mark = markAt n (onePass 15 s (bodyOf bodies p) .entries) }
 play-last s bodies n p ps h = rw (eq-eqb (p .loop) 15 h)
 
 -- what was listed first stands ahead of what is listed next, and counts as much
@@ -70,9 +71,21 @@ pub same-behind : (s : State) (bodies : List Remembered) (n : ℕ) (ps qs qs′ 
 same-behind s bodies n [] qs qs′ h = h s n
 same-behind s bodies n (p ∷ ps) qs qs′ h =
     let d = patternPlayed s bodies p in
-    ap (λ (more : Listing). pick (eqb (p .loop) 15) (record { entries = d .entries; mark = markAt n (pass s (bodyOf bodies p) .entries) }) (listed-ahead (d .entries) more))
+    ap (λ (more : Listing). pick (eqb (p .loop) 15) (record { entries = d .entries; mark = markAt n (onePass (p .loop) s (bodyOf bodies p) .entries) }) (listed-ahead (d .entries) more))
     (same-behind (d .after) (remember bodies p) (n + length (d .entries)) ps qs qs′ h)
 
 -- one pass is a pass
-pub one-pass : (s : State) (b : List ℕ) → passes 1 s b ≡ pass s b
-one-pass s b = λ i. record { entries = append-nil (pass s b .entries) i; after = pass s b .after }
+pub one-pass : (loop : ℕ) (s : State) (b : List ℕ) → passes loop 1 s b ≡ onePass loop s b
+one-pass loop s b = λ i. record { entries = append-nil (onePass loop s b .entries) i; after = onePass loop s b .after }
+
+-- passes at any loop but 15 carry the state on
+pub carried-on : (loop n : ℕ) (s : State) (b : List ℕ) → (loop ≡ 15 → ⊥) → passes loop n s b ≡ passes 0 n s b
+carried-on loop zero s b h = refl
+carried-on loop (suc n) s b h = rw (ne-eqb loop 15 h) (ap (ahead (pass s b .entries)) (carried-on loop n (pass s b .after) b h))
+
+-- so a pattern with loop n below 15 is n + 1 passes, the state carried on
+pub pattern-carried : (s : State) (bodies : List Remembered) (p : Pattern) → (p .loop ≡ 15 → ⊥) → patternPlayed s bodies p ≡ passes 0 (p .loop + 1) s (bodyOf bodies p)
+unfolding patternPlayed passesOf
+pattern-carried s bodies p h =
+    let times : passesOf (p .loop) ≡ p .loop + 1 = rw (ne-eqb (p .loop) 15 h) refl in
+    carried-on (p .loop) (passesOf (p .loop)) s (bodyOf bodies p) h ∙ ap (λ (n : ℕ). passes 0 n s (bodyOf bodies p)) times

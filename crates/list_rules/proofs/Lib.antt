@@ -1,4 +1,6 @@
 pub mod Durations
+pub mod Carrying
+pub mod Restarts
 pub mod Joining
 pub mod Loops
 pub mod Recalls

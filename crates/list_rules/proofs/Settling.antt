@@ -9,7 +9,7 @@ use borrow.Author.Tests.{eqb-true}
 use Rattle.bits.specs.Choice.{pick}
 use Rattle.tone.specs.Table.{kind, payload}
 use Rattle.list_rules.specs.declared.Settings.{Settings}
-use Rattle.list_rules.specs.Sounding.{applied}
+use Rattle.list_rules.specs.Sounding.{State, applied, following}
 use Rattle.list_rules.specs.Playing.{step, pass}
 
 -- a code after an instruction: the instruction's own where it is of that kind
@@ -37,11 +37,11 @@ applied-codes s e =
     either (eqb (kind e) 4) (λ h. rw (eqb-true (kind e) 4 h)) (λ h₄.
     either (eqb (kind e) 5) (λ h. rw (eqb-true (kind e) 5 h)) (λ h₅. rw (h₂, h₃, h₄, h₅)))))
 
--- a pass leaves each code as its last instruction of that kind sets it
-pub pass-codes : (s : Settings) (b : List ℕ) → pass s b .after ≡ codes s b
+-- whatever the fraction, a pass leaves each code as its last instruction of that kind sets it
+pub pass-codes : (s : State) (b : List ℕ) → pass s b .after .settings ≡ codes (s .settings) b
 unfolding step
 pass-codes s [] = refl
-pass-codes s (e ∷ b) = pass-codes (applied s e) b ∙ ap (λ (r : Settings). codes r b) (applied-codes s e)
+pass-codes s (e ∷ b) = pass-codes (following s e) b ∙ ap (λ (r : Settings). codes r b) (applied-codes (s .settings) e)
 
 -- a body sets a code whatever it was, or leaves it
 fixes : (k : ℕ) (b : List ℕ) → ((v w : ℕ) → lastCode k v b ≡ lastCode k w b) ⊎ ((v : ℕ) → lastCode k v b ≡ v)
@@ -56,9 +56,14 @@ fixes k (e ∷ b) = go (eqb (kind e) k) (fixes k b)
 settled : (k v : ℕ) (b : List ℕ) → lastCode k (lastCode k v b) b ≡ lastCode k v b
 settled k v b = ⊎-elim (λ f. f (lastCode k v b) v) (λ f. f (lastCode k v b)) (fixes k b)
 
--- the settings after two passes of a body are those after one
-pub pass-settles : (s : Settings) (b : List ℕ) → pass (pass s b .after) b .after ≡ pass s b .after
-pass-settles s b =
-    pass-codes (pass s b .after) b ∙ ap (λ (r : Settings). codes r b) (pass-codes s b)
-    ∙ (λ i. record { scale = settled 2 (s .scale) b i; style = settled 3 (s .style) b i; tempo = settled 4 (s .tempo) b i; volume = settled 5 (s .volume) b i })
+-- a pass from the settings that a pass leaves, whatever the fractions, leaves them
+pub pass-settles : (s r : State) (b : List ℕ) → r .settings ≡ pass s b .after .settings → pass r b .after .settings ≡ pass s b .after .settings
+pass-settles s r b e =
+    pass-codes r b ∙ ap (λ (c : Settings). codes c b) (e ∙ pass-codes s b)
+    ∙ (λ i. record {
+      scale = settled 2 (s .settings .scale) b i;
+      style = settled 3 (s .settings .style) b i;
+      tempo = settled 4 (s .settings .tempo) b i;
+      volume = settled 5 (s .settings .volume) b i;
+    })
     ∙ sym (pass-codes s b)

@@ -1,5 +1,5 @@
 -- How long a note sounds.
-use Prim.Native.Nat.{ℕ, _*_, _/_, _^_}
+use Prim.Native.Nat.{ℕ, _+_, _*_, _/_, _%_, _^_}
 use mathlib.Core.List.{List, [], _∷_}
 use lib.ListN.{getD}
 use lib.Dec.{eqb}
@@ -29,6 +29,12 @@ units duration specifier =
     (pick (eqb specifier 3) (plainUnits duration * 2 / 3)
     (plainUnits duration)))
 
--- a quarter note, 96 units, is one beat; rounded down
-unfoldable pub microseconds : ℕ → ℕ → ℕ
-microseconds u b = u * 625000 / b
+-- ---- the duration step: it takes the fraction left over, in beats-ths of a microsecond, and hands back the new one
+
+-- how long so many units sound: a quarter note, 96 units, is one beat; rounded down
+unfoldable pub microseconds : ℕ → ℕ → ℕ → ℕ
+microseconds fraction u b = (fraction + u * 625000) / b
+
+-- the fraction that they leave over
+unfoldable pub leftOver : ℕ → ℕ → ℕ → ℕ
+leftOver fraction u b = (fraction + u * 625000) % b

@@ -7,13 +7,8 @@ use Rattle.bits.specs.Choice.{pick}
 use Rattle.tone.specs.Table.{kind, payload}
 use Rattle.tone.specs.Tone.{Pattern, Tone}
 use Rattle.list_count.specs.Bodies.{Remembered, noBodies, passesOf, noMark, bodyOf, remember}
-use Rattle.list_rules.specs.declared.Settings.{Settings}
 use Rattle.list_rules.specs.declared.Entry.{Entry}
-use Rattle.list_rules.specs.Sounding.{atStart, applied, sounded}
-
--- the walk's state: what one instruction hands on to the next
-abbrev pub State : Type 0
-State = Settings
+use Rattle.list_rules.specs.Sounding.{State, restarted, atStart, following, sounded}
 
 -- entries that were added, and the state after them
 pub record Played : Type 0 where
@@ -26,17 +21,25 @@ ahead rs p = record { entries = rs ++ p .entries; after = p .after }
 
 -- a note or pause adds its entry; each instruction hands on the next state
 unfoldable pub step : State → ℕ → Played
-step s e = record { entries = pick (eqb (kind e) 1) (sounded s (payload e) ∷ []) []; after = applied s e }
+step s e = record { entries = pick (eqb (kind e) 1) (sounded s (payload e) ∷ []) []; after = following s e }
 
 -- one pass of a body
 abbrev pub pass : State → List ℕ → Played
 pass s [] = record { entries = []; after = s }
 pass s (e ∷ b) = ahead (step s e .entries) (pass (step s e .after) b)
 
--- so many passes, the state carried on
-abbrev pub passes : ℕ → State → List ℕ → Played
-passes zero s b = record { entries = []; after = s }
-passes (suc n) s b = ahead (pass s b .entries) (passes n (pass s b .after) b)
+-- the state that a pass begins with: with loop 15 the fraction restarts, and with any other loop it is carried on
+abbrev pub begun : ℕ → State → State
+begun loop s = pick (eqb loop 15) (restarted s) s
+
+-- one pass of a body at a loop value
+abbrev pub onePass : ℕ → State → List ℕ → Played
+onePass loop s b = pass (begun loop s) b
+
+-- so many passes at a loop value, the state carried on
+abbrev pub passes : ℕ → ℕ → State → List ℕ → Played
+passes loop zero s b = record { entries = []; after = s }
+passes loop (suc n) s b = ahead (onePass loop s b .entries) (passes loop n (onePass loop s b .after) b)
 
 -- ---- the list
 
@@ -53,7 +56,7 @@ markAt n (r ∷ rs) = n + length (r ∷ rs)
 
 -- what a pattern adds
 unfoldable pub patternPlayed : State → List Remembered → Pattern → Played
-patternPlayed s bodies p = passes (passesOf (p .loop)) s (bodyOf bodies p)
+patternPlayed s bodies p = passes (p .loop) (passesOf (p .loop)) s (bodyOf bodies p)
 
 -- the patterns from one on, with n entries listed: listing stops with a loop 15
 abbrev pub play : State → List Remembered → ℕ → List Pattern → Listing
@@ -62,7 +65,7 @@ play s bodies n (p ∷ ps) =
     let d = patternPlayed s bodies p in
     let more = play (d .after) (remember bodies p) (n + length (d .entries)) ps in
     pick (eqb (p .loop) 15)
-    (record { entries = d .entries; mark = markAt n (pass s (bodyOf bodies p) .entries) })
+    (record { entries = d .entries; mark = markAt n (onePass (p .loop) s (bodyOf bodies p) .entries) })
     (record { entries = d .entries ++ more .entries; mark = more .mark })
 
 -- the playing list of a tone

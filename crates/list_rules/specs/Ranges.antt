@@ -1,8 +1,9 @@
--- The bounds of settings and of entries.
-use Prim.Native.Nat.{_≤_}
+-- The bounds of settings, of the fraction and of entries.
+use Prim.Native.Nat.{_≤_, _<_}
 use mathlib.Core.List.{List, [], _∷_}
 use Rattle.list_rules.specs.declared.Settings.{Settings}
 use Rattle.list_rules.specs.declared.Entry.{Entry}
+use Rattle.list_rules.specs.Sounding.{State, beatsAt}
 
 -- settings that the codes of the instruction table make
 pub record InRange (s : Settings) : Type 0 where
@@ -10,6 +11,11 @@ pub record InRange (s : Settings) : Type 0 where
   pub style : s .style ≤ 2
   pub tempo : s .tempo ≤ 31
   pub volume : s .volume ≤ 15
+
+-- a state that they make: the fraction is below the beats
+pub record InTime (s : State) : Type 0 where
+  pub range : InRange (s .settings)
+  pub below : s .fraction < beatsAt s
 
 -- an entry of a tone that document 01 allows
 pub record Bounded (r : Entry) : Type 0 where

@@ -1,9 +1,9 @@
 ghost use mathlib.Core.Path.{_≡_};
-ghost use Prim.Native.Nat.{_+_, _*_, _/_, _^_, _≤_};
-ghost use Rattle.list_rules.specs.Duration.{beats as beatsOf, units as unitsOf};
-ghost use Rattle.list_rules.specs.Sounding.{atStart, applied as appliedTo, unpacked};
+ghost use Prim.Native.Nat.{_≤_};
+ghost use Rattle.list_rules.specs.Duration.{beats as beatsOf, units as unitsOf, microseconds as microsecondsOf, leftOver};
+ghost use Rattle.list_rules.specs.Sounding.{defaults, applied as appliedTo, unpacked};
 ghost use Rattle.list_rules.specs.Ranges.{InRange};
-ghost use Rattle.list_rules.specs.Tempo.{paceOf, baseOf};
+ghost use Rattle.list_rules.specs.Tempo.{paceOf, Paced, baseOf};
 
 // The four settings, as codes.
 pub struct Settings {
@@ -26,7 +26,7 @@ pub struct Entry {
 impl Settings {
     // The defaults of 000.
     pub fn at_start() -> Settings
-        ensures { λ r. ⌜ r ≡ atStart ⌝ }
+        ensures { λ r. ⌜ r ≡ defaults ⌝ }
     {
         Settings {
             scale: 1,
@@ -100,7 +100,7 @@ const BEATS: [u32; 32] = [
 ];
 
 // The beats a minute of a tempo code.
-fn beats(tempo: u32) -> u32
+pub fn beats(tempo: u32) -> u32
     requires { ⌜ tempo ≤ 31 ⌝ }
     ensures { λ r. ⌜ r ≡ beatsOf tempo ⌝ }
 {
@@ -150,21 +150,41 @@ pub fn units(duration: u32, specifier: u32) -> u32
     }
 }
 
-// How long a unit sounds at a tempo, in parts of a microsecond of which 2 ^ 20 make one, rounded up: 625,000 times
+// How long a unit sounds at so many beats, in parts of a microsecond of which 2 ^ 20 make one, rounded up: 625,000 times
 // 2 ^ 20, divided by the beats. With it a note takes a product, where the rule has a division.
-pub fn pace(tempo: u32) -> u64
-    requires { ⌜ tempo ≤ 31 ⌝ }
-    ensures { λ r. ⌜ r ≡ paceOf (beatsOf tempo) ⌝ }
+pub fn pace(beats: u32) -> u64
+    requires { ⌜ 25 ≤ beats ⌝ }
+    ensures { λ r. ⌜ r ≡ paceOf beats ⌝ }
 {
-    655360000000 / beats(tempo) as u64 + 1
+    655360000000 / beats as u64 + 1
 }
 
-// From units and the pace of a tempo to microseconds, rounded down.
-pub fn microseconds(units: u32, pace: u64) -> u32
-    requires { ⌜ (units ≤ 672) × (pace ≤ 26214400001) ⌝ }
-    ensures { λ r. ⌜ r ≡ units * pace / 2 ^ 20 ⌝ }
+// How long a note lasts, and the fraction that it leaves over, in beats-ths of a microsecond.
+pub struct Lasted {
+    pub microseconds: u32,
+    pub fraction: u32,
+}
+
+// The duration step: it takes the fraction left over and hands back the new one. The pace gives how long the units last by
+// themselves, and what is left of them joins the fraction: together they make one microsecond more or none. Two structs,
+// between which the compiler chooses without a branch.
+pub fn duration_step(fraction: u32, units: u32, beats: u32, pace: u64) -> Lasted
+    requires { ⌜ units ≤ 672 ⌝ }
+    requires { ⌜ Paced fraction beats pace ⌝ }
+    ensures { λ r. ⌜ (r .microseconds ≡ microsecondsOf fraction units beats) × (r .fraction ≡ leftOver fraction units beats) ⌝ }
 {
-    ((units as u64 * pace) >> 20) as u32
+    let whole = ((units as u64 * pace) >> 20) as u32;
+    let left = fraction + (units * 625000 - whole * beats);
+    if left < beats {
+        return Lasted {
+            microseconds: whole,
+            fraction: left,
+        };
+    }
+    Lasted {
+        microseconds: whole + 1,
+        fraction: left - beats,
+    }
 }
 
 // What the settings put in an entry's first number.

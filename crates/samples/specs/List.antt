@@ -50,8 +50,8 @@ cellsOf ps = numbers (listOf ps .entries)
 
 -- settings and entries, passes and marks, recalls, and then the room
 pub record Lists : Type 0 where
-  -- scale code 1, natural style, tempo code 8, volume 7
-  pub start : atStart ≡ record { scale = 1; style = 0; tempo = 8; volume = 7 }
+  -- scale code 1, natural style, tempo code 8, volume 7, and nothing left over
+  pub start : atStart ≡ record { settings = record { scale = 1; style = 0; tempo = 8; volume = 7 }; fraction = 0 }
   -- note × 1,024 + scale × 256 + style × 16 + volume, and the microseconds: C at the start, a pause, H with all settings at their last
   pub first : cellsOf (part 0 0 (c ∷ []) ∷ []) ≡ 1287 ∷ 952380 ∷ []
   pub pause : cellsOf (part 0 0 (65544 ∷ []) ∷ []) ≡ 263 ∷ 952380 ∷ []

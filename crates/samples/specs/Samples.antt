@@ -64,7 +64,7 @@ pub record Samples : Type 0 where
   pub p6 : editMessage withoutTempo 9 Delete 0 0 2 ≡ refused 13 0
   pub p7 : readTone [] ≡ refused 2 0
   pub p8 : readTone (0x02 ∷ 0x4A ∷ 0x3A ∷ 0x80 ∷ 0x40 ∷ 0x00 ∷ 0x51 ∷ 0xC6 ∷ 0x91 ∷ 0x00 ∷ []) ≡ refused 8 71
-  pub p9 : microseconds (units 0 2) (beats 0) ≡ 16800000
-  pub p10 : microseconds (units 5 3) (beats 31) ≡ 5555
+  pub p9 : microseconds 0 (units 0 2) (beats 0) ≡ 16800000
+  pub p10 : microseconds 0 (units 5 3) (beats 31) ≡ 5555
   pub p11 : P11
   pub p12 : P12

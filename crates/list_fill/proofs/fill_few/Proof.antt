@@ -2,11 +2,12 @@
 use Rattle.list_fill.proofs.fill_few.Statement.{statement}
 use Rattle.list_fill.proofs.fill_few.Tie as tie
 use borrow.Author.Needs.{needs}
+use Rattle.list_fill.specs.Filling.{stateOf}
 use Rattle.tone_elements.specs.Standing.{bodyIn, behindIn}
 use Rattle.list_fill.proofs.Walking.{FewWalk, seeings}
 
 abbrev Inv-loop : tie.InvT-loop
-Inv-loop msg n list₀ at s walk₀ left₀ list walk left = FewWalk msg (walk₀ .settings) (bodyIn msg (at .0) n) (at .0) (walk₀ .cells) (behindIn msg (at .0) n) list₀ list walk left
+Inv-loop msg n list₀ at s walk₀ left₀ list walk left = FewWalk msg (stateOf walk₀) (bodyIn msg (at .0) n) (at .0) (walk₀ .cells) (behindIn msg (at .0) n) list₀ list walk left
 
 abbrev μ-loop : tie.MeasureT-loop
 μ-loop msg n list₀ at s walk₀ left₀ list walk left = left

@@ -50,11 +50,8 @@ returns c = search (listings, needs)
 enum-known-part : tie.Need-enum-known-part Inv-loop μ-loop
 enum-known-part c = search (listings, needs)
 
-passes-of-requires : tie.Need-passes-of-requires Inv-loop μ-loop
-passes-of-requires c κs = search (listings, needs)
-
 fill-passes-requires : tie.Need-fill-passes-requires Inv-loop μ-loop
-fill-passes-requires c κs = (search needs, (search (list-body, needs), (search needs, search needs, search (list-fits, needs))))
+fill-passes-requires c κs = ((search needs, search needs), (search (list-body, needs), search (list-fits, needs)))
 
 same-length-2 : tie.Need-same-length-2 Inv-loop μ-loop
 same-length-2 c = search (listings, needs)
@@ -74,8 +71,8 @@ loop-less c = search (listings, needs)
 loop-again : tie.Need-loop-again Inv-loop μ-loop
 loop-again c =
     let filled = c .before .before .before .before in
-    let turn = filled .before .before .before .before .before .before in
-    list-on (turn .before .before .before .before .loop .inv) (search needs) (turn .before .before .entry-at .ensures) (turn .part-after .ensures) (search needs) (filled .before .before .passes-of .ensures) (filled .fill-passes .ensures) (search needs) (c .behind-pattern .ensures)
+    let turn = filled .before .before .before .before .before in
+    list-on (turn .before .before .before .before .loop .inv) (search needs) (turn .before .before .entry-at .ensures) (turn .part-after .ensures) (search needs) (filled .fill-passes .ensures) (search needs) (c .behind-pattern .ensures)
 
 same-length-3 : tie.Need-same-length-3 Inv-loop μ-loop
 same-length-3 c = search (listings, needs)
@@ -102,7 +99,6 @@ fill-list-spec =
     same-length
     returns
     enum-known-part
-    passes-of-requires
     fill-passes-requires
     same-length-2
     returns-2

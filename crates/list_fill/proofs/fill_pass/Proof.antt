@@ -2,11 +2,12 @@
 use Rattle.list_fill.proofs.fill_pass.Statement.{statement}
 use Rattle.list_fill.proofs.fill_pass.Tie as tie
 use borrow.Author.Needs.{needs}
+use Rattle.list_fill.specs.Filling.{stateOf}
 use Rattle.tone_elements.specs.Standing.{bodyIn, behindIn}
 use Rattle.list_fill.proofs.Walking.{PassWalk, passings}
 
 abbrev Inv-loop : tie.InvT-loop
-Inv-loop msg n list₀ walk₀ left₀ list walk left = PassWalk msg (walk₀ .settings) (bodyIn msg (walk₀ .at .0) n) (walk₀ .cells) (behindIn msg (walk₀ .at .0) n) list₀ list walk left
+Inv-loop msg n list₀ walk₀ left₀ list walk left = PassWalk msg (stateOf walk₀) (bodyIn msg (walk₀ .at .0) n) (walk₀ .cells) (behindIn msg (walk₀ .at .0) n) list₀ list walk left
 
 abbrev μ-loop : tie.MeasureT-loop
 μ-loop msg n list₀ walk₀ left₀ list walk left = left

@@ -1,18 +1,24 @@
 -- `list_fill::fill_passes` meets its contract. What is left to play falls with each turn.
+use borrow.Author.Needs.{needs}
 use Rattle.list_fill.proofs.fill_passes.Statement.{statement}
 use Rattle.list_fill.proofs.fill_passes.Tie as tie
-use borrow.Author.Needs.{needs}
-use Rattle.tone_elements.specs.Standing.{bodyIn, behindIn}
+use Rattle.list_fill.specs.Filling.{stateOf}
 use Rattle.list_fill.proofs.Walking.{TimesWalk, timings}
 
 abbrev Inv-loop : tie.InvT-loop
-Inv-loop msg from n times list₀ walk₀ left₀ list walk left = TimesWalk (walk₀ .settings) (bodyIn msg (from .0) n) (walk₀ .cells) (behindIn msg (from .0) n) list₀ list walk times left
+Inv-loop msg from n value list₀ walk₀ left₀ list walk left = TimesWalk msg from n value (stateOf walk₀) (walk₀ .cells) list₀ list walk left
 
 abbrev μ-loop : tie.MeasureT-loop
-μ-loop msg from n times list₀ walk₀ left₀ list walk left = left
+μ-loop msg from n value list₀ walk₀ left₀ list walk left = left
+
+passes-of-requires : tie.Need-passes-of-requires Inv-loop μ-loop
+passes-of-requires c κs = search (timings, needs)
 
 loop-holds : tie.Need-loop-holds Inv-loop μ-loop
 loop-holds c = search (timings, needs)
+
+begun-requires : tie.Need-begun-requires Inv-loop μ-loop
+begun-requires c κs = search (timings, needs)
 
 fill-pass-requires : tie.Need-fill-pass-requires Inv-loop μ-loop
 fill-pass-requires c κs = search (timings, needs)
@@ -38,7 +44,9 @@ fill-passes-spec =
     (tie.spec
     Inv-loop
     μ-loop
+    passes-of-requires
     loop-holds
+    begun-requires
     fill-pass-requires
     sub-left
     loop-less

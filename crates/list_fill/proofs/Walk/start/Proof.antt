@@ -7,6 +7,9 @@ use Rattle.list_fill.proofs.Stepping.{starts}
 at-start-requires : tie.Need-at-start-requires
 at-start-requires c κs = search needs
 
+beats-requires : tie.Need-beats-requires
+beats-requires c κs = search (starts, needs)
+
 base-requires : tie.Need-base-requires
 base-requires c κs = search (starts, needs)
 
@@ -17,4 +20,5 @@ returns : tie.Need-returns
 returns c = search (starts, needs)
 
 pub start-spec : {M : Type 1} → statement M
-start-spec = tie.close (tie.spec at-start-requires base-requires pace-requires returns)
+start-spec =
+    tie.close (tie.spec at-start-requires beats-requires base-requires pace-requires returns)

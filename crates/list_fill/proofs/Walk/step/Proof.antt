@@ -20,16 +20,16 @@ slice-write-list : tie.Need-slice-write-list
 slice-write-list c = search (steps, needs)
 
 cast-units : tie.Need-cast-units
-cast-units c = search (steps, needs)
+cast-units c = search needs
 
 cast-units-2 : tie.Need-cast-units-2
-cast-units-2 c = search (steps, needs)
+cast-units-2 c = search needs
 
 units-requires : tie.Need-units-requires
 units-requires c κs = search (steps, needs)
 
-microseconds-requires : tie.Need-microseconds-requires
-microseconds-requires c κs = search (steps, needs)
+duration-step-requires : tie.Need-duration-step-requires
+duration-step-requires c κs = search (steps, needs)
 
 add-list-2 : tie.Need-add-list-2
 add-list-2 c = search needs
@@ -40,8 +40,8 @@ mul-list-3 c = search needs
 slice-write-list-2 : tie.Need-slice-write-list-2
 slice-write-list-2 c = search (steps, needs)
 
-add-t20 : tie.Need-add-t20
-add-t20 c = search (steps, needs)
+add-t22 : tie.Need-add-t22
+add-t22 c = search needs
 
 add-walk : tie.Need-add-walk
 add-walk c = search needs
@@ -79,14 +79,17 @@ add-applied c = search (steps, needs)
 applied-requires : tie.Need-applied-requires
 applied-requires c κs = search needs
 
-add-t30 : tie.Need-add-t30
-add-t30 c = search (steps, needs)
-
-cast-t31 : tie.Need-cast-t31
-cast-t31 c = search (steps, needs)
-
 add-t32 : tie.Need-add-t32
-add-t32 c = search (steps, needs)
+add-t32 c = search needs
+
+cast-t33 : tie.Need-cast-t33
+cast-t33 c = search needs
+
+add-t34 : tie.Need-add-t34
+add-t34 c = search needs
+
+beats-requires : tie.Need-beats-requires
+beats-requires c κs = search (steps, needs)
 
 pace-requires : tie.Need-pace-requires
 pace-requires c κs = search (steps, needs)
@@ -112,11 +115,11 @@ step-spec =
     cast-units
     cast-units-2
     units-requires
-    microseconds-requires
+    duration-step-requires
     add-list-2
     mul-list-3
     slice-write-list-2
-    add-t20
+    add-t22
     add-walk
     same-length
     returns
@@ -129,9 +132,10 @@ step-spec =
     mul-applied
     add-applied
     applied-requires
-    add-t30
-    cast-t31
     add-t32
+    cast-t33
+    add-t34
+    beats-requires
     pace-requires
     returns-2
     base-requires
