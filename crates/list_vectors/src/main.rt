@@ -112,7 +112,7 @@ fn run(text: &[u8]) {
 }
 
 fn main() {
-    let mut text = [0u8; 8192];
+    let mut text = [0u8; 32768];
     let n = vectors::read_text(&mut text);
     run(&text[..n]);
 }
