@@ -57,16 +57,16 @@ impl Walk {
     {
         let mut walk = self;
         walk.at = from;
-        if value == 15 {
-            walk.fraction = 0;
+        if value != 15 {
             return walk;
         }
+        walk.fraction = 0;
         walk
     }
 
-    // One instruction, that on top of a sight: a note or pause adds its entry, any other changes the settings, and a tempo
-    // restarts the fraction. Most are notes: told first, the next place does not wait for a width. The walk is copied and its fields are changed, since a
-    // new one laid out for each return is slower.
+    // One instruction, that on top of a sight: a note or pause adds its entry and leaves its fraction, any other changes the
+    // settings, and a tempo restarts the fraction. Most are notes: told first, the next place does not wait for a width. The
+    // walk is copied and its fields are changed, since a new one laid out for each return is slower.
     fn step(self, x: u64, list: &mut [u32]) -> Walk
         requires { ⌜ Ready self × (self .at .0 < 2 ^ 63) ⌝ }
         requires { ⌜ Instruction (entrySeen x) × (self .cells + 2 * noteIn (entrySeen x) ≤ length (now list)) ⌝ }

@@ -1,6 +1,7 @@
 -- Where the fraction restarts at zero, and where it is carried on.
 use Prim.Native.Nat.{ℕ}
 use mathlib.Core.Path.{_≡_, refl}
+use mathlib.Core.List.{List, [], _++_}
 use lib.Dec.{eqb}
 use borrow.Author.Tests.{eq-eqb, ne-eqb}
 use Rattle.bits.proofs.Choice.{pick-elim}
@@ -8,7 +9,7 @@ use Rattle.tone.specs.Table.{kind, payload}
 use Rattle.list_rules.specs.declared.Settings.{Settings}
 use Rattle.list_rules.specs.Duration.{leftOver}
 use Rattle.list_rules.specs.Sounding.{applied, State, restarted, atStart, unitsOf, beatsAt, fractionAfter}
-use Rattle.list_rules.specs.Playing.{begun}
+use Rattle.list_rules.specs.Playing.{begun, pass, passes}
 
 -- at the start of the tone
 pub start-restarts : atStart .fraction ≡ 0
@@ -22,6 +23,10 @@ tempo-restarts s e h = rw h refl
 -- at the start of each pass of a loop 15, whatever pass it is
 pub endless-restarts : (loop : ℕ) (s : State) → loop ≡ 15 → begun loop s ≡ restarted s
 endless-restarts loop s h = rw (eq-eqb loop 15 h) refl
+
+-- so both passes that are listed of it restart, the second from the settings that the first leaves
+pub both-passes-restart : (s : State) (b : List ℕ) → passes 15 2 s b .entries ≡ pass (restarted s) b .entries ++ (pass (restarted (pass (restarted s) b .after)) b .entries ++ [])
+both-passes-restart s b = refl
 
 -- a note or pause leaves what is left over behind it
 pub note-leaves : (s : State) (e : ℕ) → kind e ≡ 1 → fractionAfter s e ≡ leftOver (s .fraction) (unitsOf (payload e)) (beatsAt s)
