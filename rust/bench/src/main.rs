@@ -34,6 +34,7 @@ fn main() {
         rows.push(write(&tone));
         rows.push(list(&tone));
     }
+    rows.extend(tempos());
     rows.extend(recalls());
     rows.extend(endless_part());
     for (width, height) in [(72, 14), (248, 255)] {
@@ -142,6 +143,20 @@ fn edits(tone: &Tone) -> [Row; 3] {
         |(buffer, list)| ohakelm_fast::delete(buffer, used, pattern, at, list),
     );
     [insert, replace, delete]
+}
+
+/// Notes alone, few and many, at one tempo and with a tempo ahead of every tenth.
+/// What differs is what restarts of the durations cost.
+fn tempos() -> [Row; 4] {
+    [(12, false), (12, true), (2400, false), (2400, true)].map(|(notes, with_tempos)| {
+        let message = &tones::of_notes(notes, with_tempos)[..];
+        let tempos = if with_tempos {
+            "a tempo every ten"
+        } else {
+            "no tempo"
+        };
+        list_of(message, &format!("list, {notes} notes, {tempos}"))
+    })
 }
 
 /// The tone of 254 recalls, whose list is much longer than its message.
