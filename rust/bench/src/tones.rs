@@ -73,10 +73,13 @@ fn filled(octets: usize, title: &[u8]) -> Tone {
     titled(false, title, &table(&parts))
 }
 
-/// The tone of 255 headers, loop 14, one part of ten notes and 254 recalls.
-pub fn of_recalls() -> Vec<u8> {
-    let mut table = vec![14 * 256 + 10];
-    table.extend((1..=10).map(|note| 65536 + note * 32 + 8));
+/// The tone of 255 headers, loop 14, one part of ten notes and 254 recalls. Ahead
+/// of the notes there may be a setting.
+pub fn of_recalls(setting: Option<u32>) -> Vec<u8> {
+    let mut body = Vec::from_iter(setting);
+    body.extend((1..=10).map(|note| 65536 + note * 32 + 8));
+    let mut table = vec![14 * 256 + body.len() as u32];
+    table.append(&mut body);
     table.extend([14 * 256; 254]);
     written(false, b"", &table)
 }
