@@ -182,9 +182,10 @@ impl State {
     /// The microseconds of a note. The fraction goes in, and what is left over is
     /// the new one. From one note to the next there is a sum and a mask to wait for,
     /// and nothing is divided or multiplied. On Arm, in the list of 38,250 entries,
-    /// dividing by the beats took 2.7 times as long as this, a product with the pace
-    /// of the tempo and a carry 1.5 times, quotients and remainders from a table and
-    /// a carry 1.2 times, and these sums with a product for the table 1.06 times.
+    /// dividing by the beats took 2.7 times as long as this, the quotient by a product
+    /// with the pace of the tempo and a carry 1.5 times, by a product with one over
+    /// the beats 1.3 times, from a table and with a carry 1.2 times, and these sums
+    /// with a product for the table 1.06 times.
     /// None of them was faster in any list of the benchmark.
     #[inline(always)]
     fn lasting(&mut self, code: usize) -> u32 {
