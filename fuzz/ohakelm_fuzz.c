@@ -11,8 +11,8 @@
  *
  * Checks. Both must answer alike and leave the same octets. A refusal must
  * leave all as it was. What was read must write again, what an edit lists must
- * be the list of its octets, and a deletion must undo an insertion. A list that
- * returns to its mark once must be that of the endless part sounding three times.
+ * be the list of its octets, and a deletion must undo an insertion. An endless part
+ * that sounds once and is then recalled for ever must go on as it did before.
  * A title that was read or written must have no refused character. An icon and a
  * logo that were written must read again. Buffers end at a page that cannot be
  * touched, and guard cells stand ahead of them, so a read or a write past the end
@@ -365,32 +365,62 @@ static size_t endless_header(const uint32_t *table, size_t entries)
     return at;
 }
 
-/* An endless part that sounds three times instead, with nothing behind it, makes
- * the same list and then once more what is behind the mark. */
+/* Writes a table up to its endless pattern, which sounds once instead and is then
+ * recalled for ever. Answers 0 where a message does not hold the recall too. */
+static size_t write_recalled(struct ohakelm_tone tone, const uint8_t *title, uint32_t *table,
+                             size_t at, uint8_t *out)
+{
+    size_t octets = tone.characters * (tone.unicode ? 2 : 1);
+    size_t end = at + 1 + OHAKELM_HEADER_SPECIFIER(table[at]);
+    table[end] = OHAKELM_HEADER(OHAKELM_HEADER_ID(table[at]), 15, 0);
+    table[at] -= 15 * 256;
+    return ohakelm_write(tone.song, tone.unicode, title, octets, table, end + 1, out,
+                         OHAKELM_LARGEST_TONE)
+        .octets;
+}
+
+/* Whether two passes are alike but for a fraction that one of them begins with. It
+ * can move each boundary by one microsecond. */
+static bool nearly_alike(const uint32_t *one, const uint32_t *two, size_t entries)
+{
+    for (size_t i = 0; i < entries; i++) {
+        const uint32_t *a = one + 2 * i, *b = two + 2 * i;
+        bool near = a[1] <= b[1] + 1 && b[1] <= a[1] + 1;
+        if (a[0] != b[0] || !near)
+            return false;
+    }
+    return true;
+}
+
+/* An endless part that sounds once and is then recalled for ever makes one pass
+ * more. Its first pass may begin with a fraction, and both of the recall's are what
+ * is behind the mark: a third pass is like the second. */
 static void check_third_pass(const uint8_t *msg, size_t count, struct ohakelm_listed made,
                              const uint32_t *list)
 {
     static uint32_t table[AMPLE_TABLE], again[AMPLE_LIST + 2 * 255];
     static uint8_t title[30], out[OHAKELM_LARGEST_TONE];
     struct ohakelm_tone tone = ohakelm_read(msg, count, table, AMPLE_TABLE, title, sizeof title);
-    size_t octets = tone.characters * (tone.unicode ? 2 : 1);
     size_t at = endless_header(table, tone.entries);
     bool returns = made.mark != OHAKELM_NO_MARK;
     if (at == tone.entries) {
         check(!returns, "a list without an endless part has no mark");
         return;
     }
-    table[at] -= (15 - 2) * 256;
-    size_t kept = at + 1 + OHAKELM_HEADER_SPECIFIER(table[at]);
-    struct ohakelm_written done =
-        ohakelm_write(tone.song, tone.unicode, title, octets, table, kept, out, sizeof out);
-    struct ohakelm_listed thrice = ohakelm_list(out, done.octets, again, sizeof again / 4);
+    size_t octets = write_recalled(tone, title, table, at, out);
+    if (octets == 0)
+        return;
+    struct ohakelm_listed more = ohakelm_list(out, octets, again, sizeof again / 4);
     size_t pass = returns ? made.entries - made.mark : 0;
-    check(thrice.refusal == 0 && thrice.entries == made.entries + pass,
+    size_t ahead = made.entries - 2 * pass;
+    const uint32_t *second = list + 2 * (ahead + pass), *behind = again + 2 * (ahead + pass);
+    check(more.refusal == 0 && more.entries == made.entries + pass,
           "an endless part has two passes");
-    check(memcmp(again, list, 8 * made.entries) == 0, "they are its first two");
-    check(pass == 0 || memcmp(again + 2 * made.entries, list + 2 * made.mark, 8 * pass) == 0,
-          "a third pass is like the second");
+    check(!returns || more.mark == made.entries, "the mark is on the second of them");
+    check(memcmp(again, list, 8 * ahead) == 0, "what is ahead of them is the same");
+    check(nearly_alike(again + 2 * ahead, list + 2 * ahead, pass), "the first is heard first");
+    check(memcmp(behind, second, 8 * pass) == 0, "each pass for ever restarts");
+    check(memcmp(behind + 2 * pass, second, 8 * pass) == 0, "a third pass is like the second");
 }
 
 static void fuzz_list(struct input *in)

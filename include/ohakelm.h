@@ -52,12 +52,20 @@
  * list, and then for ever from the entry that `mark` names to the end. Where
  * `mark` is OHAKELM_NO_MARK, the tone ends with the list.
  *
+ * DURATIONS do not drift. A quarter is a beat, 60,000,000 / beats microseconds,
+ * which may be no whole number. Counted from the last restart, the boundaries
+ * of entries are the exact sums rounded down, and a duration is the difference
+ * of two. So notes that are alike may differ by one microsecond. The sums
+ * restart at the start of the tone, at each tempo instruction, also at one that
+ * sets the tempo in force, and at the start of each pass of an endless part.
+ * Nothing else restarts them. Pauses count like notes.
+ *
  * AN ENDLESS PART is one with loop 15, or recalled with it. Two passes of it
  * are listed and nothing behind them, and `mark` names the first entry of the
  * second. Settings carry on from the first pass into the second. So a part that
  * ends with a volume may be loud in the first pass and soft in the second. Each
- * later pass is like the second. Where a pass has no note and no pause, there
- * is no entry to return to, and no mark.
+ * later pass is like the second, its durations too. Where a pass has no note
+ * and no pause, there is no entry to return to, and no mark.
  *
  * A BITMAP is the info octet 00, the width, the height, the depth 01 and the
  * image. An ICON is the version, which is the character 0, and a bitmap. A LOGO
@@ -91,8 +99,8 @@ extern "C" {
  * refusal or a rule is new or another; CHANGELOG.md says what a caller must
  * change then. The third is raised where none is. A header goes with an archive
  * of the same first two numbers. */
-#define OHAKELM_VERSION_STRING "0.6.0"
-#define OHAKELM_VERSION 600 /* first * 10000 + second * 100 + third */
+#define OHAKELM_VERSION_STRING "0.7.0"
+#define OHAKELM_VERSION 700 /* first * 10000 + second * 100 + third */
 
 /* Answers the OHAKELM_VERSION of the archive that is linked. */
 uint32_t ohakelm_version(void);

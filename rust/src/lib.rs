@@ -225,6 +225,14 @@ pub fn label_stretch(title: &[u8], unicode: bool, stand_in: &[u8]) -> Label {
 /// numbers an entry: note * 1024 + scale * 256 + style * 16 + volume, and the
 /// duration in microseconds.
 ///
+/// Durations do not drift. A quarter is a beat, 60,000,000 / beats microseconds,
+/// which may be no whole number. Counted from the last restart, the boundaries of
+/// entries are the exact sums rounded down, and a duration is the difference of
+/// two. So notes that are alike may differ by one microsecond. The sums restart at
+/// the start of the tone, at each tempo instruction, also at one that sets the tempo
+/// in force, and at the start of each pass of an endless part. Nothing else restarts
+/// them. Pauses count like notes.
+///
 /// A part with loop 15, or recalled with it, is endless. Two passes of it are
 /// listed and nothing behind them. Settings carry on from the first pass into the
 /// second, and each later pass is like the second. So a player goes through the
@@ -254,6 +262,11 @@ pub fn label_stretch(title: &[u8], unicode: bool, stand_in: &[u8]) -> Label {
 /// let playing = ohakelm::list(&message, &mut list)?;
 /// assert_eq!((playing.entries, playing.mark), (2, Some(1)));
 /// assert_eq!((entry::listed_volume(list[0]), entry::listed_volume(list[2])), (7, 2));
+///
+/// // Two quarters at 63 beats, each of 952,380 20/21 microseconds.
+/// let message = [0x02, 0x4A, 0x3A, 0x80, 0x40, 0x00, 0x44, 0x50, 0x45, 0x00, 0x00];
+/// ohakelm::list(&message, &mut list)?;
+/// assert_eq!((list[1], list[3]), (952_380, 952_381));
 /// # Ok::<(), ohakelm::Refusal>(())
 /// ```
 pub fn list(message: &[u8], list: &mut [u32]) -> Result<Playing, Refusal> {

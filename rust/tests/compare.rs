@@ -14,6 +14,7 @@ use ohakelm::LARGEST_TABLE;
 use ohakelm_answers::{Bitmap, Edited, Entry, Label, Listed, Logo, Tone, Written, NO_MARK};
 use support::codecs::{Codec, Edit, LogoParts, Obvious, Spot, ALL};
 use support::compare::Comparison;
+use support::heard::{list_of, restarts, Event, EVENTS};
 use support::rng::{cases_set, seed_from_clock, seed_set};
 use support::tones::LARGEST_TONE;
 
@@ -118,6 +119,8 @@ enum Fault {
     MarksSilentPasses,
     JudgesRoomByOnePass,
     ListsOnePass,
+    /// Restarts the sums of durations at an event that does not, or the reverse.
+    RestartsOtherwise(Event),
 }
 
 const FAULTS: [Fault; 34] = [
@@ -160,7 +163,8 @@ const FAULTS: [Fault; 34] = [
 /// The comparison itself must be able to fail, at each of these faults.
 #[test]
 fn wrong_codecs_are_found() {
-    for fault in FAULTS {
+    let restarts = EVENTS.map(Fault::RestartsOtherwise);
+    for fault in FAULTS.into_iter().chain(restarts) {
         let wrong: &'static dyn Codec = Box::leak(Box::new(Wrong(fault)));
         let found = catch_unwind(AssertUnwindSafe(|| {
             Comparison::new(&[&Obvious, wrong], 1).run(ENOUGH_FOR_ALL);
@@ -219,11 +223,18 @@ fn entries_of_pass(entries: usize, mark: u32) -> usize {
     }
 }
 
-/// Whether a sound message has a header with loop 15.
-fn has_endless_part(message: &[u8]) -> bool {
+/// The table of a sound message.
+fn table_of(message: &[u8]) -> Vec<u32> {
     let mut table = vec![0; LARGEST_TABLE];
     let entries = Obvious.read(message, &mut table, &mut [0; 30]).entries;
-    let mut headers = table[..entries].iter().filter(|&&entry| entry < 65536);
+    table.truncate(entries);
+    table
+}
+
+/// Whether a sound message has a header with loop 15.
+fn has_endless_part(message: &[u8]) -> bool {
+    let table = table_of(message);
+    let mut headers = table.iter().filter(|&&entry| entry < 65536);
     headers.any(|header| header / 256 % 16 == 15)
 }
 
@@ -341,6 +352,11 @@ impl Codec for Wrong {
                 Fault::SetsBackForSecondPass => {
                     let second = 2 * (answer.entries - pass);
                     list.copy_within(second - 2 * pass..second, second);
+                }
+                Fault::RestartsOtherwise(event) => {
+                    let wrong = |it| restarts(it) != (it == event);
+                    let cells = list_of(&table_of(message), wrong);
+                    list[..cells.len()].copy_from_slice(&cells);
                 }
                 _ => {}
             }

@@ -6,6 +6,7 @@ mod support;
 use ohakelm::entry::{header, note, scale, style, tempo, volume};
 use ohakelm_answers::{Edited, Entry, Listed, NO_MARK};
 use support::codecs::{each, Codec, Edit, Spot};
+use support::heard::{restarts, Event, Player};
 use support::octets;
 use support::rng::Rng;
 use support::tones::{self, Bounds};
@@ -17,19 +18,36 @@ const FOR_EVER: u32 = 15;
 const A: u32 = 0;
 const B: u32 = 1;
 
-/// Quarters, each 952,380 microseconds at the tempo of the start, 63 beats.
+/// Quarters. At the tempo of the start, 63 beats, each is 60,000,000 / 63 or
+/// 952,380 20/21 microseconds.
 const NOTE_C: u32 = note(1, 2, 0);
 const NOTE_D: u32 = note(3, 2, 0);
 const PAUSE: u32 = note(0, 2, 0);
 
 /// They are listed so at volume 7, which is that of the start, with scale 1 and
-/// natural style: note * 1,024 + 256 + 7.
+/// natural style: note * 1,024 + 256 + 7. The first one behind a restart is rounded
+/// down.
 const C: [u32; 2] = [1287, 952_380];
 const D: [u32; 2] = [3335, 952_380];
 
 /// The same at another volume.
 fn at(volume: u32, entry: [u32; 2]) -> [u32; 2] {
     [entry[0] - 7 + volume, entry[1]]
+}
+
+/// The same as the second quarter since a restart, or one of the next 19: with it
+/// the sum of so many 20/21 comes to one more.
+fn later(entry: [u32; 2]) -> [u32; 2] {
+    [entry[0], entry[1] + 1]
+}
+
+/// The note C as one of many quarters, so many of them behind the restart. 21
+/// quarters are 20 seconds, and then it all begins again.
+fn c_behind(quarters: usize) -> [u32; 2] {
+    match quarters % 21 {
+        0 => C,
+        _ => later(C),
+    }
 }
 
 /// A part that sounds for ever, ending with volume 2. Ahead of the header are 34
@@ -223,7 +241,8 @@ fn all_settings_at_the_end_of_an_endless_part() {
         let settings = [scale(2), style(1), tempo(14), volume(3)];
         let table = [&[header(A, FOR_EVER, 6), NOTE_C, NOTE_D][..], &settings].concat();
         let second = 2 * 256 + 16 + 3;
-        let list = [C, D, [1024 + second, 480_000], [3 * 1024 + second, 480_000]];
+        let passes = [[1024 + second, 480_000], [3 * 1024 + second, 480_000]];
+        let list = [C, later(D), passes[0], passes[1]];
         assert_list(codec, &temporary(&table), &list, 2);
     });
 }
@@ -236,9 +255,10 @@ fn settings_elsewhere_in_an_endless_part() {
         let message = temporary(&[header(A, FOR_EVER, 2), volume(2), NOTE_C]);
         assert_list(codec, &message, &[at(2, C), at(2, C)], 1);
         let message = temporary(&[header(A, FOR_EVER, 3), NOTE_C, volume(9), NOTE_D]);
-        assert_list(codec, &message, &[C, at(9, D), at(9, C), at(9, D)], 2);
+        let d = later(at(9, D));
+        assert_list(codec, &message, &[C, d, at(9, C), d], 2);
         let table = [header(A, FOR_EVER, 4), NOTE_C, volume(9), NOTE_D, volume(2)];
-        let list = [C, at(9, D), at(2, C), at(9, D)];
+        let list = [C, d, at(2, C), d];
         assert_list(codec, &temporary(&table), &list, 2);
         let table = [header(A, FOR_EVER, 3), NOTE_C, volume(9), volume(2)];
         assert_list(codec, &temporary(&table), &[C, at(2, C)], 1);
@@ -252,10 +272,11 @@ fn an_endless_part_alone() {
     each(|codec| {
         let message = temporary(&[header(A, FOR_EVER, 1), NOTE_C]);
         assert_list(codec, &message, &[C, C], 1);
+        let d = later(D);
         let message = temporary(&[header(A, FOR_EVER, 2), NOTE_C, NOTE_D]);
-        assert_list(codec, &message, &[C, D, C, D], 2);
+        assert_list(codec, &message, &[C, d, C, d], 2);
         let message = temporary(&[header(A, FOR_EVER, 3), NOTE_C, NOTE_D, NOTE_D]);
-        assert_list(codec, &message, &[C, D, D, C, D, D], 3);
+        assert_list(codec, &message, &[C, d, d, C, d, d], 3);
     });
 }
 
@@ -268,8 +289,8 @@ fn an_endless_part_behind_others() {
         // The part ahead sounds twice and ends with volume 9.
         let ahead = [header(A, 1, 2), NOTE_C, volume(9)];
         let endless = [header(B, FOR_EVER, 3), NOTE_D, NOTE_C, volume(2)];
-        let heard = [C, at(9, C)];
-        let both = [at(9, D), at(9, C), at(2, D), at(2, C)];
+        let heard = [C, later(at(9, C))];
+        let both = [at(9, D), later(at(9, C)), at(2, D), later(at(2, C))];
         let message = temporary(&[&ahead[..], &endless].concat());
         assert_list(codec, &message, &[&heard[..], &both].concat(), 4);
         // The part ahead has no entry.
@@ -292,13 +313,13 @@ fn an_endless_recall() {
         let between = [header(B, 0, 2), NOTE_D, volume(9)];
         let recall = [header(A, FOR_EVER, 0)];
         let message = temporary(&[&part[..], &between, &recall].concat());
-        let list = [C, at(2, D), at(9, C), at(2, C)];
+        let list = [C, later(at(2, D)), at(9, C), at(2, C)];
         assert_list(codec, &message, &list, 3);
         // The nearest definition is recalled.
         let again = [header(A, 2, 1), NOTE_D];
         let message = temporary(&[&part[..], &again, &recall].concat());
-        let d = at(2, D);
-        assert_list(codec, &message, &[C, d, d, d, d, d], 5);
+        let (d, first) = (later(at(2, D)), at(2, D));
+        assert_list(codec, &message, &[C, d, d, d, first, first], 5);
     });
 }
 
@@ -325,18 +346,20 @@ fn nothing_is_listed_behind_an_endless_part() {
     });
 }
 
-/// The entries of loop 1 and of loop 15 are the same, and only one list returns.
+/// Loop 1 and loop 15 both have two passes. Only one list returns, and only there
+/// the second pass restarts.
 #[test]
 fn loop_1_and_loop_14_are_not_endless() {
     each(|codec| {
-        for (loops, passes, mark) in [
-            (0, 1, NO_MARK),
-            (1, 2, NO_MARK),
-            (14, 15, NO_MARK),
-            (FOR_EVER, 2, 1),
+        let (restarted, carried) = (at(2, C), later(at(2, C)));
+        for (loops, passes, second, mark) in [
+            (0, 1, carried, NO_MARK),
+            (1, 2, carried, NO_MARK),
+            (14, 15, carried, NO_MARK),
+            (FOR_EVER, 2, restarted, 1),
         ] {
             let message = temporary(&[header(A, loops, 2), NOTE_C, volume(2)]);
-            let mut list = vec![at(2, C); passes];
+            let mut list = vec![second; passes];
             list[0] = C;
             assert_list(codec, &message, &list, mark);
         }
@@ -415,12 +438,19 @@ fn the_longest_endless_list() {
             entries,
             mark,
         };
+        // Two restarts, one ahead of each of the last two passes.
+        let expected: Vec<[u32; 2]> = (0..971_550)
+            .chain(0..255)
+            .chain(0..255)
+            .map(c_behind)
+            .collect();
         assert_eq!(codec.list(&message, &mut list), answer);
-        assert!(list.chunks(2).all(|entry| entry == C));
+        assert!(list.chunks(2).eq(&expected));
         list.fill(OLD);
         assert_eq!(codec.rows(&message, &mut list, &mut rows), answer);
-        assert!(list.chunks(2).all(|entry| entry == C));
-        assert!(rows.iter().all(|&it| it == row(C)));
+        assert!(list.chunks(2).eq(&expected));
+        let records = expected.iter().map(|&entry| row(entry));
+        assert!(rows.iter().copied().eq(records));
     });
 }
 
@@ -429,6 +459,7 @@ fn the_longest_endless_list() {
 #[test]
 fn room_counts_both_passes() {
     let message = temporary(&with_header(A, FOR_EVER, &[NOTE_C; 255]));
+    let entries: Vec<[u32; 2]> = (0..255).chain(0..255).map(c_behind).collect();
     each(|codec| {
         let answer = Listed {
             refusal: 0,
@@ -439,13 +470,13 @@ fn room_counts_both_passes() {
         for room in [2 * 255, 2 * 509, 2 * 510 - 1, 2 * 510] {
             let mut list = vec![OLD; room];
             let made = codec.list(&message, &mut list);
-            assert_made(made, answer, &list, &C.repeat(510));
+            assert_made(made, answer, &list, &entries.concat());
         }
         for room in [(2 * 255, 255), (2 * 510, 255), (2 * 255, 510)] {
-            assert_rows(codec, &message, answer, &[C; 510], room);
+            assert_rows(codec, &message, answer, &entries, room);
         }
         for room in [(2 * 510, 509), (2 * 510 - 1, 510), (2 * 510, 510)] {
-            assert_rows(codec, &message, answer, &[C; 510], room);
+            assert_rows(codec, &message, answer, &entries, room);
         }
     });
 }
@@ -459,7 +490,7 @@ fn edits_of_the_chime() {
         let chime = &octets(CHIME)[..];
         // 001 0011 010 00 behind the volume.
         let longer = octets("02 4A 3A 80 41 E0 64 51 48 9A 00 00");
-        let list = [C, at(2, D), at(2, C), at(2, D)];
+        let list = [C, later(at(2, D)), at(2, C), later(at(2, D))];
         let insert = Edit::Insert(NOTE_D);
         assert_edit(codec, [chime, &longer], (0, 2), insert, &list, 2);
         // Without the volume.
@@ -522,7 +553,7 @@ fn edits_of_a_body_that_is_recalled_for_ever() {
     each(|codec| {
         let before = &recalled(&[NOTE_C, volume(2)])[..];
         let longer = &recalled(&[NOTE_C, volume(2), NOTE_D])[..];
-        let (c, d) = (at(2, C), at(2, D));
+        let (c, d) = (at(2, C), later(at(2, D)));
         let insert = Edit::Insert(NOTE_D);
         assert_edit(
             codec,
@@ -559,21 +590,16 @@ fn edits_ahead_of_an_endless_part_and_behind_it() {
         // Two passes of the part ahead.
         let ahead = &around(&[NOTE_C, NOTE_D], &[NOTE_D])[..];
         let insert = Edit::Insert(NOTE_C);
-        assert_edit(
-            codec,
-            [before, ahead],
-            (0, 0),
-            insert,
-            &[C, D, C, D, C, c],
-            5,
-        );
+        let list = [C, later(D), later(C), later(D), C, c];
+        assert_edit(codec, [before, ahead], (0, 0), insert, &list, 5);
         let louder = &around(&[NOTE_D, volume(9)], &[NOTE_D])[..];
-        let list = [D, at(9, D), at(9, C), c];
+        let list = [D, later(at(9, D)), at(9, C), c];
         let insert = Edit::Insert(volume(9));
         assert_edit(codec, [before, louder], (0, 1), insert, &list, 3);
         let behind = &around(&[NOTE_D], &[NOTE_C, NOTE_D])[..];
         let insert = Edit::Insert(NOTE_C);
-        assert_edit(codec, [before, behind], (2, 0), insert, &[D, D, C, c], 3);
+        let list = [D, later(D), C, c];
+        assert_edit(codec, [before, behind], (2, 0), insert, &list, 3);
     });
 }
 
@@ -598,58 +624,6 @@ fn listed(codec: &dyn Codec, message: &[u8]) -> (Vec<u32>, u32) {
     (list, answer.mark)
 }
 
-/// A player that goes through bodies one pass after the other, for as long as one
-/// likes. It knows the rules of settings and durations, and nothing of lists.
-struct Player {
-    scale: u32,
-    style: u32,
-    tempo: u32,
-    volume: u32,
-}
-
-impl Player {
-    fn at_start() -> Player {
-        Player {
-            scale: 1,
-            style: 0,
-            tempo: 8,
-            volume: 7,
-        }
-    }
-
-    /// The entries of one pass of a body.
-    fn pass(&mut self, body: &[u32]) -> Vec<u32> {
-        let mut cells = Vec::new();
-        for &entry in body {
-            let payload = entry % 65536;
-            match entry / 65536 {
-                1 => cells.extend(self.sounded(payload)),
-                2 => self.scale = payload,
-                3 => self.style = payload,
-                4 => self.tempo = payload,
-                _ => self.volume = payload,
-            }
-        }
-        cells
-    }
-
-    fn sounded(&self, payload: u32) -> [u32; 2] {
-        let (note, duration, specifier) = (payload / 32, payload / 4 % 8, payload % 4);
-        let full = [384, 576, 672, 256][specifier as usize];
-        let units = full >> duration;
-        [
-            note * 1024 + self.scale * 256 + self.style * 16 + self.volume,
-            units * 625_000 / BEATS[self.tempo as usize],
-        ]
-    }
-}
-
-/// Beats a minute of the tempo codes.
-const BEATS: [u32; 32] = [
-    25, 28, 31, 35, 40, 45, 50, 56, 63, 70, 80, 90, 100, 112, 125, 140, 160, 180, 200, 225, 250,
-    285, 320, 355, 400, 450, 500, 565, 635, 715, 800, 900,
-];
-
 /// A random body of one to six instructions.
 fn body(rng: &mut Rng) -> Vec<u32> {
     let count = rng.within(1, 6);
@@ -670,11 +644,15 @@ fn rounds_from_the_mark_are_more_passes() {
                 false => (with_header(B, FOR_EVER, &second), &second),
             };
             let (list, mark) = listed(codec, &temporary(&[part, behind].concat()));
-            let mut player = Player::at_start();
-            let mut passes = player.pass(&first);
-            passes.extend(player.pass(endless));
+            let mut player = Player::at_start(restarts);
+            player.pass(&first);
+            player.meet(Event::FirstEndlessPass);
+            player.pass(endless);
             for rounds in 0..5 {
-                passes.extend(player.pass(endless));
+                // What holds of the second pass holds of each later one.
+                player.meet(Event::SecondEndlessPass);
+                player.pass(endless);
+                let passes = player.cells();
                 assert_eq!(heard(&list, mark, rounds), passes, "{first:?} {endless:?}");
             }
         }
@@ -689,16 +667,29 @@ fn endless_header(table: &[u32]) -> Option<usize> {
 }
 
 /// A table up to its endless pattern, which sounds so many times instead: once
-/// where it stands, and in recalls.
+/// where it stands, and in recalls. Ahead of each pass a part of another id sets
+/// the tempo that is in force, and nothing else, so the durations restart.
 fn spelled_out(table: &[u32], at: usize, passes: usize) -> Vec<u32> {
     let (once, body) = (table[at] - FOR_EVER * 256, (table[at] % 256) as usize);
-    let mut spelled = table[..at + 1 + body].to_vec();
-    spelled[at] = once;
-    spelled.extend(vec![once / 256 * 256; passes - 1]);
+    let other = (once / 4096 + 1) % 4;
+    let restart = |spelled: &[u32]| {
+        let mut player = Player::at_start(restarts);
+        player.table(spelled);
+        [header(other, 0, 1), tempo(player.tempo())]
+    };
+    let mut spelled = table[..at].to_vec();
+    spelled.extend(restart(&spelled));
+    spelled.push(once);
+    spelled.extend(&table[at + 1..at + 1 + body]);
+    for _ in 1..passes {
+        spelled.extend(restart(&spelled));
+        spelled.push(once / 256 * 256);
+    }
     spelled
 }
 
-/// Any tone with an endless part is heard as if its passes were spelled out.
+/// Any tone with an endless part is heard as if its passes were spelled out, each
+/// behind its tempo set once more.
 #[test]
 fn rounds_from_the_mark_are_as_if_spelled_out() {
     each(|codec| {

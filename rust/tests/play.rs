@@ -136,6 +136,26 @@ fn a_chime_prints_two_rounds_and_returns_to_the_second() {
     assert_eq!(printed, "entries 0 return none\n");
 }
 
+/// At 900 beats a 1/32 note of two thirds is 5,555 5/9 microseconds. At 90 beats it
+/// is 55,555 5/9, and for ever each round begins anew.
+#[test]
+fn durations_print_as_differences_of_exact_sums() {
+    let (short, tempo) = (65536 + 32 + 5 * 4 + 3, 4 * 65536);
+    let message = tones::written(2, false, &[], &[4, tempo + 31, short, short, short]);
+    let output = play(&message, usize::MAX, Duration::ZERO);
+    let printed = String::from_utf8_lossy(&output.stdout);
+    let three = "entries 3 return none\n1 1 0 7 5555\n1 1 0 7 5556\n1 1 0 7 5555\n";
+    assert_eq!(printed, three);
+    let table = [1, tempo + 11, 4096 + 15 * 256 + 1, short];
+    let message = tones::written(2, false, &[], &table);
+    let output = play(&message, usize::MAX, Duration::ZERO);
+    let printed = String::from_utf8_lossy(&output.stdout);
+    assert_eq!(
+        printed,
+        "entries 2 return 1\n1 1 0 7 55555\n1 1 0 7 55555\n"
+    );
+}
+
 #[test]
 fn a_few_hundred_messages_play() {
     let seed = seed_set().unwrap_or(5505);

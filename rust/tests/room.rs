@@ -123,11 +123,20 @@ fn refused_edit() -> Edited {
     }
 }
 
-/// Whether each entry is the note C with the settings at the start. A quarter at
-/// 63 beats is 96 * 625,000 / 63 microseconds.
+/// How long a quarter at 63 beats is with so many ahead of it. It is 96 * 625,000 /
+/// 63 or 952,380 20/21 microseconds, so 21 of them are 20 seconds. One of the 21 is
+/// rounded down, the first.
+fn quarter(ahead: usize) -> u32 {
+    match ahead % 21 {
+        0 => 952_380,
+        _ => 952_381,
+    }
+}
+
+/// Whether each entry is the note C with the settings at the start.
 fn is_full(list: &[u32]) -> bool {
-    let entry = [1024 + 256 + 7, 952_380];
-    list.chunks(2).all(|numbers| numbers == entry)
+    let mut entries = list.chunks(2).enumerate();
+    entries.all(|(position, numbers)| numbers == [1024 + 256 + 7, quarter(position)])
 }
 
 fn is_old(list: &[u32]) -> bool {
@@ -161,14 +170,15 @@ fn the_largest_rows_are_made() {
         assert_eq!(answer, refused_list());
         assert!(is_old(&list) && rows.iter().all(|row| *row == old));
         assert_eq!(codec.rows(&message, &mut list, &mut rows), LISTED);
-        let row = Entry {
+        let row = |position| Entry {
             note: 1,
             scale: 1,
             style: 0,
             volume: 7,
-            microseconds: 952_380,
+            microseconds: quarter(position),
         };
-        assert!(is_full(&list) && rows.iter().all(|it| *it == row));
+        let expected = (0..LARGEST_ROWS).map(row);
+        assert!(is_full(&list) && rows.iter().copied().eq(expected));
     });
 }
 

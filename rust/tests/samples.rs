@@ -17,8 +17,16 @@ const P1_TABLE: [u32; 3] = [2, 262158, 65864];
 const SCALE_0: u32 = 2 * 65536;
 const NOTE_C: u32 = 65536 + 32 + 2 * 4;
 const NOTE_D: u32 = 65536 + 3 * 32 + 2 * 4;
-/// A quarter at the default tempo.
-const QUARTER: u32 = 952_380;
+/// A quarter at the default tempo, so many of them behind the start: 60,000,000 /
+/// 63 or 952,380 20/21 microseconds. Where 21 quarters or none are behind, the sum
+/// is whole, and the quarter is rounded down. At each other one the sum of the
+/// 20/21 comes to one more.
+fn quarter_behind(quarters: usize) -> u32 {
+    match quarters % 21 {
+        0 => 952_380,
+        _ => 952_381,
+    }
+}
 
 /// A temporary song with a certain table.
 fn temporary(table: &[u32]) -> Vec<u8> {
@@ -465,7 +473,9 @@ fn a_loop_value_is_one_less_than_the_soundings() {
             let message = temporary(&[repeats * 256 + 1, NOTE_C]);
             let (answer, list) = listed(codec, &message);
             assert_eq!(answer, accepted_list(soundings, NO_MARK));
-            assert_eq!(list, [sounding(1, 7), QUARTER].repeat(soundings));
+            let entry = |position| [sounding(1, 7), quarter_behind(position)];
+            let entries: Vec<[u32; 2]> = (0..soundings).map(entry).collect();
+            assert_eq!(list, entries.concat());
         }
     });
 }
@@ -478,7 +488,8 @@ fn settings_carry_on() {
         let (answer, list) = listed(codec, &message);
         assert_eq!(answer, accepted_list(3, NO_MARK));
         let [first, later] = [sounding(1, 7), sounding(1, 9)];
-        assert_eq!(list, [first, QUARTER, later, QUARTER, later, QUARTER]);
+        // What rounding left over carries on as well.
+        assert_eq!(list, [first, 952_380, later, 952_381, later, 952_381]);
     });
 }
 
@@ -532,8 +543,8 @@ fn the_longest_list_is_made() {
         assert_eq!(codec.list(&message, &mut list[1..2 * entries]).refusal, 11);
         let answer = codec.rows(&message, &mut list, &mut rows);
         assert_eq!(answer, accepted_list(975_375, NO_MARK));
-        let mut all = list[..2 * entries].chunks(2);
-        assert!(all.all(|entry| entry == [sounding(1, 7), QUARTER]));
+        let mut all = list[..2 * entries].chunks(2).enumerate();
+        assert!(all.all(|(position, entry)| entry == [sounding(1, 7), quarter_behind(position)]));
         assert_eq!((list[2 * entries], rows[entries]), (7, Entry::default()));
         assert!(rows[..entries].iter().all(|row| row.volume == 7));
     });

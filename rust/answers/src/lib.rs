@@ -117,6 +117,8 @@ pub struct Entry {
     pub scale: u32,
     pub style: u32,
     pub volume: u32,
+    /// The difference of two boundaries, each the exact sum since the last restart
+    /// rounded down.
     pub microseconds: u32,
 }
 

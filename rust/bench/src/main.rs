@@ -10,7 +10,7 @@ mod tones;
 
 use measure::{compare, once_each, repeated, Batch, Row};
 use ohakelm::numbers as proved;
-use ohakelm_answers::Entry;
+use ohakelm_answers::{Entry, Listed};
 use tones::{Tone, BASIC};
 
 /// An insertion of one note may lengthen a message by two octets.
@@ -18,6 +18,8 @@ const LARGEST_EDITED: usize = 4096 - 2;
 
 const NOTE: u32 = 65536 + 10 * 32 + 2 * 4;
 const SCALE: u32 = 2 * 65536;
+/// 63 beats, which are those of the start.
+const TEMPO: u32 = 4 * 65536 + 8;
 
 fn main() {
     let mut rows = Vec::new();
@@ -34,6 +36,7 @@ fn main() {
         rows.push(write(&tone));
         rows.push(list(&tone));
     }
+    rows.extend(tempos());
     rows.extend(recalls());
     rows.extend(endless_part());
     for (width, height) in [(72, 14), (248, 255)] {
@@ -144,31 +147,49 @@ fn edits(tone: &Tone) -> [Row; 3] {
     [insert, replace, delete]
 }
 
+/// Notes alone, few and many, at one tempo and with a tempo ahead of every tenth.
+/// What differs is what restarts of the durations cost.
+fn tempos() -> [Row; 4] {
+    [(12, false), (12, true), (2400, false), (2400, true)].map(|(notes, with_tempos)| {
+        let message = &tones::of_notes(notes, with_tempos)[..];
+        let tempos = if with_tempos {
+            "a tempo every ten"
+        } else {
+            "no tempo"
+        };
+        list_of(message, &format!("list, {notes} notes, {tempos}"))
+    })
+}
+
 /// The tone of 254 recalls, whose list is much longer than its message.
-fn recalls() -> [Row; 3] {
-    let message = &tones::of_recalls()[..];
-    let cells = vec![0; 2 * entries(message)];
-    let name = format!("list, {} entries", cells.len() / 2);
+fn recalls() -> [Row; 4] {
+    let message = &tones::of_recalls(None)[..];
+    let name = format!("list, {} entries", entries(message));
+    let plain = long_list(message, &name, ohakelm_fast::list);
+    let rows = rows_of(message, &format!("rows, {} entries", entries(message)));
+    // A pass is copied where the one before began with the same fraction. Here that
+    // takes a tempo in each, for ten quarters leave another fraction each time.
+    let message = &tones::of_recalls(Some(TEMPO))[..];
+    let name = format!("{name}, a tempo in each pass");
+    let decoding = long_list(message, &name, ohakelm_fast::list);
+    let name = format!("{name}, plain Rust copies passes");
+    let copying = long_list(message, &name, ohakelm_fast::list_by_copying);
+    [plain, rows, decoding, copying]
+}
+
+/// A list that is made once in each run, held against one of plain Rust's ways.
+fn long_list(message: &[u8], name: &str, plain: impl Fn(&[u8], &mut [u32]) -> Listed) -> Row {
     let batch = Batch {
         buffers: 1,
         times: 1,
     };
-    let decoding = compare(
-        &name,
+    compare(
+        name,
         batch,
-        &cells,
+        &vec![0; 2 * entries(message)],
         |cells| proved::list(message, cells),
-        |cells| ohakelm_fast::list(message, cells),
-    );
-    let copying = compare(
-        &format!("{name}, plain Rust copies passes"),
-        batch,
-        &cells,
-        |cells| proved::list(message, cells),
-        |cells| ohakelm_fast::list_by_copying(message, cells),
-    );
-    let rows = rows_of(message, &format!("rows, {} entries", cells.len() / 2));
-    [decoding, copying, rows]
+        |cells| plain(message, cells),
+    )
 }
 
 /// One part for ever, of which two passes are listed.

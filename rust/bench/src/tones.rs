@@ -73,12 +73,29 @@ fn filled(octets: usize, title: &[u8]) -> Tone {
     titled(false, title, &table(&parts))
 }
 
-/// The tone of 255 headers, loop 14, one part of ten notes and 254 recalls.
-pub fn of_recalls() -> Vec<u8> {
-    let mut table = vec![14 * 256 + 10];
-    table.extend((1..=10).map(|note| 65536 + note * 32 + 8));
+/// The tone of 255 headers, loop 14, one part of ten notes and 254 recalls. Ahead
+/// of the notes there may be a setting.
+pub fn of_recalls(setting: Option<u32>) -> Vec<u8> {
+    let mut body = Vec::from_iter(setting);
+    body.extend((1..=10).map(|note| 65536 + note * 32 + 8));
+    let mut table = vec![14 * 256 + body.len() as u32];
+    table.append(&mut body);
     table.extend([14 * 256; 254]);
     written(false, b"", &table)
+}
+
+/// So many notes and nothing else, or with a tempo ahead of every tenth.
+pub fn of_notes(notes: usize, with_tempos: bool) -> Vec<u8> {
+    let mut instructions = Instructions { state: 7 };
+    let mut all = Vec::new();
+    for position in 0..notes {
+        if with_tempos && position % 10 == 0 {
+            all.push(instructions.tempo());
+        }
+        all.push(instructions.note());
+    }
+    let parts: Vec<Vec<u32>> = all.chunks(BODY).map(<[u32]>::to_vec).collect();
+    written(false, b"", &table_of_parts(&parts))
 }
 
 /// The tone of one full part that sounds for ever.
@@ -87,6 +104,16 @@ pub fn of_endless_part() -> Vec<u8> {
     let mut table = vec![15 * 256 + 255];
     table.extend((0..255).map(|_| instructions.next()));
     written(false, b"Chime", &table)
+}
+
+/// Headers and bodies, each sounding once.
+fn table_of_parts(parts: &[Vec<u32>]) -> Vec<u32> {
+    let mut table = Vec::new();
+    for (position, body) in parts.iter().enumerate() {
+        table.push((position % 4) as u32 * 4096 + body.len() as u32);
+        table.extend(body);
+    }
+    table
 }
 
 /// Headers and bodies. After every third part comes a recall of the first one
@@ -142,10 +169,18 @@ impl Instructions {
         match self.below(20) {
             0 => 2 * 65536 + self.below(4),
             1 => 3 * 65536 + self.below(3),
-            2 => 4 * 65536 + self.below(32),
+            2 => self.tempo(),
             3 => 5 * 65536 + self.below(16),
-            _ => 65536 + self.below(13) * 32 + self.below(6) * 4 + self.below(4),
+            _ => self.note(),
         }
+    }
+
+    fn tempo(&mut self) -> u32 {
+        4 * 65536 + self.below(32)
+    }
+
+    fn note(&mut self) -> u32 {
+        65536 + self.below(13) * 32 + self.below(6) * 4 + self.below(4)
     }
 
     /// The high bits of a linear congruential generator.

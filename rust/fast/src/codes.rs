@@ -88,33 +88,50 @@ pub fn entry_width(entry: u32) -> usize {
     entry_width_within(entry)
 }
 
-/// Microseconds of a note for each tempo, by duration code and specifier.
-pub static DURATIONS: [[u32; 32]; 32] = durations();
+/// Bits of a step below the microsecond.
+pub const BELOW: u32 = 39;
 
-const BEATS: [u32; 32] = [
+/// How long a note lasts at each tempo, by duration code and specifier, in 2^39ths
+/// of a microsecond. A unit is 625,000 / beats microseconds, and here it is rounded
+/// up. Rounded down to microseconds the sums are still those of exact units: `unit`
+/// shows why.
+pub static STEPS: [[u64; 32]; 32] = steps();
+
+const BEATS: [u64; 32] = [
     25, 28, 31, 35, 40, 45, 50, 56, 63, 70, 80, 90, 100, 112, 125, 140, 160, 180, 200, 225, 250,
     285, 320, 355, 400, 450, 500, 565, 635, 715, 800, 900,
 ];
 
-const fn durations() -> [[u32; 32]; 32] {
+/// Units of the longest list, if it were all of the longest note.
+const MOST_UNITS: u64 = 975_375 * 672;
+
+/// A unit in 2^39ths of a microsecond, rounded up.
+const fn unit(beats: u64) -> u64 {
+    let exact: u64 = 625_000 << BELOW;
+    let unit = exact.div_ceil(beats);
+    // Each unit is too long by the excess, in beats-ths of 2^39ths. An exact sum is
+    // a whole number of beats-ths of a microsecond. As long as all its units are too
+    // long by less than one of these, it is rounded down to the same microsecond.
+    let excess = unit * beats - exact;
+    assert!(excess * MOST_UNITS < 1 << BELOW);
+    unit
+}
+
+const fn steps() -> [[u64; 32]; 32] {
     let mut table = [[0; 32]; 32];
-    let mut tempo = 0;
-    while tempo < 32 {
-        let mut code = 0;
-        // 24 codes stand for durations. The last eight never occur.
-        while code < 24 {
-            let full = 384 >> (code >> 2);
-            let units = match code & 3 {
-                0 => full,
-                1 => full * 3 / 2,
-                2 => full * 7 / 4,
-                _ => full * 2 / 3,
-            };
-            // At most 672 units, which 32 bits hold with ease.
-            table[tempo][code] = units * 625_000 / BEATS[tempo];
-            code += 1;
-        }
-        tempo += 1;
+    // 24 codes stand for durations. The last eight never occur.
+    let mut cell = 0;
+    while cell < 32 * 24 {
+        let (tempo, code) = (cell / 24, cell % 24);
+        let full = 384 >> (code >> 2);
+        let units = match code & 3 {
+            0 => full,
+            1 => full * 3 / 2,
+            2 => full * 7 / 4,
+            _ => full * 2 / 3,
+        };
+        table[tempo][code] = units * unit(BEATS[tempo]);
+        cell += 1;
     }
     table
 }

@@ -69,11 +69,15 @@ pub(crate) struct Playing {
     return_to: Option<usize>,
 }
 
-struct Settings {
+/// What a tone carries on from one instruction to the next.
+struct State {
     scale: u32,
     style: u32,
     tempo: u32,
     volume: u32,
+    /// What the durations since the last restart left over, in beats-ths of a
+    /// microsecond. It is below the beats of the tempo.
+    fraction: u32,
 }
 
 impl Playing {
@@ -82,58 +86,73 @@ impl Playing {
             entries: Vec::new(),
             return_to: None,
         };
-        let mut settings = Settings {
+        let mut state = State {
             scale: 1,
             style: 0,
             tempo: 8,
             volume: 7,
+            fraction: 0,
         };
         for (position, pattern) in tone.patterns.iter().enumerate() {
             let body = body_of(pattern, &tone.patterns[..position]);
             if pattern.repeats == ENDLESS {
-                playing.sound_endlessly(body, &mut settings);
+                playing.sound_endlessly(body, &mut state);
                 break;
             }
             for _ in 0..=pattern.repeats {
-                playing.sound(body, &mut settings);
+                playing.sound(body, &mut state);
             }
         }
         playing
     }
 
     /// Adds two passes and marks where the second one begins. The first one starts
-    /// with whatever was set ahead of it. Each pass leaves the same settings, so
-    /// all later ones start like the second.
-    fn sound_endlessly(&mut self, body: &[Instruction], settings: &mut Settings) {
-        self.sound(body, settings);
+    /// with whatever was set ahead of it. Each pass leaves the same settings, and
+    /// each starts without a fraction, so all later ones are like the second.
+    fn sound_endlessly(&mut self, body: &[Instruction], state: &mut State) {
+        state.fraction = 0;
+        self.sound(body, state);
         let second = self.entries.len();
-        self.sound(body, settings);
+        state.fraction = 0;
+        self.sound(body, state);
         if self.entries.len() > second {
             self.return_to = Some(second);
         }
     }
 
     /// Adds one pass of a body.
-    fn sound(&mut self, body: &[Instruction], settings: &mut Settings) {
+    fn sound(&mut self, body: &[Instruction], state: &mut State) {
         for &instruction in body {
             match instruction {
                 Instruction::Note {
                     note,
                     duration,
                     specifier,
-                } => self.entries.push(Entry {
-                    note,
-                    scale: settings.scale,
-                    style: settings.style,
-                    volume: settings.volume,
-                    microseconds: microseconds(duration, specifier, settings.tempo),
-                }),
-                Instruction::Scale(code) => settings.scale = code,
-                Instruction::Style(code) => settings.style = code,
-                Instruction::Tempo(code) => settings.tempo = code,
-                Instruction::Volume(code) => settings.volume = code,
+                } => self.add(note, units(duration, specifier), state),
+                Instruction::Scale(code) => state.scale = code,
+                Instruction::Style(code) => state.style = code,
+                Instruction::Tempo(code) => {
+                    state.tempo = code;
+                    // Also where this tempo was set already.
+                    state.fraction = 0;
+                }
+                Instruction::Volume(code) => state.volume = code,
             }
         }
+    }
+
+    /// Adds the entry of a note or a pause.
+    fn add(&mut self, note: u32, units: u32, state: &mut State) {
+        let beats = BEATS[state.tempo as usize];
+        let (microseconds, fraction) = lasting(state.fraction, units, beats);
+        state.fraction = fraction;
+        self.entries.push(Entry {
+            note,
+            scale: state.scale,
+            style: state.style,
+            volume: state.volume,
+            microseconds,
+        });
     }
 
     /// The list in the two-number form.
@@ -163,9 +182,12 @@ fn body_of<'a>(pattern: &'a Pattern, earlier: &'a [Pattern]) -> &'a [Instruction
     definition.map_or(&[], |other| &other.body)
 }
 
-/// At most 672 units, so the product fits 32 bits.
-fn microseconds(duration: u32, specifier: u32, tempo: u32) -> u32 {
-    units(duration, specifier) * 625_000 / BEATS[tempo as usize]
+/// A duration in microseconds, and the new fraction. It takes the fraction left
+/// over, so that all durations since the last restart come to their exact sum,
+/// rounded down once. At most 672 units, so the sum fits 32 bits.
+fn lasting(fraction: u32, units: u32, beats: u32) -> (u32, u32) {
+    let whole = fraction + units * 625_000;
+    (whole / beats, whole % beats)
 }
 
 /// A full note is 384 units, and each duration code halves it.

@@ -57,7 +57,8 @@ static void check_rows(void)
 }
 
 /* A part for ever: the note C, a quarter, and then volume 2. Its first round has
- * volume 7. A full note takes the volume's place. */
+ * volume 7. A full note takes the volume's place: with the quarter ahead of it, it
+ * ends 480 units or 4,761,904 16/21 microseconds behind the start of its round. */
 static void check_endless(void)
 {
     uint8_t buf[11] = {0x02, 0x4A, 0x3A, 0x80, 0x41, 0xE0, 0x44, 0x51, 0x48, 0x00, 0x00};
@@ -75,7 +76,8 @@ static void check_endless(void)
     struct ohakelm_edited done =
         ohakelm_replace(buf, 11, 10, 0, 1, OHAKELM_NOTE(3, 0, 0), list, 8);
     CHECK(done.refusal == OHAKELM_ACCEPTED && done.entries == 4 && done.mark == 2);
-    CHECK(OHAKELM_LISTED_NOTE(list[6]) == 3 && list[7] == 3809523);
+    CHECK(OHAKELM_LISTED_NOTE(list[6]) == 3 && list[5] + list[7] == 4761904);
+    CHECK(list[1] == 952380 && list[3] == 3809524 && list[5] == 952380);
 }
 
 static void check_label(void)

@@ -11,6 +11,7 @@ pub mod code;
 pub mod codecs;
 pub mod compare;
 pub mod document;
+pub mod heard;
 pub mod inputs;
 pub mod kinds;
 pub mod largest;
