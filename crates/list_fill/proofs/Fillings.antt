@@ -35,7 +35,8 @@ use Rattle.tone_elements.specs.Standing.{BodyAt, behindOr, bodyIn, behindIn}
 use Rattle.list_rules.proofs.Counts.{list-count}
 use Rattle.list_count.proofs.Bodies.{isKnown, knownOf, remember-length, body-sounding, learn-read}
 use Rattle.list_count.proofs.Parts.{AllFor, parts-kept, part-sounds, known-sounding}
-use Rattle.list_rules.proofs.Joining.{play-one, play-last}
+use Rattle.list_rules.proofs.Joining.{play-last}
+use Rattle.list_rules.proofs.Restarts.{patterns-carry}
 use Rattle.list_rules.proofs.Packing.{length-numbers}
 use Rattle.list_fill.proofs.Walking.{and-then, advanced-long}
 
@@ -273,7 +274,7 @@ module _ {m : List ℕ} {ps : List Pattern} {old new : List ℕ} {parts : List P
                   done = v .done ++ d .entries;
                   advanced = record { state = refl; ready = both .ready; place = refl; cells = both .cells; list = both .list };
                   goes = v .goes ∙ ap (λ (y : List Pattern). v .done ++ play (stateOf w) (v .bodies) (length (v .done)) y .entries) others
-                      ∙ ap (λ (y : Listing). v .done ++ y .entries) (play-one (stateOf w) (v .bodies) (length (v .done)) one (head .others) other)
+                      ∙ ap (λ (y : Listing). v .done ++ y .entries) (patterns-carry (stateOf w) (v .bodies) (length (v .done)) one (head .others) other)
                       ∙ sym (append-assoc (v .done) (d .entries) (play (d .after) (remember (v .bodies) one) (length (v .done) + length (d .entries)) (head .others) .entries))
                       ∙ ap₂ (λ (u : State) (k : ℕ). (v .done ++ d .entries) ++ play u (remember (v .bodies) one) k (head .others) .entries) s (sym (length-append (v .done) (d .entries)));
                   room = v .room;

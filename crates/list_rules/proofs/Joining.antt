@@ -33,11 +33,6 @@ NoneEndless (p ∷ ps) = (p .loop ≡ 15 → ⊥) × NoneEndless ps
 abbrev pub listed-ahead : List Entry → Listing → Listing
 listed-ahead rs g = record { entries = rs ++ g .entries; mark = g .mark }
 
--- one pattern with another loop, and what follows it
-pub play-one : (s : State) (bodies : List Remembered) (n : ℕ) (p : Pattern) (ps : List Pattern) → (p .loop ≡ 15 → ⊥)
-    → play s bodies n (p ∷ ps) ≡ listed-ahead (patternPlayed s bodies p .entries) (play (patternPlayed s bodies p .after) (remember bodies p) (n + length (patternPlayed s bodies p .entries)) ps)
-play-one s bodies n p ps h = rw (ne-eqb (p .loop) 15 h)
-
 -- a pattern with loop 15 ends the list
 pub play-last : (s : State) (bodies : List Remembered) (n : ℕ) (p : Pattern) (ps : List Pattern) → p .loop ≡ 15
     → play s bodies n (p ∷ ps) ≡ record { entries = patternPlayed s bodies p .entries; mark = markAt n (onePass 15 s (bodyOf bodies p) .entries) }
@@ -77,18 +72,6 @@ same-behind s bodies n (p ∷ ps) qs qs′ h =
 -- one pass is a pass
 pub one-pass : (loop : ℕ) (s : State) (b : List ℕ) → passes loop 1 s b ≡ onePass loop s b
 one-pass loop s b = λ i. record { entries = append-nil (onePass loop s b .entries) i; after = onePass loop s b .after }
-
--- passes at any loop but 15 carry the state on
-pub carried-on : (loop n : ℕ) (s : State) (b : List ℕ) → (loop ≡ 15 → ⊥) → passes loop n s b ≡ passes 0 n s b
-carried-on loop zero s b h = refl
-carried-on loop (suc n) s b h = rw (ne-eqb loop 15 h) (ap (ahead (pass s b .entries)) (carried-on loop n (pass s b .after) b h))
-
--- so a pattern with loop n below 15 is n + 1 passes, the state carried on
-pub pattern-carried : (s : State) (bodies : List Remembered) (p : Pattern) → (p .loop ≡ 15 → ⊥) → patternPlayed s bodies p ≡ passes 0 (p .loop + 1) s (bodyOf bodies p)
-unfolding patternPlayed passesOf
-pattern-carried s bodies p h =
-    let times : passesOf (p .loop) ≡ p .loop + 1 = rw (ne-eqb (p .loop) 15 h) refl in
-    carried-on (p .loop) (passesOf (p .loop)) s (bodyOf bodies p) h ∙ ap (λ (n : ℕ). passes 0 n s (bodyOf bodies p)) times
 
 -- ---- bodies on end
 

@@ -12,7 +12,8 @@ use Rattle.tone.specs.Tone.{Pattern}
 use Rattle.list_rules.specs.Sounding.{State}
 use Rattle.list_rules.specs.Playing.{Played, Listing, pass, onePass, passes, patternPlayed, play}
 use Rattle.list_count.specs.Bodies.{Remembered, unknown, known, recalled, isRecall, passesOf, bodyOf, remember}
-use Rattle.list_rules.proofs.Joining.{listed-ahead, play-one, two-ahead, bodiesAfter, same-behind, one-pass, pattern-carried}
+use Rattle.list_rules.proofs.Restarts.{pattern-carried, patterns-carry}
+use Rattle.list_rules.proofs.Joining.{listed-ahead, two-ahead, bodiesAfter, same-behind, one-pass}
 
 -- the pattern at loop 0
 abbrev pub once : Pattern → Pattern
@@ -64,4 +65,4 @@ loop-copies s bodies n ps p qs h =
     let other : p .loop ≡ 15 → ⊥ = λ e. omega arith in
     let places = bodiesAfter bodies ps in
     same-behind s bodies n ps (p ∷ qs) (replicate (p .loop + 1) (once p) ++ qs)
-    (λ s n. play-one s places n p qs other ∙ ap (onward (remember places p) n qs) (pattern-carried s places p other) ∙ (rw (add-one (p .loop)) (sym (copies (p .loop) s places n p qs))))
+    (λ s n. patterns-carry s places n p qs other ∙ ap (onward (remember places p) n qs) (pattern-carried s places p other) ∙ (rw (add-one (p .loop)) (sym (copies (p .loop) s places n p qs))))

@@ -1,15 +1,18 @@
 -- Where the fraction restarts at zero, and where it is carried on.
-use Prim.Native.Nat.{ℕ}
-use mathlib.Core.Path.{_≡_, refl}
-use mathlib.Core.List.{List, [], _++_}
+use Prim.Native.Nat.{ℕ, zero, suc, _+_}
+use mathlib.Core.Path.{_≡_, refl, ap, _∙_}
+use mathlib.Core.List.{List, [], _∷_, _++_}
+use lib.ListN.{length}
 use lib.Dec.{eqb}
 use borrow.Author.Tests.{eq-eqb, ne-eqb}
 use Rattle.bits.proofs.Choice.{pick-elim}
 use Rattle.tone.specs.Table.{kind, payload}
+use Rattle.tone.specs.Tone.{Pattern}
+use Rattle.list_count.specs.Bodies.{Remembered, passesOf, bodyOf, remember}
 use Rattle.list_rules.specs.declared.Settings.{Settings}
 use Rattle.list_rules.specs.Duration.{leftOver}
 use Rattle.list_rules.specs.Sounding.{applied, State, restarted, atStart, unitsOf, beatsAt, fractionAfter}
-use Rattle.list_rules.specs.Playing.{begun, pass, passes}
+use Rattle.list_rules.specs.Playing.{ahead, pass, begun, passes, patternPlayed, play}
 
 -- at the start of the tone
 pub start-restarts : atStart .fraction ≡ 0
@@ -41,6 +44,25 @@ others-carry s e h g = rw (ne-eqb (kind e) 1 h, ne-eqb (kind e) 4 g) refl
 -- and so does a pass with any other loop
 pub passes-carry : (loop : ℕ) (s : State) → (loop ≡ 15 → ⊥) → begun loop s ≡ s
 passes-carry loop s h = rw (ne-eqb loop 15 h) refl
+
+-- and so do all its passes
+pub carried-on : (loop n : ℕ) (s : State) (b : List ℕ) → (loop ≡ 15 → ⊥) → passes loop n s b ≡ passes 0 n s b
+carried-on loop zero s b h = refl
+carried-on loop (suc n) s b h = rw (ne-eqb loop 15 h) (ap (ahead (pass s b .entries)) (carried-on loop n (pass s b .after) b h))
+
+-- so a pattern with loop n below 15, a recall too, is n + 1 passes from the state that there is
+pub pattern-carried : (s : State) (bodies : List Remembered) (p : Pattern) → (p .loop ≡ 15 → ⊥) → patternPlayed s bodies p ≡ passes 0 (p .loop + 1) s (bodyOf bodies p)
+unfolding patternPlayed passesOf
+pattern-carried s bodies p h =
+    let times : passesOf (p .loop) ≡ p .loop + 1 = rw (ne-eqb (p .loop) 15 h) refl in
+    carried-on (p .loop) (passesOf (p .loop)) s (bodyOf bodies p) h ∙ ap (λ (n : ℕ). passes 0 n s (bodyOf bodies p)) times
+
+-- and the next pattern goes on from the state that it leaves
+pub patterns-carry : (s : State) (bodies : List Remembered) (n : ℕ) (p : Pattern) (ps : List Pattern) → (p .loop ≡ 15 → ⊥)
+    → let d = patternPlayed s bodies p in
+    let more = play (d .after) (remember bodies p) (n + length (d .entries)) ps in
+    play s bodies n (p ∷ ps) ≡ record { entries = d .entries ++ more .entries; mark = more .mark }
+patterns-carry s bodies n p ps h = rw (ne-eqb (p .loop) 15 h)
 
 -- only a tempo instruction changes the tempo
 pub applied-tempo : (s : Settings) (e : ℕ) → (kind e ≡ 4 → ⊥) → applied s e .tempo ≡ s .tempo

@@ -16,8 +16,8 @@ use Rattle.list_rules.specs.Duration.{beats, units, microseconds, leftOv
 use Rattle.list_rules.specs.Sounding.{State, restarted, atStart, applied, beatsAt, fractionAfter, sounded}
 use Rattle.list_rules.specs.Ranges.{InTime}
 use Rattle.list_rules.specs.Playing.{Played, Listing, ahead, step, pass, passes, patternPlayed, play, playingList}
-use Rattle.list_rules.proofs.Restarts.{tempo-restarts}
-use Rattle.list_rules.proofs.Joining.{stateAfter, bodiesAfter, NoneEndless, play-one, pattern-carried, pass-append}
+use Rattle.list_rules.proofs.Restarts.{tempo-restarts, pattern-carried, patterns-carry}
+use Rattle.list_rules.proofs.Joining.{stateAfter, bodiesAfter, NoneEndless, pass-append}
 use Rattle.list_rules.proofs.Boundaries.{OnTime, Steady, unitsIn, durations, sums, AllOnTime, no-drift}
 use Rattle.list_rules.proofs.Bounds.{beats-some, pass-fair}
 use Rattle.list_rules.proofs.Endless.{endless-list}
@@ -47,7 +47,7 @@ one-long-pass s bodies n (p ∷ ps) h =
     let k = n + length (d .entries) in
     let body = times (p .loop + 1) (bodyOf bodies p) in
     let rest = sounding (remember bodies p) ps in
-    ap (λ (g : Listing). record { entries = g .entries; after = stateAfter (d .after) (remember bodies p) ps }) (play-one s bodies n p ps (h .0))
+    ap (λ (g : Listing). record { entries = g .entries; after = stateAfter (d .after) (remember bodies p) ps }) (patterns-carry s bodies n p ps (h .0))
     ∙ ap (ahead (d .entries)) (one-long-pass (d .after) (remember bodies p) k ps (h .1))
     ∙ ap (λ (x : Played). ahead (x .entries) (pass (x .after) rest)) (pattern-carried s bodies p (h .0) ∙ passes-on-end (p .loop + 1) s (bodyOf bodies p))
     ∙ sym (pass-append s body rest)
