@@ -7,12 +7,12 @@ use mathlib.Core.Path.{_≡_, refl, sym, ap, ap₂, _∙_}
 use mathlib.Core.List.{List}
 use lib.ListN.{length, set, length-set}
 use lib.Pow.{shr-shr}
-use lib.Dec.{eqb, leb}
+use lib.Dec.{leb}
 use borrow.Author.Tests.{eq-eqb, ne-eqb, leb-true}
 use mir.Val.{Fits}
 use mir.Syntax.{w32}
 use Rattle.bits.specs.declared.BitPlace.{BitPlace}
-use Rattle.bits.proofs.Choice.{pick-elim, both}
+use Rattle.bits.proofs.Choice.{both}
 use Rattle.bits.specs.Places.{place}
 use Rattle.tone.specs.Table.{kind, payload, width, allowed, noteOf, durationOf, specifierOf, Instruction}
 use Rattle.tone.specs.Writing.{entryBits}
@@ -24,7 +24,7 @@ use Rattle.list_fill.specs.declared.Walk.{Walk}
 use Rattle.list_rules.specs.Duration.{beats, units, microseconds, leftOver}
 use Rattle.list_rules.specs.Sounding.{defaults, applied, atStart, unitsOf, fractionAfter, sounded, packed}
 use Rattle.list_rules.specs.Ranges.{InRange}
-use Rattle.list_rules.specs.Playing.{begun, step}
+use Rattle.list_rules.specs.Playing.{step}
 use Rattle.list_rules.specs.Tempo.{paceOf, Paced, baseOf}
 use Rattle.list_fill.specs.Filling.{entrySeen, stateOf, Ready, Begun, Advanced}
 use Rattle.list_rules.proofs.Bounds.{range-start, range-applied}

@@ -3,7 +3,7 @@ use Prim.Native.Nat.{ℕ, suc, _+_, _-_, _*_, _%_, _^_, _≤_, _<_}
 use native.Mathlib.Omega.{arith}
 use native.Mathlib.Nat.{add-zero, mul-suc}
 use mathlib.Core.Path.{_≡_, refl, sym, ap, ap₂, subst, _∙_}
-use mathlib.Core.List.{List, [], _∷_, _++_, append-assoc, append-nil}
+use mathlib.Core.List.{List, [], _∷_, _++_, append-nil}
 use lib.ListN.{length, set, drop, length-append}
 use lib.Seq.{sets, length-sets}
 use lib.Dec.{eqb}
@@ -21,7 +21,7 @@ use Rattle.tone_elements.specs.Answers.{noteIn, notes}
 use Rattle.list_rules.specs.declared.Entry.{Entry}
 use Rattle.list_fill.specs.declared.Walk.{Walk}
 use Rattle.list_rules.specs.Sounding.{State, numbers}
-use Rattle.list_rules.specs.Playing.{Played, ahead, step, pass, begun, onePass, passes}
+use Rattle.list_rules.specs.Playing.{Played, ahead, step, pass, onePass, passes}
 use Rattle.list_count.specs.Bodies.{passesOf}
 use Rattle.list_fill.specs.Filling.{entrySeen, stateOf, Ready, Begun, Advanced}
 use Rattle.tone_elements.specs.Standing.{bodyIn, behindIn, BodyAt}

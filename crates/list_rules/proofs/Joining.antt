@@ -1,5 +1,5 @@
 -- The list of patterns and then others.
-use Prim.Native.Nat.{ℕ, zero, suc, _+_}
+use Prim.Native.Nat.{ℕ, _+_}
 use native.Mathlib.Omega.{arith}
 use native.Mathlib.Nat.{add-zero}
 use mathlib.Core.Path.{_≡_, refl, sym, ap, _∙_}
@@ -12,7 +12,7 @@ use Rattle.tone.specs.Tone.{Pattern}
 use Rattle.list_rules.specs.declared.Entry.{Entry}
 use Rattle.list_rules.specs.Sounding.{State}
 use Rattle.list_rules.specs.Playing.{Played, Listing, ahead, step, pass, onePass, passes, patternPlayed, play, markAt}
-use Rattle.list_count.specs.Bodies.{Remembered, passesOf, bodyOf, remember}
+use Rattle.list_count.specs.Bodies.{Remembered, bodyOf, remember}
 
 -- the state that patterns leave
 abbrev pub stateAfter : State → List Remembered → List Pattern → State

@@ -10,7 +10,7 @@ use lib.Seq.{set-set}
 use Rattle.bits.specs.Choice.{pick}
 use Rattle.tone.specs.Tone.{Pattern}
 use Rattle.list_rules.specs.Sounding.{State}
-use Rattle.list_rules.specs.Playing.{Played, Listing, pass, onePass, passes, patternPlayed, play}
+use Rattle.list_rules.specs.Playing.{Played, Listing, pass, passes, patternPlayed, play}
 use Rattle.list_count.specs.Bodies.{Remembered, unknown, known, recalled, isRecall, passesOf, bodyOf, remember}
 use Rattle.list_rules.proofs.Restarts.{pattern-carried, patterns-carry}
 use Rattle.list_rules.proofs.Joining.{listed-ahead, two-ahead, bodiesAfter, same-behind, one-pass}

@@ -1,17 +1,15 @@
 -- The playing list as long passes, each from a restart: within these each span is on time, and nothing else restarts the fraction.
-use Prim.Native.Nat.{ℕ, zero, suc, _+_, _*_, _≤_, _<_}
+use Prim.Native.Nat.{ℕ, zero, suc, _+_}
 use native.Mathlib.Omega.{arith}
-use mathlib.Core.Path.{_≡_, refl, sym, ap, ap₂, _∙_}
-use mathlib.Core.Logic.{_⊎_, inl, inr, ⊎-elim}
+use mathlib.Core.Path.{_≡_, refl, sym, ap, _∙_}
+use mathlib.Core.Logic.{_⊎_, inl, inr}
 use mathlib.Core.Bool.{Bool}
-use mathlib.Core.List.{List, [], _∷_, _++_, append-assoc}
+use mathlib.Core.List.{List, [], _∷_, _++_}
 use lib.ListN.{length}
-use lib.Dec.{lit≤}
 use Rattle.tone.specs.Table.{kind}
 use Rattle.tone.specs.Tone.{Pattern, Tone, Formed, header, learn, noneKnown, Instructions, Sequence}
 use Rattle.list_count.specs.Bodies.{Remembered, noBodies, bodyOf, remember}
 use Rattle.list_count.proofs.Bodies.{Each, each-start, each-sounds, each-kept, Body, none-body, sound-body}
-use Rattle.list_rules.specs.declared.Entry.{Entry}
 use Rattle.list_rules.specs.Duration.{beats, units, microseconds, leftOver}
 use Rattle.list_rules.specs.Sounding.{State, restarted, atStart, applied, beatsAt, fractionAfter, sounded}
 use Rattle.list_rules.specs.Ranges.{InTime}
