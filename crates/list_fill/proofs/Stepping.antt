@@ -25,7 +25,7 @@ use Rattle.list_rules.specs.Duration.{beats, units, microseconds, leftOver}
 use Rattle.list_rules.specs.Sounding.{defaults, applied, atStart, unitsOf, fractionAfter, sounded, packed}
 use Rattle.list_rules.specs.Ranges.{InRange}
 use Rattle.list_rules.specs.Playing.{step}
-use Rattle.list_rules.specs.Tempo.{paceOf, Paced, baseOf}
+use Rattle.list_rules.specs.Tempo.{inverseOf, Timed, baseOf}
 use Rattle.list_fill.specs.Filling.{entrySeen, stateOf, Ready, Begun, Advanced}
 use Rattle.list_rules.proofs.Bounds.{range-start, range-applied}
 use Rattle.list_rules.proofs.Durations.{units-short, left-below, beats-least, beats-most}
@@ -34,9 +34,9 @@ use Rattle.list_fill.proofs.Seeing.{seen-kind, seen-note, seen-entry, s
 
 -- ---- the start
 
--- the beats of a tempo with their pace, where nothing is left over
-pub fresh : {s : Settings} {b k : ℕ} → InRange s → b ≡ beats (s .tempo) → k ≡ paceOf b → Paced 0 b k
-fresh r e f = let l = beats-least e (r .tempo) in record { slowest = l; fastest = beats-most e (r .tempo); below = omega arith; pace = f }
+-- the beats of a tempo with one over them, where nothing is left over
+pub fresh : {s : Settings} {b k : ℕ} → InRange s → b ≡ beats (s .tempo) → k ≡ inverseOf b → Timed 0 b k
+fresh r e f = let l = beats-least e (r .tempo) in record { slowest = l; fastest = beats-most e (r .tempo); below = omega arith; inverse = f }
 
 pub start-range : {s : Settings} → s ≡ defaults → InRange s
 start-range e = rw e range-start
@@ -47,9 +47,9 @@ start-tempo e = start-range e .tempo
 pub start-beats : {s : Settings} {b : ℕ} → s ≡ defaults → b ≡ beats (s .tempo) → 25 ≤ b
 start-beats e f = beats-least f (start-tempo e)
 
-pub start-ready : {s : Settings} {c b k : ℕ} (p : BitPlace) → s ≡ defaults → c ≡ baseOf s → b ≡ beats (s .tempo) → k ≡ paceOf b
-    → Ready (record { settings = s; fraction = 0; base = c; beats = b; pace = k; at = p; cells = 0 })
-start-ready p e f g h = let r = start-range e in record { range = r; based = f; beating = g; paced = fresh r g h }
+pub start-ready : {s : Settings} {c b k : ℕ} (p : BitPlace) → s ≡ defaults → c ≡ baseOf s → b ≡ beats (s .tempo) → k ≡ inverseOf b
+    → Ready (record { settings = s; fraction = 0; base = c; beats = b; inverse = k; at = p; cells = 0 })
+start-ready p e f g h = let r = start-range e in record { range = r; based = f; beating = g; timed = fresh r g h }
 
 pub start-state : {s : Settings} → s ≡ defaults → record { settings = s; fraction = 0 } ≡ atStart
 start-state e = λ i. record { settings = e i; fraction = 0 }
@@ -60,18 +60,18 @@ pub ruleset starts = (start-range, start-tempo, start-beats, start-ready, start-
 
 module _ (w : Walk) (from : BitPlace) (value : ℕ) (r : Ready w) where
   -- with loop 15 nothing is left over
-  pub begins-restarted : value ≡ 15 → Begun value from w (record { settings = w .settings; fraction = 0; base = w .base; beats = w .beats; pace = w .pace; at = from; cells = w .cells })
+  pub begins-restarted : value ≡ 15 → Begun value from w (record { settings = w .settings; fraction = 0; base = w .base; beats = w .beats; inverse = w .inverse; at = from; cells = w .cells })
   begins-restarted e = record {
-    ready = record { range = r .range; based = r .based; beating = r .beating; paced = fresh (r .range) (r .beating) (r .paced .pace) };
+    ready = record { range = r .range; based = r .based; beating = r .beating; timed = fresh (r .range) (r .beating) (r .timed .inverse) };
     state = rw (eq-eqb value 15 e) refl;
     place = refl;
     cells = refl;
   }
 
   -- with any other the state is carried on
-  pub begins-carried : (value ≡ 15 → ⊥) → Begun value from w (record { settings = w .settings; fraction = w .fraction; base = w .base; beats = w .beats; pace = w .pace; at = from; cells = w .cells })
+  pub begins-carried : (value ≡ 15 → ⊥) → Begun value from w (record { settings = w .settings; fraction = w .fraction; base = w .base; beats = w .beats; inverse = w .inverse; at = from; cells = w .cells })
   begins-carried e = record {
-    ready = record { range = r .range; based = r .based; beating = r .beating; paced = r .paced };
+    ready = record { range = r .range; based = r .based; beating = r .beating; timed = r .timed };
     state = rw (ne-eqb value 15 e) refl;
     place = refl;
     cells = refl;
@@ -139,7 +139,7 @@ module _ (x : ℕ) (h : x / 2 ^ 61 ≡ 1) where
     pub step-note : {u : ℕ} {t : Lasted} → Ready w → u ≡ units (x / 2 ^ 54 % 8) (x / 2 ^ 52 % 4) → (t .microseconds ≡ microseconds (w .fraction) u (w .beats)) × (t .fraction ≡ leftOver (w .fraction) u (w .beats))
         → Advanced (w .cells) (step (stateOf w) (entrySeen x)) (w .at .0 + length (entryBits (entrySeen x))) old
         (set (set old (w .cells) (x / 2 ^ 57 % 16 * 1024 + w .base)) (w .cells + 1) (t .microseconds))
-        (record { settings = w .settings; fraction = t .fraction; base = w .base; beats = w .beats; pace = w .pace; at = place (w .at .0 + 12); cells = w .cells + 2 })
+        (record { settings = w .settings; fraction = t .fraction; base = w .base; beats = w .beats; inverse = w .inverse; at = place (w .at .0 + 12); cells = w .cells + 2 })
     unfolding step sounded
     step-note {u} {t} r f g =
         let p = payload (entrySeen x) in
@@ -147,14 +147,14 @@ module _ (x : ℕ) (h : x / 2 ^ 61 ≡ 1) where
         let first : noteOf (noteSeen x) * 1024 + w .base ≡ packed (sounded (stateOf w) p) = omega (arith, r .based, seen-note x h) in
         let second : t .microseconds ≡ sounded (stateOf w) p .microseconds = g .0 ∙ ap₂ (microseconds (w .fraction)) same (r .beating) in
         let third : t .fraction ≡ fractionAfter (stateOf w) (entrySeen x) = g .1 ∙ ap₂ (leftOver (w .fraction)) same (r .beating) ∙ sym (note-leaves (stateOf w) (entrySeen x) note) in
-        let some : 0 < w .beats = omega (arith, r .paced .below) in
+        let some : 0 < w .beats = omega (arith, r .timed .below) in
         record {
           state = λ i. record { settings = sym (applied-note (w .settings) (entrySeen x) note) i; fraction = third i };
           ready = record {
             range = r .range;
             based = r .based;
             beating = r .beating;
-            paced = record { slowest = r .paced .slowest; fastest = r .paced .fastest; below = rw (g .1) (left-below (w .fraction) u (w .beats) some); pace = r .paced .pace };
+            timed = record { slowest = r .timed .slowest; fastest = r .timed .fastest; below = rw (g .1) (left-below (w .fraction) u (w .beats) some); inverse = r .timed .inverse };
           };
           place = ap (λ (n : ℕ). w .at .0 + n) (sym twelve);
           cells = rw (eq-eqb (kind (entrySeen x)) 1 note) refl;
@@ -191,28 +191,28 @@ module _ {w : Walk} (x : ℕ) {n : ℕ} {s : Settings} (after : s ≡ applied (w
     other : kind (entrySeen x) ≡ 1 → ⊥
     other z = h (sym (seen-kind x) ∙ z)
 
-    moved : {f c a k : ℕ} → f ≡ fractionAfter (stateOf w) (entrySeen x) → c ≡ baseOf s → a ≡ beats (s .tempo) → Paced f a k
-        → Advanced (w .cells) (step (stateOf w) (entrySeen x)) (w .at .0 + length (entryBits (entrySeen x))) old old (record { settings = s; fraction = f; base = c; beats = a; pace = k; at = place (w .at .0 + 3 + n); cells = w .cells })
+    moved : {f c a k : ℕ} → f ≡ fractionAfter (stateOf w) (entrySeen x) → c ≡ baseOf s → a ≡ beats (s .tempo) → Timed f a k
+        → Advanced (w .cells) (step (stateOf w) (entrySeen x)) (w .at .0 + length (entryBits (entrySeen x))) old old (record { settings = s; fraction = f; base = c; beats = a; inverse = k; at = place (w .at .0 + 3 + n); cells = w .cells })
     unfolding step
     moved e f g p =
         record {
           state = λ j. record { settings = same j; fraction = e j };
-          ready = record { range = step-range; based = f; beating = g; paced = p };
+          ready = record { range = step-range; based = f; beating = g; timed = p };
           place = omega (arith, length-entryBits (entrySeen x), ap width (seen-kind x), b .0);
           cells = rw (ne-eqb (kind (entrySeen x)) 1 other) (sym (add-zero (w .cells)));
           list = rw (ne-eqb (kind (entrySeen x)) 1 other) refl;
         }
 
-    pub step-tempo : {a k : ℕ} → x / 2 ^ 61 ≡ 4 → a ≡ beats (s .tempo) → k ≡ paceOf a
-        → Advanced (w .cells) (step (stateOf w) (entrySeen x)) (w .at .0 + length (entryBits (entrySeen x))) old old (record { settings = s; fraction = 0; base = w .base; beats = a; pace = k; at = place (w .at .0 + 3 + n); cells = w .cells })
+    pub step-tempo : {a k : ℕ} → x / 2 ^ 61 ≡ 4 → a ≡ beats (s .tempo) → k ≡ inverseOf a
+        → Advanced (w .cells) (step (stateOf w) (entrySeen x)) (w .at .0 + length (entryBits (entrySeen x))) old old (record { settings = s; fraction = 0; base = w .base; beats = a; inverse = k; at = place (w .at .0 + 3 + n); cells = w .cells })
     step-tempo z e g =
         let tempo : kind (entrySeen x) ≡ 4 = seen-kind x ∙ z in
         moved (sym (tempo-restarts (stateOf w) (entrySeen x) tempo)) (r .based ∙ sym (ap baseOf same ∙ applied-base (w .settings) (entrySeen x) tempo)) e (fresh step-range e g)
 
     pub step-other : {c : ℕ} → (x / 2 ^ 61 ≡ 4 → ⊥) → c ≡ baseOf s
-        → Advanced (w .cells) (step (stateOf w) (entrySeen x)) (w .at .0 + length (entryBits (entrySeen x))) old old (record { settings = s; fraction = w .fraction; base = c; beats = w .beats; pace = w .pace; at = place (w .at .0 + 3 + n); cells = w .cells })
+        → Advanced (w .cells) (step (stateOf w) (entrySeen x)) (w .at .0 + length (entryBits (entrySeen x))) old old (record { settings = s; fraction = w .fraction; base = c; beats = w .beats; inverse = w .inverse; at = place (w .at .0 + 3 + n); cells = w .cells })
     step-other z f =
         let steady : kind (entrySeen x) ≡ 4 → ⊥ = λ y. z (sym (seen-kind x) ∙ y) in
-        moved (sym (others-carry (stateOf w) (entrySeen x) other steady)) f (r .beating ∙ ap beats (sym (ap (λ (t : Settings). t .tempo) same ∙ applied-tempo (w .settings) (entrySeen x) steady))) (r .paced)
+        moved (sym (others-carry (stateOf w) (entrySeen x) other steady)) f (r .beating ∙ ap beats (sym (ap (λ (t : Settings). t .tempo) same ∙ applied-tempo (w .settings) (entrySeen x) steady))) (r .timed)
 
 pub ruleset steps = (units-short, step-kind, step-duration, step-first, step-second, step-note, step-shift, step-cast, step-sum, step-range, step-slow, step-beats, step-tempo, step-other)

@@ -18,7 +18,7 @@ use Rattle.list_fill.specs.declared.Part.the-variants.{Known}
 use Rattle.list_fill.specs.declared.Walk.{Walk}
 use Rattle.list_count.specs.Parts.{soundingPart}
 use Rattle.list_rules.specs.Duration.{beats}
-use Rattle.list_rules.specs.Tempo.{Paced, baseOf}
+use Rattle.list_rules.specs.Tempo.{Timed, baseOf}
 use Rattle.list_rules.specs.Sounding.{State, numbers}
 use Rattle.list_rules.specs.Ranges.{InRange}
 use Rattle.list_rules.specs.Playing.{Played, begun}
@@ -56,12 +56,12 @@ entrySeen x = let w = width (x / 2 ^ 61) in entry (x / 2 ^ 61) (x / 2 ^ (61 - w)
 abbrev pub stateOf : Walk → State
 stateOf w = record { settings = w .settings; fraction = w .fraction }
 
--- the settings are in range, the base is theirs, the beats are those of their tempo, and have their pace and the fraction below them
+-- the settings are in range, the base is theirs, the beats are those of their tempo, and one over them and the fraction go with these
 pub record Ready (w : Walk) : Type 0 where
   pub range : InRange (w .settings)
   pub based : w .base ≡ baseOf (w .settings)
   pub beating : w .beats ≡ beats (w .settings .tempo)
-  pub paced : Paced (w .fraction) (w .beats) (w .pace)
+  pub timed : Timed (w .fraction) (w .beats) (w .inverse)
 
 -- a pass begins at a place
 pub record Begun (value : ℕ) (from : BitPlace) (w r : Walk) : Type 0 where

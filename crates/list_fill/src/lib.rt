@@ -21,13 +21,13 @@ pub enum Part {
 }
 
 // How far filling has come: the settings, the fraction left over, what the settings put in an entry's first number, the
-// beats of their tempo and the pace of these, the place in the message, and the cells filled.
+// beats of their tempo and one over these, the place in the message, and the cells filled.
 pub struct Walk {
     pub settings: Settings,
     pub fraction: u32,
     pub base: u32,
     pub beats: u32,
-    pub pace: u64,
+    pub inverse: u64,
     pub at: BitPlace,
     pub cells: usize,
 }
@@ -44,7 +44,7 @@ impl Walk {
             fraction: 0,
             base: list_rules::base(settings),
             beats,
-            pace: list_rules::pace(beats),
+            inverse: list_rules::inverse(beats),
             at,
             cells: 0,
         }
@@ -77,7 +77,7 @@ impl Walk {
         if x >> 61 == 1 {
             list[cells] = ((x >> 57) % 16) as u32 * 1024 + self.base;
             let units = list_rules::units(((x >> 54) % 8) as u32, ((x >> 52) % 4) as u32);
-            let lasted = list_rules::duration_step(self.fraction, units, self.beats, self.pace);
+            let lasted = list_rules::duration_step(self.fraction, units, self.beats, self.inverse);
             list[cells + 1] = lasted.microseconds;
             let next = BitPlace(self.at.0 + 12);
             walk.fraction = lasted.fraction;
@@ -96,7 +96,7 @@ impl Walk {
             let beats = list_rules::beats(after.tempo);
             walk.fraction = 0;
             walk.beats = beats;
-            walk.pace = list_rules::pace(beats);
+            walk.inverse = list_rules::inverse(beats);
             return walk;
         }
         walk.base = list_rules::base(after);

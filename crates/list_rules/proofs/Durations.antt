@@ -1,15 +1,18 @@
 -- No duration is longer than 16.8 seconds, and units are whole.
 use Prim.Native.Nat.{ℕ, _+_, _-_, _*_, _/_, _%_, _^_, _≤_, _<_}
 use native.Mathlib.Omega.{arith}
-use native.Mathlib.Nat.{eq-zero-or-pos, mod-lt, div-le-self, div-lt-iff-lt-mul}
-use mathlib.Core.Path.{_≡_, refl, ap₂, _∙_}
+use native.Mathlib.Nat.{eq-zero-or-pos, add-zero, add-mul, mul-add, mul-assoc, mul-comm, mul-le-mul, lt-of-le-of-lt, mod-lt, mod-eq-sub-div-mul, div-le-self, div-le-of-le-mul, div-mul-le-self, div-eq-of-lt, div-lt-iff-lt-mul, div-add-mod', mul-add-div, mul-div-mul-right, div-div-eq-div-mul}
+use mathlib.Core.Path.{_≡_, refl, sym, ap, ap₂, _∙_}
 use mathlib.Core.Logic.{⊎-elim}
 use lib.ListN.{List·getD-eq-default}
-use lib.Dec.{leb, eqb}
+use lib.Dec.{leb, eqb, lit<}
+use mir.Val.{Fits}
+use mir.Syntax.{w32, w64}
 use borrow.Author.Tests.{leb-true}
 use Rattle.bits.proofs.Choice.{pick-elim}
 use Rattle.tone.specs.Table.{durationOf, specifierOf}
 use Rattle.list_rules.specs.Duration.{tempos, beats, plainUnits, units, microseconds, leftOver}
+use Rattle.list_rules.specs.Tempo.{inverseOf, Timed}
 use Rattle.bits.proofs.Below.{at-each, same-each}
 
 -- ---- bounds
@@ -114,3 +117,64 @@ module _ {b tempo : ℕ} (e : b ≡ beats tempo) (h : tempo ≤ 31) where
 
   pub beats-most : b ≤ 900
   beats-most = rw e (fastest tempo)
+
+-- one over the slowest beats is the most
+pub inverse-most : (b : ℕ) → 25 ≤ b → inverseOf b ≤ 21990232557
+inverse-most b h = let l : 549755813888 / b ≤ 21990232556 = div-le-of-le-mul b (omega arith) in omega arith
+
+rounded-up : (q k b n : ℕ) → q * b + k ≡ n → k < b → (q + 1) * b ≡ n + (b - k)
+rounded-up q k b n e h = add-mul q 1 b ∙ omega arith
+
+-- the product with one over the beats is the quotient: what that is too large by does not add up to one
+pub inverse-exact : (n b : ℕ) → n ≤ 420000899 → 25 ≤ b → b ≤ 900 → n * inverseOf b / 2 ^ 39 ≡ n / b
+inverse-exact n b most low high =
+    let one : ℕ = 549755813888 in
+    let some : 0 < b = omega arith in
+    let r : ℕ = b - one % b in
+    let up : inverseOf b * b ≡ one + r = rounded-up (one / b) (one % b) b one (div-add-mod' one b) (mod-lt one some) in
+    let whole : n * inverseOf b * b ≡ one * n + n * r =
+    mul-assoc n (inverseOf b) b ∙ ap (λ (x : ℕ). n * x) up ∙ mul-add n one r ∙ ap (λ (x : ℕ). x + n * r) (mul-comm n one) in
+    let short : r ≤ 900 = omega arith in
+    let small : n * r < one = lt-of-le-of-lt (mul-le-mul most short) (lit< tt) in
+    sym (mul-div-mul-right (n * inverseOf b) one some) ∙ ap (λ (x : ℕ). x / (one * b)) whole
+    ∙ sym (div-div-eq-div-mul (one * n + n * r) one b)
+    ∙ ap (λ (x : ℕ). x / b) (mul-add-div (lit< tt) n (n * r) ∙ ap (λ (x : ℕ). n + x) (div-eq-of-lt small) ∙ add-zero n)
+
+pub inverse-fits : {b : ℕ} → 25 ≤ b → Fits w64 (549755813888 / b + 1)
+inverse-fits {b} h = let p = inverse-most b h in record { fits = omega arith }
+
+-- the duration step in the code's terms
+module _ {f u b k : ℕ} (short : u ≤ 672) (t : Timed f b k) where
+  -- what is divided
+  abbrev sum : ℕ
+  sum = f + u * 625000
+
+  abbrev whole : ℕ
+  whole = sum * k / 2 ^ 39
+
+  sum-most : sum ≤ 420000899
+  sum-most = omega (arith, t .below, t .fastest)
+
+  quotient : whole ≡ sum / b
+  quotient = ap (λ (x : ℕ). sum * x / 2 ^ 39) (t .inverse) ∙ inverse-exact sum b sum-most (t .slowest) (t .fastest)
+
+  product-most : sum * k ≤ 420000899 * 21990232557
+  product-most = let m : k ≤ 21990232557 = rw (t .inverse) (inverse-most b (t .slowest)) in mul-le-mul sum-most m
+
+  pub product-fits : Fits w64 (sum * k)
+  product-fits = let m = product-most in record { fits = omega arith }
+
+  pub whole-fits : Fits w32 whole
+  whole-fits = let m = product-most in record { fits = omega arith }
+
+  pub whole-back : whole * b ≤ sum
+  whole-back = rw quotient (div-mul-le-self sum b)
+
+  pub back-fits : Fits w32 (whole * b)
+  back-fits = let m = whole-back in let n = sum-most in record { fits = omega arith }
+
+  pub step-lasts : (whole ≡ microseconds f u b) × (sum - whole * b ≡ leftOver f u b)
+  unfolding microseconds leftOver
+  step-lasts = (quotient, ap (λ (x : ℕ). sum - x * b) quotient ∙ sym (mod-eq-sub-div-mul sum b))
+
+pub ruleset dividing = (inverse-fits, product-fits, whole-fits, whole-back, back-fits, step-lasts)

@@ -1,5 +1,4 @@
 pub mod Durations
-pub mod Carrying
 pub mod Restarts
 pub mod Joining
 pub mod Loops

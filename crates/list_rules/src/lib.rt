@@ -3,7 +3,7 @@ ghost use Prim.Native.Nat.{_≤_};
 ghost use Rattle.list_rules.specs.Duration.{beats as beatsOf, units as unitsOf, microseconds as microsecondsOf, leftOver};
 ghost use Rattle.list_rules.specs.Sounding.{defaults, applied as appliedTo, unpacked};
 ghost use Rattle.list_rules.specs.Ranges.{InRange};
-ghost use Rattle.list_rules.specs.Tempo.{paceOf, Paced, baseOf};
+ghost use Rattle.list_rules.specs.Tempo.{inverseOf, Timed, baseOf};
 
 // The four settings, as codes.
 pub struct Settings {
@@ -150,13 +150,13 @@ pub fn units(duration: u32, specifier: u32) -> u32
     }
 }
 
-// How long a unit sounds at so many beats, in parts of a microsecond of which 2 ^ 20 make one, rounded up: 625,000 times
-// 2 ^ 20, divided by the beats. With it a note takes a product, where the rule has a division.
-pub fn pace(beats: u32) -> u64
+// One over so many beats, in parts of which 2 ^ 39 make one, rounded up. With it the duration step multiplies where the
+// rule divides.
+pub fn inverse(beats: u32) -> u64
     requires { ⌜ 25 ≤ beats ⌝ }
-    ensures { λ r. ⌜ r ≡ paceOf beats ⌝ }
+    ensures { λ r. ⌜ r ≡ inverseOf beats ⌝ }
 {
-    655360000000 / beats as u64 + 1
+    549755813888 / beats as u64 + 1
 }
 
 // How long a note lasts, and the fraction that it leaves over, in beats-ths of a microsecond.
@@ -165,25 +165,18 @@ pub struct Lasted {
     pub fraction: u32,
 }
 
-// The duration step: it takes the fraction left over and hands back the new one. The pace gives how long the units last by
-// themselves, and what is left of them joins the fraction: together they make one microsecond more or none. Two structs,
-// between which the compiler chooses without a branch.
-pub fn duration_step(fraction: u32, units: u32, beats: u32, pace: u64) -> Lasted
+// The duration step: it takes the fraction left over and hands back the new one. The product with one over the beats is the
+// quotient of the rule, and what is left is its remainder.
+pub fn duration_step(fraction: u32, units: u32, beats: u32, inverse: u64) -> Lasted
     requires { ⌜ units ≤ 672 ⌝ }
-    requires { ⌜ Paced fraction beats pace ⌝ }
+    requires { ⌜ Timed fraction beats inverse ⌝ }
     ensures { λ r. ⌜ (r .microseconds ≡ microsecondsOf fraction units beats) × (r .fraction ≡ leftOver fraction units beats) ⌝ }
 {
-    let whole = ((units as u64 * pace) >> 20) as u32;
-    let left = fraction + (units * 625000 - whole * beats);
-    if left < beats {
-        return Lasted {
-            microseconds: whole,
-            fraction: left,
-        };
-    }
+    let sum = fraction + units * 625000;
+    let whole = ((sum as u64 * inverse) >> 39) as u32;
     Lasted {
-        microseconds: whole + 1,
-        fraction: left - beats,
+        microseconds: whole,
+        fraction: sum - whole * beats,
     }
 }
 

@@ -13,12 +13,12 @@ beats-requires c κs = search (starts, needs)
 base-requires : tie.Need-base-requires
 base-requires c κs = search (starts, needs)
 
-pace-requires : tie.Need-pace-requires
-pace-requires c κs = search (starts, needs)
+inverse-requires : tie.Need-inverse-requires
+inverse-requires c κs = search (starts, needs)
 
 returns : tie.Need-returns
 returns c = search (starts, needs)
 
 pub start-spec : {M : Type 1} → statement M
 start-spec =
-    tie.close (tie.spec at-start-requires beats-requires base-requires pace-requires returns)
+    tie.close (tie.spec at-start-requires beats-requires base-requires inverse-requires returns)

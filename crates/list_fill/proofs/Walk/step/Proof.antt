@@ -91,8 +91,8 @@ add-t34 c = search needs
 beats-requires : tie.Need-beats-requires
 beats-requires c κs = search (steps, needs)
 
-pace-requires : tie.Need-pace-requires
-pace-requires c κs = search (steps, needs)
+inverse-requires : tie.Need-inverse-requires
+inverse-requires c κs = search (steps, needs)
 
 returns-2 : tie.Need-returns-2
 returns-2 c = search (steps, needs)
@@ -136,7 +136,7 @@ step-spec =
     cast-t33
     add-t34
     beats-requires
-    pace-requires
+    inverse-requires
     returns-2
     base-requires
     returns-3)
