@@ -4,20 +4,21 @@ use native.Mathlib.Omega.{arith}
 use mathlib.Core.Path.{_≡_, refl, sym, ap, _∙_}
 use mathlib.Core.Logic.{_⊎_, inl, inr}
 use mathlib.Core.Bool.{Bool}
-use mathlib.Core.List.{List, [], _∷_, _++_}
+use mathlib.Core.List.{List, [], _∷_, _++_, map, append-assoc, append-nil}
 use lib.ListN.{length}
 use Rattle.tone.specs.Table.{kind}
 use Rattle.tone.specs.Tone.{Pattern, Tone, Formed, header, learn, noneKnown, Instructions, Sequence}
 use Rattle.list_count.specs.Bodies.{Remembered, noBodies, bodyOf, remember}
 use Rattle.list_count.proofs.Bodies.{Each, each-start, each-sounds, each-kept, Body, none-body, sound-body}
+use Rattle.list_rules.specs.declared.Entry.{Entry}
 use Rattle.list_rules.specs.Duration.{beats, units, microseconds, leftOver}
 use Rattle.list_rules.specs.Sounding.{State, restarted, atStart, applied, beatsAt, fractionAfter, sounded}
 use Rattle.list_rules.specs.Ranges.{InTime}
 use Rattle.list_rules.specs.Playing.{Played, Listing, ahead, step, pass, passes, patternPlayed, play, playingList}
 use Rattle.list_rules.proofs.Restarts.{tempo-restarts, pattern-carried, patterns-carry}
 use Rattle.list_rules.proofs.Joining.{stateAfter, bodiesAfter, NoneEndless, pass-append}
-use Rattle.list_rules.proofs.Boundaries.{OnTime, Steady, unitsIn, durations, sums, AllOnTime, no-drift}
-use Rattle.list_rules.proofs.Bounds.{beats-some, pass-fair}
+use Rattle.list_rules.proofs.Boundaries.{boundary, OnTime, Steady, unitsIn, durations, sums, differences, boundaries-exact, durations-between, AllOnTime, no-drift}
+use Rattle.list_rules.proofs.Bounds.{beats-some, time-restarted, time-start, pass-fair}
 use Rattle.list_rules.proofs.Endless.{endless-list}
 
 -- ---- one long pass
@@ -71,11 +72,32 @@ list-with-endless t ps p qs split h e =
     ∙ ap (λ (g : Listing). g .entries) (endless-list atStart noBodies 0 ps p qs h e)
     ∙ ap (λ (d : Played). d .entries ++ (pass (restarted (d .after)) b .entries ++ pass (restarted (pass (restarted (d .after)) b .after)) b .entries)) (one-long-pass atStart noBodies 0 ps h)
 
--- ---- the spans of a pass
+-- ---- the long passes of a list, and their spans
+
+-- entries stand in a list, behind some and ahead of others
+pub record StandIn (l rs : List Entry) : Type 0 where
+  pub before : List Entry
+  pub behind : List Entry
+  pub there : l ≡ before ++ (rs ++ behind)
+
+-- a long pass of a list: instructions from a restart, whose entries stand in it
+pub record LongPass (l : List Entry) (r : State) (b : List ℕ) : Type 0 where
+  pub stand : StandIn l (pass r b .entries)
+  pub none : r .fraction ≡ 0
+  pub time : InTime r
+  pub each : Instructions b
 
 -- instructions behind which the fraction is zero: none, or the last is a tempo
 abbrev pub FromRestart : List ℕ → Type 0
 FromRestart a = (a ≡ []) ⊎ ((before : List ℕ) × (e : ℕ) × (kind e ≡ 4) × (a ≡ before ++ (e ∷ [])))
+
+-- a span of a list keeps the time: its entries stand there, their boundaries are the exact sums rounded down, each duration is the difference
+-- of two, and each boundary is less than one microsecond early and never late
+pub record KeepsTime (l : List Entry) (s : State) (b : List ℕ) : Type 0 where
+  pub stand : StandIn l (pass s b .entries)
+  pub exact : sums 0 (durations (pass s b .entries)) ≡ map (boundary (beatsAt s)) (sums 0 (unitsIn b))
+  pub between : durations (pass s b .entries) ≡ differences 0 (map (boundary (beatsAt s)) (sums 0 (unitsIn b)))
+  pub on-time : AllOnTime (beatsAt s) (sums 0 (durations (pass s b .entries))) (sums 0 (unitsIn b))
 
 restarts-there : (r : State) (a : List ℕ) → r .fraction ≡ 0 → FromRestart a → pass r a .after .fraction ≡ 0
 unfolding step
@@ -87,21 +109,32 @@ instructions-split : (a b : List ℕ) → Instructions (a ++ b) → Instructions
 instructions-split [] b h = tt
 instructions-split (e ∷ a) b h = (h .0, instructions-split a b (h .1))
 
--- a pass of instructions from a restart: a, behind which the fraction is zero, then b, without a tempo, then c
-module _ (r : State) (none : r .fraction ≡ 0) (time : InTime r) (a b c : List ℕ) (each : Instructions (a ++ (b ++ c))) (begins : FromRestart a) (steady : Steady b) where
-  -- the state that the span begins with
-  abbrev pub spanState : State
-  spanState = pass r a .after
+-- what stands in the middle of the middle
+inner : (x a b c y : List Entry) → x ++ ((a ++ (b ++ c)) ++ y) ≡ (x ++ a) ++ (b ++ (c ++ y))
+inner x a b c y = ap (λ (l : List Entry). x ++ l) (append-assoc a (b ++ c) y ∙ ap (λ (l : List Entry). a ++ l) (append-assoc b c y)) ∙ sym (append-assoc x a (b ++ (c ++ y)))
 
-  -- its entries stand behind those of a and ahead of those of c
-  pub span-there : pass r (a ++ (b ++ c)) .entries ≡ pass r a .entries ++ (pass spanState b .entries ++ pass (pass spanState b .after) c .entries)
-  span-there = ap (λ (d : Played). d .entries) (pass-append r a (b ++ c) ∙ ap (ahead (pass r a .entries)) (pass-append spanState b c))
-
-  -- and each of its boundaries is less than one microsecond early and never late
-  pub span-on-time : AllOnTime (beatsAt spanState) (sums 0 (durations (pass spanState b .entries))) (sums 0 (unitsIn b))
-  span-on-time =
-      let f = pass-fair r a time (instructions-split a (b ++ c) each) in
-      no-drift spanState b (restarts-there r a none begins) (beats-some (spanState .settings) (f .1 .range)) steady
+-- in a long pass every span keeps the time: behind instructions after which the fraction is zero, and without a tempo
+pub span-keeps-time : (l : List Entry) (r : State) (a b c : List ℕ) → LongPass l r (a ++ (b ++ c)) → FromRestart a → Steady b → KeepsTime l (pass r a .after) b
+span-keeps-time l r a b c g begins steady =
+    let s = pass r a .after in
+    let rest = pass (pass s b .after) c .entries in
+    let apart : pass r (a ++ (b ++ c)) .entries ≡ pass r a .entries ++ (pass s b .entries ++ rest) =
+    ap (λ (d : Played). d .entries) (pass-append r a (b ++ c) ∙ ap (ahead (pass r a .entries)) (pass-append s b c)) in
+    let fair = pass-fair r a (g .time) (instructions-split a (b ++ c) (g .each)) in
+    let none = restarts-there r a (g .none) begins in
+    let some = beats-some (s .settings) (fair .1 .range) in
+    let x = g .stand .before in
+    let y = g .stand .behind in
+    record {
+      stand = record {
+        before = x ++ pass r a .entries;
+        behind = rest ++ y;
+        there = g .stand .there ∙ ap (λ (m : List Entry). x ++ (m ++ y)) apart ∙ inner x (pass r a .entries) (pass s b .entries) rest y;
+      };
+      exact = boundaries-exact s b none some steady;
+      between = durations-between s b none some steady;
+      on-time = no-drift s b none some steady;
+    }
 
 -- ---- of a tone that document 01 allows
 
@@ -123,15 +156,62 @@ instructions-from bodies h seen (p ∷ ps) qs k =
     let body = times (p .loop + 1) (bodyOf bodies p) in
     (instructions-append body (sounding (remember bodies p) ps) (instructions-times (p .loop + 1) (bodyOf bodies p) (each-sounds Body none-body bodies h p own .0)) (more .0), more .1, more .2)
 
--- so the spans of its long pass are on time
-pub ahead-instructions : (t : Tone) → Formed t → (ps qs : List Pattern) → t .patterns ≡ ps ++ qs → Instructions (sounding noBodies ps)
-ahead-instructions t f ps qs split = instructions-from noBodies (each-start Body none-body) noneKnown ps qs (rw split at (f .sequence)) .0
+-- without loop 15 its list is one long pass
+pub all-in-one-pass : (t : Tone) → Formed t → NoneEndless (t .patterns) → LongPass (playingList t .entries) atStart (sounding noBodies (t .patterns))
+all-in-one-pass t f h = record {
+  stand = record { before = []; behind = []; there = list-without-endless t h ∙ sym (append-nil (pass atStart (sounding noBodies (t .patterns)) .entries)) };
+  none = refl;
+  time = time-start;
+  each = instructions-from noBodies (each-start Body none-body) noneKnown (t .patterns) [] (rw (append-nil (t .patterns)) (f .sequence)) .0;
+}
 
--- and those of each pass of its loop 15
-pub endless-instructions : (t : Tone) → Formed t → (ps : List Pattern) (p : Pattern) (qs : List Pattern) → t .patterns ≡ ps ++ p ∷ qs → Instructions (bodyOf (bodiesAfter noBodies ps) p)
-endless-instructions t f ps p qs split =
-    let i = instructions-from noBodies (each-start Body none-body) noneKnown ps (p ∷ qs) (rw split at (f .sequence)) in
-    each-sounds Body none-body (bodiesAfter noBodies ps) (i .1) p (sound-body p (i .2 .1 .0)) .0
+-- and with one it is three: what is ahead of it, and each of its passes
+module _ (t : Tone) (f : Formed t) (ps : List Pattern) (p : Pattern) (qs : List Pattern) (split : t .patterns ≡ ps ++ p ∷ qs) (h : NoneEndless ps) (e : p .loop ≡ 15) where
+  -- the body that sounds for ever
+  abbrev pub endlessBody : List ℕ
+  endlessBody = bodyOf (bodiesAfter noBodies ps) p
+
+  -- the states that its passes begin with
+  abbrev pub firstState : State
+  firstState = restarted (aheadOfEndless ps)
+
+  abbrev pub secondState : State
+  secondState = restarted (pass firstState endlessBody .after)
+
+  sounded-ones : Instructions (sounding noBodies ps) × Instructions endlessBody
+  sounded-ones =
+      let i = instructions-from noBodies (each-start Body none-body) noneKnown ps (p ∷ qs) (rw split at (f .sequence)) in
+      (i .0, each-sounds Body none-body (bodiesAfter noBodies ps) (i .1) p (sound-body p (i .2 .1 .0)) .0)
+
+  time-first : InTime firstState
+  time-first = time-restarted (aheadOfEndless ps) (pass-fair atStart (sounding noBodies ps) time-start (sounded-ones .0) .1 .range)
+
+  -- the entries of the three
+  abbrev lead : List Entry
+  lead = pass atStart (sounding noBodies ps) .entries
+
+  abbrev first : List Entry
+  first = pass firstState endlessBody .entries
+
+  abbrev second : List Entry
+  second = pass secondState endlessBody .entries
+
+  three-in-turn : playingList t .entries ≡ lead ++ (first ++ second)
+  three-in-turn = list-with-endless t ps p qs split h e
+
+  pub pass-ahead : LongPass (playingList t .entries) atStart (sounding noBodies ps)
+  pass-ahead = record { stand = record { before = []; behind = first ++ second; there = three-in-turn }; none = refl; time = time-start; each = sounded-ones .0 }
+
+  pub first-endless-pass : LongPass (playingList t .entries) firstState endlessBody
+  first-endless-pass = record { stand = record { before = lead; behind = second; there = three-in-turn }; none = refl; time = time-first; each = sounded-ones .1 }
+
+  pub second-endless-pass : LongPass (playingList t .entries) secondState endlessBody
+  second-endless-pass = record {
+    stand = record { before = lead ++ first; behind = []; there = three-in-turn ∙ sym (append-assoc lead first second) ∙ ap (λ (rs : List Entry). (lead ++ first) ++ rs) (sym (append-nil second)) };
+    none = refl;
+    time = time-restarted (pass firstState endlessBody .after) (pass-fair firstState endlessBody time-first (sounded-ones .1) .1 .range);
+    each = sounded-ones .1;
+  }
 
 -- ---- what does not hold
 
