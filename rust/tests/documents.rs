@@ -31,7 +31,13 @@ const OTHER_WORDS: [(&str, &[&str]); 6] = [
         &["&[u8]", "&mut [u8]", "u8", "u32", "usize", "bool"],
     ),
     ("words of a check's last line", &["axioms", "axioms="]),
-    ("the toolchain", &["rattle-kit-5b logic 064da1ca440f63e7"]),
+    (
+        "the toolchain",
+        &[
+            "rattle-kit-5b-plain logic 097e4c862dff5811",
+            "rattle-kit-5b logic 064da1ca440f63e7",
+        ],
+    ),
     ("what link/archives adds to a name", &["_proved"]),
     (
         "folders of a crate",
