@@ -63,53 +63,51 @@ impl Settings {
     }
 }
 
-// Beats a minute, table 3.7-11 of 000.
-const BEATS: [u32; 32] = [
-    25,
-    28,
-    31,
-    35,
-    40,
-    45,
-    50,
-    56,
-    63,
-    70,
-    80,
-    90,
-    100,
-    112,
-    125,
-    140,
-    160,
-    180,
-    200,
-    225,
-    250,
-    285,
-    320,
-    355,
-    400,
-    450,
-    500,
-    565,
-    635,
-    715,
-    800,
-    900,
-];
-
-// The beats a minute of a tempo code.
+// The beats a minute of a tempo code, table 3.7-11 of 000. It is a `match`, since the compiler makes read-only data of one; a
+// constant array is laid out on the stack at each use.
 pub fn beats(tempo: u32) -> u32
     requires { ⌜ tempo ≤ 31 ⌝ }
     ensures { λ r. ⌜ r ≡ beatsOf tempo ⌝ }
 {
-    BEATS[tempo as usize]
+    match tempo {
+        0 => 25,
+        1 => 28,
+        2 => 31,
+        3 => 35,
+        4 => 40,
+        5 => 45,
+        6 => 50,
+        7 => 56,
+        8 => 63,
+        9 => 70,
+        10 => 80,
+        11 => 90,
+        12 => 100,
+        13 => 112,
+        14 => 125,
+        15 => 140,
+        16 => 160,
+        17 => 180,
+        18 => 200,
+        19 => 225,
+        20 => 250,
+        21 => 285,
+        22 => 320,
+        23 => 355,
+        24 => 400,
+        25 => 450,
+        26 => 500,
+        27 => 565,
+        28 => 635,
+        29 => 715,
+        30 => 800,
+        31 => 900,
+        _ => 0,
+    }
 }
 
 // The units of a note, a sheet of 24: for each note length of 000 (3.7-7), plain, dotted, double dotted and 2/3 (3.7-8). An
-// entry's number is the duration code times 4, plus the specifier: the last five bits of a note. It is a `match`, since the
-// compiler makes read-only data of one; a constant array is laid out on the stack at each use.
+// entry's number is the duration code times 4, plus the specifier: the last five bits of a note. It is a `match`, as `beats` is.
 pub fn units(duration: u32, specifier: u32) -> u32
     requires { ⌜ (duration ≤ 5) × (specifier ≤ 3) ⌝ }
     ensures { λ r. ⌜ r ≡ unitsOf duration specifier ⌝ }
@@ -145,7 +143,15 @@ pub fn units(duration: u32, specifier: u32) -> u32
         21 => 18,
         22 => 21,
         23 => 8,
-        // Duration codes 6 and 7 are reserved: no note has them.
+        // Duration codes 6 and 7 are reserved, and no note has them. With an arm for all that five bits say, nothing is tested.
+        24 => 0,
+        25 => 0,
+        26 => 0,
+        27 => 0,
+        28 => 0,
+        29 => 0,
+        30 => 0,
+        31 => 0,
         _ => 0,
     }
 }

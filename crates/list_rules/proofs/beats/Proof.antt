@@ -3,16 +3,21 @@ use borrow.Author.Needs.{needs}
 use Rattle.list_rules.proofs.beats.Statement.{statement}
 use Rattle.list_rules.proofs.beats.Tie as tie
 use Rattle.list_rules.specs.Duration.{beats}
+use Rattle.bits.proofs.Below.{none-below}
+use native.Mathlib.Omega.{arith}
 
-mul-result : tie.Need-mul-result
-mul-result c = search needs
+-- no code comes to the last arm
+no-code : tie.Need-returns-33
+no-code c = absurd (omega (arith, none-below 32 (c .match .rest)))
 
-array-read-result : tie.Need-array-read-result
-array-read-result c = search needs
-
-returns : tie.Need-returns
-unfolding beats
-returns c = search needs
-
+-- each arm's number is the rule's for its code
 pub beats-spec : {M : Type 1} → statement M
-beats-spec = tie.close (tie.spec mul-result array-read-result returns)
+unfolding beats
+beats-spec =
+    tie.close
+    (tie.spec
+    (λ c. search needs) (λ c. search needs) (λ c. search needs) (λ c. search needs) (λ c. search needs) (λ c. search needs) (λ c. search needs) (λ c. search needs)
+    (λ c. search needs) (λ c. search needs) (λ c. search needs) (λ c. search needs) (λ c. search needs) (λ c. search needs) (λ c. search needs) (λ c. search needs)
+    (λ c. search needs) (λ c. search needs) (λ c. search needs) (λ c. search needs) (λ c. search needs) (λ c. search needs) (λ c. search needs) (λ c. search needs)
+    (λ c. search needs) (λ c. search needs) (λ c. search needs) (λ c. search needs) (λ c. search needs) (λ c. search needs) (λ c. search needs) (λ c. search needs)
+    no-code)

@@ -14,10 +14,10 @@ add-match : tie.Need-add-match
 add-match c = search needs
 
 -- no note comes to the last arm
-off-sheet : tie.Need-returns-25
-off-sheet c = absurd (omega (arith, none-below 24 (c .match .rest)))
+off-sheet : tie.Need-returns-33
+off-sheet c = absurd (omega (arith, none-below 32 (c .match .rest)))
 
--- each arm's number is the rule's for its entry, in the rows of the sheet
+-- each arm's number is the rule's for its entry, in the rows of the sheet; nor does a note come to those of the reserved codes
 pub units-spec : {M : Type 1} → statement M
 unfolding units
 units-spec =
@@ -31,4 +31,8 @@ units-spec =
     (λ c. search (on-sheet, needs)) (λ c. search (on-sheet, needs)) (λ c. search (on-sheet, needs)) (λ c. search (on-sheet, needs))
     (λ c. search (on-sheet, needs)) (λ c. search (on-sheet, needs)) (λ c. search (on-sheet, needs)) (λ c. search (on-sheet, needs))
     (λ c. search (on-sheet, needs)) (λ c. search (on-sheet, needs)) (λ c. search (on-sheet, needs)) (λ c. search (on-sheet, needs))
+    (λ c. absurd (omega (arith, c .match .keys25))) (λ c. absurd (omega (arith, c .match .keys26)))
+    (λ c. absurd (omega (arith, c .match .keys27))) (λ c. absurd (omega (arith, c .match .keys28)))
+    (λ c. absurd (omega (arith, c .match .keys29))) (λ c. absurd (omega (arith, c .match .keys30)))
+    (λ c. absurd (omega (arith, c .match .keys31))) (λ c. absurd (omega (arith, c .match .keys32)))
     off-sheet)
