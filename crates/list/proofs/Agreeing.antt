@@ -14,7 +14,7 @@ use Rattle.tone.specs.Reading.{readTone}
 use Rattle.list_rules.specs.declared.Entry.{Entry}
 use Rattle.list.specs.declared.Listed.{Listed}
 use Rattle.list.specs.declared.Listed.the-variants.{Made}
-use Rattle.list_rules.specs.Sounding.{packed, numbers, entriesOf}
+use Rattle.list_rules.specs.Sounding.{packed, origin, entryCells, numbers, entriesOf}
 use Rattle.list_rules.specs.Ranges.{Bounded, AllBounded}
 use Rattle.list_rules.specs.Playing.{Listing, playingList}
 use Rattle.list_rules.specs.Listing.{fitsNumbers, fitsBoth, listTone}
@@ -54,13 +54,13 @@ module _ (m ys : List ℕ) (rs : List Entry) where
   fits = fitsBoth (length ys) (length rs)
 
   -- what is made fits both
-  sized : (g : Listing) → listTone m fits ≡ accepted g → (2 * length (g .entries) ≤ length ys) × (length (g .entries) ≤ length rs)
+  sized : (g : Listing) → listTone m fits ≡ accepted g → (entryCells * length (g .entries) ≤ length ys) × (length (g .entries) ≤ length rs)
   sized g e =
       let b = both (fitsNumbers (length ys) g) (leb (length (g .entries)) (length rs)) (list-fitting m fits g e .0) in
-      (leb-true (2 * length (g .entries)) (length ys) (b .0), leb-true (length (g .entries)) (length rs) (b .1))
+      (leb-true (entryCells * length (g .entries)) (length ys) (b .0), leb-true (length (g .entries)) (length rs) (b .1))
 
   record Filled (zs : List ℕ) (n : ℕ) (x : Outcome Listing) : Type 0 where
-    room : (n * 2 ≤ length zs) × (n ≤ length rs) × (length zs ≡ length ys)
+    room : (n * entryCells ≤ length zs) × (n ≤ length rs) × (length zs ≡ length ys)
     rows : entriesOf n zs ++ drop n rs ≡ rowsAfter x rs
 
   fill : (x : Outcome Listing) → listTone m fits ≡ x → Filled (cellsAfter x ys) (entriesIn (listAnswer x)) x
@@ -80,7 +80,7 @@ module _ (m ys : List ℕ) (rs : List Entry) where
     filled : Filled zs n (listTone m fits)
     filled = let e = k ∙ ap entriesIn (h .answer) in rw (h .leaves, e) (fill (listTone m fits) refl)
 
-    pub rows-fit : (n * 2 ≤ length zs) × (n ≤ length rs)
+    pub rows-fit : (n * entryCells ≤ length zs) × (n ≤ length rs)
     rows-fit = (filled .room .0, filled .room .1)
 
     pub cells-kept : length zs ≡ length ys
@@ -91,23 +91,24 @@ module _ (m ys : List ℕ) (rs : List Entry) where
 
 -- ---- the two forms agree
 
--- an entry's two numbers, and its place in both forms
+-- an entry's three numbers, and its place in both forms
 pub record Agree (r : Entry) (l : List ℕ) (i : ℕ) : Type 0 where
-  pub first : packed r ≡ getD l (2 * i) 0
-  pub second : r .microseconds ≡ getD l (2 * i + 1) 0
+  pub first : packed r ≡ getD l (entryCells * i) 0
+  pub second : r .microseconds ≡ getD l (entryCells * i + 1) 0
+  pub third : origin r ≡ getD l (entryCells * i + 2) 0
   pub bounded : Bounded r
 
--- each entry of a list agrees with its two numbers, whatever follows them
+-- each entry of a list agrees with its three numbers, whatever follows them
 pub agree-at : (es : List Entry) (rest : List ℕ) → AllBounded es → (i : ℕ) (d : Entry) → i < length es → Agree (getD es i d) (numbers es ++ rest) i
 agree-at [] rest b i d h = let z : ⊥ = omega arith in absurd z
-agree-at (r ∷ es) rest b zero d h = record { first = refl; second = refl; bounded = b .0 }
+agree-at (r ∷ es) rest b zero d h = record { first = refl; second = refl; third = refl; bounded = b .0 }
 agree-at (r ∷ es) rest b (suc i) d h =
     let a = agree-at es rest (b .1) i d (omega arith) in
-    let e : 2 * suc i ≡ suc (suc (2 * i)) = omega arith in
-    let e′ : 2 * suc i + 1 ≡ suc (suc (2 * i + 1)) = omega arith in
-    record { first = rw e (a .first); second = rw e′ (a .second); bounded = a .bounded }
+    let behind : (k : ℕ) → entryCells * suc i + k ≡ suc (suc (suc (entryCells * i + k))) = λ k. omega arith in
+    let e : entryCells * suc i ≡ suc (suc (suc (entryCells * i))) = omega arith in
+    record { first = rw e (a .first); second = rw (behind 1) (a .second); third = rw (behind 2) (a .third); bounded = a .bounded }
 
--- entry by entry, the row packs into the list's two numbers
+-- entry by entry, the row packs into the list's three numbers
 pub forms-agree : {m list : List ℕ} {rows : List Entry} {l : List ℕ} {w : List Entry} {n k : ℕ} → RowsPromise m list rows l w (Made n k) → (i : ℕ) (d : Entry) → i < n → Agree (getD w i d) l i
 forms-agree {m} {list} {rows} {l} {w} {n} {k} h i d s = go (listTone m (fitsBoth (length list) (length rows))) refl (h .listed .answer) (h .listed .leaves) (h .leaves)
   where

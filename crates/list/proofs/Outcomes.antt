@@ -27,7 +27,7 @@ use Rattle.tone_judge.specs.declared.Judged.{Judged}
 use Rattle.tone_judge.specs.declared.Judged.the-variants.{Sound, Faulty}
 use Rattle.list.specs.declared.Listed.{Listed}
 use Rattle.list.specs.declared.Listed.the-variants.{Made, Refused}
-use Rattle.list_rules.specs.Sounding.{atStart, numbers}
+use Rattle.list_rules.specs.Sounding.{atStart, entryCells, numbers}
 use Rattle.list_rules.specs.Playing.{Listing, play, playingList}
 use Rattle.list_count.specs.Bodies.{noBodies}
 use Rattle.list_count.specs.Counting.{entryCount, markFrom}
@@ -145,12 +145,12 @@ module _ (m : List ℕ) (old : List ℕ) (rows : ℕ) {v : Judged} (q : v ≡ ju
     no-room : fits (playingList (there .tone)) ≡ false → ListPromise m fits old old (Refused 11 (place 0))
     no-room h = promised m fits old (room-last m (there .there) fits h)
 
-    pub list-cells-short : length old / 2 < e → ListPromise m fits old old (Refused 11 (place 0))
-    list-cells-short h = no-room (rw (count, lt-leb (2 * e) (length old) (omega arith)))
+    pub list-cells-short : length old / entryCells < e → ListPromise m fits old old (Refused 11 (place 0))
+    list-cells-short h = no-room (rw (count, lt-leb (entryCells * e) (length old) (omega arith)))
 
-    module _ (h : e ≤ length old / 2) where
+    module _ (h : e ≤ length old / entryCells) where
       pub list-rows-short : rows < e → ListPromise m fits old old (Refused 11 (place 0))
-      list-rows-short l = no-room (rw (count, le-leb (2 * e) (length old) (omega arith), lt-leb e rows l))
+      list-rows-short l = no-room (rw (count, le-leb (entryCells * e) (length old) (omega arith), lt-leb e rows l))
 
       reads : patternsDue n noneKnown (bitsOf m) (f .0) ≡ got (there .tone .patterns) (length (frontBits (frontOf (there .tone))) + length (tableBits (cells (there .tone .patterns))))
       reads = ap₂ (λ (x y : ℕ). patternsDue x noneKnown (bitsOf m) y) (there .patterns) (there .front) ∙ patterns-there m (there .tone) (there .there)
@@ -158,22 +158,25 @@ module _ (m : List ℕ) (old : List ℕ) (rows : ℕ) {v : Judged} (q : v ≡ ju
       pub list-patterns : PatternsAt m (f .0) n (patternsIn m (f .0) n) (endIn m (f .0) n)
       list-patterns = record { within = subst (Within m) (sym (there .front)) (patterns-within m (there .tone) (there .there)); reads = rw reads refl }
 
+      pub list-few : n ≤ 255
+      list-few = omega (arith, there .patterns, formed .front .most)
+
       patterns-are : patternsIn m (f .0) n ≡ there .tone .patterns
       patterns-are = rw reads refl
 
-      pub list-room : 2 * entryCount noBodies (patternsIn m (f .0) n) ≤ length old
+      pub list-room : entryCells * entryCount noBodies (patternsIn m (f .0) n) ≤ length old
       list-room = omega (arith, ap (entryCount noBodies) patterns-are, there .entries)
 
       pub list-made : {new : List ℕ} → e ≤ rows → new ≡ over (numbers (play atStart noBodies 0 (patternsIn m (f .0) n) .entries)) old → ListPromise m fits old new (Made e k)
       unfolding playingList
       list-made {new} l z =
           let g = playingList (there .tone) in
-          let o = made-where m (there .there) fits (rw (count, le-leb (2 * e) (length old) (omega arith), le-leb e rows l)) in
+          let o = made-where m (there .there) fits (rw (count, le-leb (entryCells * e) (length old) (omega arith), le-leb e rows l)) in
           let a : Made e k ≡ listAnswer (accepted g) = ap₂ Made (sym count) (there .mark ∙ sym (list-mark atStart noBodies 0 (there .tone .patterns))) in
           let b : new ≡ cellsAfter (accepted g) old = z ∙ ap (λ (ps : List Pattern). over (numbers (play atStart noBodies 0 ps .entries)) old) patterns-are in
           rw (a, b) (promised m fits old o)
 
-pub ruleset outcomes = (list-faulty, list-small, list-cells-short, list-rows-short, list-patterns, list-room, list-made)
+pub ruleset outcomes = (list-faulty, list-small, list-cells-short, list-rows-short, list-patterns, list-few, list-room, list-made)
 
 -- ---- rows that are as many as the cells add nothing
 
@@ -189,7 +192,7 @@ enough-rows : (room : ℕ) (g : Listing) → fitsBoth room room g ≡ fitsNumber
 enough-rows room g = go (fitsNumbers room g) refl
   where
     go : (t : Bool) → fitsNumbers room g ≡ t → (t && leb (length (g .entries)) room) ≡ t
-    go true e = le-leb (length (g .entries)) room (omega (arith, leb-true (2 * length (g .entries)) room e))
+    go true e = le-leb (length (g .entries)) room (omega (arith, leb-true (entryCells * length (g .entries)) room e))
     go false e = refl
 
 pub cells-alone : (m old : List ℕ) {new : List ℕ} {r : Listed} → ListPromise m (fitsBoth (length old) (length old)) old new r → ListPromise m (fitsNumbers (length old)) old new r

@@ -2,7 +2,7 @@ ghost use mathlib.Core.Path.{_≡_};
 ghost use mathlib.Core.List.{_++_};
 ghost use Prim.Native.Nat.{_+_, _*_, _≤_, _<_};
 ghost use lib.ListN.{length, drop};
-ghost use Rattle.list_rules.specs.Sounding.{entryAt, entriesOf};
+ghost use Rattle.list_rules.specs.Sounding.{entryCells, entryAt, entriesOf};
 ghost use Rattle.list_rules.specs.Listing.{fitsNumbers, fitsBoth};
 ghost use Rattle.list.specs.Promise.{entriesIn, ListPromise, RowsPromise};
 use bits::BitPlace;
@@ -15,17 +15,18 @@ pub enum Listed {
     Refused { number: u32, place: BitPlace },
 }
 
-// The entry at a position of a list in two-number form.
+// The entry at a position of a list in cells.
 fn entry_at(list: &[u32], i: usize) -> Entry
-    requires { ⌜ i * 2 + 1 < length (now list) ⌝ }
+    requires { ⌜ i * entryCells + 2 < length (now list) ⌝ }
     ensures { λ r. ⌜ r ≡ entryAt (now (list .entry)) i ⌝ }
 {
-    list_rules::entry_of(list[i * 2], list[i * 2 + 1])
+    let at = i * list_rules::ENTRY_CELLS;
+    list_rules::entry_of(list[at], list[at + 1], list[at + 2])
 }
 
-// Fills the first `n` rows from a list in two-number form. The other rows stay.
+// Fills the first `n` rows from a list in cells. The other rows stay.
 fn fill_rows(list: &[u32], n: usize, rows: &mut [Entry])
-    requires { ⌜ (n * 2 ≤ length (now list)) × (n ≤ length (now rows)) ⌝ }
+    requires { ⌜ (n * entryCells ≤ length (now list)) × (n ≤ length (now rows)) ⌝ }
     ensures { λ _. ⌜ now (rows .exit) ≡ entriesOf n (now (list .entry)) ++ drop n (now (rows .entry)) ⌝ }
 {
     let mut i = 0;
@@ -36,7 +37,7 @@ fn fill_rows(list: &[u32], n: usize, rows: &mut [Entry])
     }
 }
 
-// Makes the list of a message in two-number form, where it has at most `most` entries.
+// Makes the list of a message in cells, where it has at most `most` entries.
 fn list_within(msg: &[u8], list: &mut [u32], most: usize) -> Listed
     ensures { λ r. ⌜ ListPromise (now (msg .entry)) (fitsBoth (length (now (list .entry))) most) (now (list .entry)) (now (list .exit)) r ⌝ }
 {
@@ -55,7 +56,7 @@ fn list_within(msg: &[u8], list: &mut [u32], most: usize) -> Listed
         } => {
             let entries = total.list;
             let mark = total.mark;
-            if list.len() / 2 < entries as usize {
+            if list.len() / list_rules::ENTRY_CELLS < entries as usize {
                 return Listed::Refused {
                     number: 11,
                     place: BitPlace(0),
@@ -73,7 +74,7 @@ fn list_within(msg: &[u8], list: &mut [u32], most: usize) -> Listed
     }
 }
 
-// Makes the list of a message in two-number form.
+// Makes the list of a message in cells.
 pub fn list(msg: &[u8], list: &mut [u32]) -> Listed
     ensures { λ r. ⌜ ListPromise (now (msg .entry)) (fitsNumbers (length (now (list .entry)))) (now (list .entry)) (now (list .exit)) r ⌝ }
 {

@@ -26,15 +26,16 @@ use Rattle.list_rules.specs.declared.Entry.{Entry}
 use Rattle.list_fill.specs.declared.Part.{Part}
 use Rattle.list_fill.specs.declared.Part.the-variants.{Unknown, Known}
 use Rattle.list_fill.specs.declared.Walk.{Walk}
-use Rattle.list_rules.specs.Sounding.{State, atStart, numbers}
-use Rattle.list_rules.specs.Playing.{Played, ahead, Listing, passes, patternPlayed, play}
+use Rattle.list_rules.specs.Sounding.{State, atStart, entryCells, numbers}
+use Rattle.list_rules.specs.Playing.{Played, ahead, Listing, passes, patternPlayed, nextHeader, play}
 use Rattle.list_count.specs.Bodies.{Remembered, unknown, known, recalled, noBodies, passesOf, bodyOf, remember}
 use Rattle.list_count.specs.Counting.{entryCount}
-use Rattle.list_fill.specs.Filling.{PatternsAt, partAfter, behindPattern, stateOf, Ready, Advanced}
+use Rattle.list_fill.specs.Filling.{PatternsAt, partAfter, behindPattern, stateOf, Ready, Headed, Advanced}
 use Rattle.tone_elements.specs.Standing.{BodyAt, behindOr, bodyIn, behindIn}
 use Rattle.list_rules.proofs.Counts.{list-count}
 use Rattle.list_count.proofs.Bodies.{isKnown, knownOf, remember-length, body-sounding, learn-read}
 use Rattle.list_count.proofs.Parts.{AllFor, parts-kept, part-sounds, known-sounding}
+use Rattle.list_rules.proofs.Headers.{passes-header}
 use Rattle.list_rules.proofs.Joining.{play-last}
 use Rattle.list_rules.proofs.Restarts.{patterns-carry}
 use Rattle.list_rules.proofs.Packing.{length-numbers}
@@ -101,26 +102,29 @@ pub record ListWalk (m : List ℕ) (ps : List Pattern) (old new : List ℕ) (par
   pub done : List Entry
   pub advanced : Advanced 0 (record { entries = done; after = stateOf w }) (w .at .0) old new w
   pub goes : play atStart noBodies 0 ps .entries ≡ done ++ play (stateOf w) bodies (length done) others .entries
-  pub room : 2 * entryCount noBodies ps ≤ length old
+  pub room : entryCells * entryCount noBodies ps ≤ length old
+  -- the last header's position is at most 254
+  pub few : w .header + left ≤ 255
 
-pub list-begins : {m : List ℕ} {at n : ℕ} {ps : List Pattern} {q : ℕ} {old : List ℕ} {w : Walk} {p : BitPlace} → PatternsAt m at n ps q → 2 * entryCount noBodies ps ≤ length old
+pub list-begins : {m : List ℕ} {at n : ℕ} {ps : List Pattern} {q : ℕ} {old : List ℕ} {w : Walk} {p : BitPlace} → PatternsAt m at n ps q × (n ≤ 255) → entryCells * entryCount noBodies ps ≤ length old
     → Ready w × (stateOf w ≡ atStart) × (w .at ≡ p) × (w .cells ≡ 0) → ListWalk m ps old old (replicate 4 Unknown) at w n
 list-begins {ps = ps} {q} {w = w} h k s = record {
-  within = h .within;
+  within = h .0 .within;
   bodies = noBodies;
   four = refl;
   places = (tt, (tt, (tt, (tt, tt))));
   others = ps;
   end = q;
-  reads = h .reads;
+  reads = h .0 .reads;
   done = [];
   advanced = record { state = refl; ready = s .0; place = refl; cells = s .3; list = refl };
   goes = rw (s .1) refl;
   room = k;
+  few = omega (arith, h .1, ap (λ (r : State). r .header) (s .1));
 }
 
 -- what was written from the front stands over the old cells
-over-sets : (old : List ℕ) (rs : List Entry) → 2 * length rs ≤ length old → sets old 0 (numbers rs) ≡ over (numbers rs) old
+over-sets : (old : List ℕ) (rs : List Entry) → entryCells * length rs ≤ length old → sets old 0 (numbers rs) ≡ over (numbers rs) old
 over-sets old rs h = sets-eq (numbers rs) old 0 (omega (arith, length-numbers rs)) ∙ ap (λ (n : ℕ). numbers rs ++ drop n old) (zero-add (length (numbers rs)))
 
 module _ {m : List ℕ} {ps : List Pattern} {old new : List ℕ} {parts : List Part} {p : ℕ} {w : Walk} {left : ℕ} (v : ListWalk m ps old new parts p w left) where
@@ -128,7 +132,7 @@ module _ {m : List ℕ} {ps : List Pattern} {old new : List ℕ} {parts : List P
   list-same = advanced-long (v .advanced)
 
   -- all entries
-  count : 2 * length (play atStart noBodies 0 ps .entries) ≤ length old
+  count : entryCells * length (play atStart noBodies 0 ps .entries) ≤ length old
   count = rw (list-count atStart noBodies 0 ps) (v .room)
 
   pub list-done : left ≤ 0 → new ≡ over (numbers (play atStart noBodies 0 ps .entries)) old
@@ -218,7 +222,7 @@ module _ {m : List ℕ} {ps : List Pattern} {old new : List ℕ} {parts : List P
           played = ap (passes (loopOf cell) (passesOf (loopOf cell)) (stateOf w)) body-is
 
           -- there is room for them
-          pub list-fits : w .cells + 2 * (notes (bodyIn m (from .0) n) * passesOf (loopOf cell)) ≤ length new
+          pub list-fits : w .cells + entryCells * (notes (bodyIn m (from .0) n) * passesOf (loopOf cell)) ≤ length new
           unfolding one
           list-fits =
               let e : entryCount noBodies ps ≡ length (v .done) + entryCount (v .bodies) (v .others) =
@@ -258,11 +262,19 @@ module _ {m : List ℕ} {ps : List Pattern} {old new : List ℕ} {parts : List P
                     let e₂ : specifier cell ≡ n = cc in
                     a .place ∙ ap₂ (λ (u : BitPlace) (c : ℕ). behindIn m (u .0) c) (sym e₁) (sym e₂) ∙ ap behindOr reads
 
-            pub list-on : {place′ : BitPlace} → (loopOf cell ≡ 15 → ⊥) → place′ ≡ behindPattern cell next (w′ .at) → ListWalk m ps old new′ (set parts (partOf cell) part) (place′ .0) w′ (left - 1)
+            -- the passes are this header's
+            same-header : w′ .header ≡ w .header
+            same-header = ap (λ (r : State). r .header) (a .state) ∙ passes-header (loopOf cell) (passesOf (loopOf cell)) (stateOf w) (bodyIn m (from .0) n)
+
+            pub list-header : w′ .header < 255
+            list-header = omega (arith, v .few, same-header)
+
+            pub list-on : {place′ : BitPlace} {w″ : Walk} → (loopOf cell ≡ 15 → ⊥) → place′ ≡ behindPattern cell next (w′ .at) → Headed w′ w″
+                → ListWalk m ps old new′ (set parts (partOf cell) part) (place′ .0) w″ (left - 1)
             unfolding d one
-            list-on {place′} other z =
+            list-on {place′} {w″} other z g =
                 let q = behind-is z in
-                let s : d .after ≡ stateOf w′ = sym (both .state) in
+                let s : nextHeader (d .after) ≡ stateOf w″ = ap nextHeader (sym (both .state)) ∙ sym (g .state) in
                 record {
                   within = record { inside = rw (q, ← length-bitsOf m) (read .inside); counted = v .within .counted };
                   bodies = remember (v .bodies) one;
@@ -272,16 +284,17 @@ module _ {m : List ℕ} {ps : List Pattern} {old new : List ℕ} {parts : List P
                   end = v .end;
                   reads = rw q (ap (λ (u : List Bool). patternsDue (left - 1) u (bitsOf m) (head .behind)) (sym (ap (learn (knownOf (v .bodies))) same ∙ learn-read (v .bodies) cell (head .body) (ap (λ (x : ℕ). eqb x 0) size))) ∙ head .more);
                   done = v .done ++ d .entries;
-                  advanced = record { state = refl; ready = both .ready; place = refl; cells = both .cells; list = both .list };
+                  advanced = record { state = refl; ready = g .ready; place = refl; cells = g .cells ∙ both .cells; list = both .list };
                   goes = v .goes ∙ ap (λ (y : List Pattern). v .done ++ play (stateOf w) (v .bodies) (length (v .done)) y .entries) others
                       ∙ ap (λ (y : Listing). v .done ++ y .entries) (patterns-carry (stateOf w) (v .bodies) (length (v .done)) one (head .others) other)
-                      ∙ sym (append-assoc (v .done) (d .entries) (play (d .after) (remember (v .bodies) one) (length (v .done) + length (d .entries)) (head .others) .entries))
+                      ∙ sym (append-assoc (v .done) (d .entries) (play (nextHeader (d .after)) (remember (v .bodies) one) (length (v .done) + length (d .entries)) (head .others) .entries))
                       ∙ ap₂ (λ (u : State) (k : ℕ). (v .done ++ d .entries) ++ play u (remember (v .bodies) one) k (head .others) .entries) s (sym (length-append (v .done) (d .entries)));
                   room = v .room;
+                  few = omega (arith, v .few, same-header, ap (λ (r : State). r .header) (g .state));
                 }
 
 -- the list keeps its length in a turn
 pub list-long : {m : List ℕ} {ps : List Pattern} {old new new′ : List ℕ} {parts : List Part} {p : ℕ} {w w′ : Walk} {left i q : ℕ} {d : Played} → ListWalk m ps old new parts p w left → Advanced i d q new new′ w′ → length new′ ≡ length old
 list-long v a = advanced-long a ∙ list-same v
 
-pub ruleset listings = (list-begins, list-same, list-long, list-done, list-entry, list-unknown, list-body, list-fits, list-ends, list-on)
+pub ruleset listings = (list-begins, list-same, list-long, list-done, list-entry, list-unknown, list-body, list-fits, list-ends, list-header, list-on)

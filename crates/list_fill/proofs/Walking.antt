@@ -20,7 +20,7 @@ use Rattle.tone.proofs.Rows.{instruction-exact, body-exact}
 use Rattle.tone_elements.specs.Answers.{noteIn, notes}
 use Rattle.list_rules.specs.declared.Entry.{Entry}
 use Rattle.list_fill.specs.declared.Walk.{Walk}
-use Rattle.list_rules.specs.Sounding.{State, numbers}
+use Rattle.list_rules.specs.Sounding.{State, entryCells, numbers}
 use Rattle.list_rules.specs.Playing.{Played, ahead, step, pass, onePass, passes}
 use Rattle.list_count.specs.Bodies.{passesOf}
 use Rattle.list_fill.specs.Filling.{entrySeen, stateOf, Ready, Begun, Advanced}
@@ -28,6 +28,7 @@ use Rattle.tone_elements.specs.Standing.{bodyIn, behindIn, BodyAt}
 use Rattle.list_rules.proofs.Packing.{length-numbers, numbers-append}
 use Rattle.list_rules.proofs.Joining.{ahead-twice, pass-append}
 use Rattle.list_rules.proofs.Counts.{pass-count, passes-count}
+use Rattle.list_rules.proofs.Headers.{pass-position}
 use Rattle.tone_elements.proofs.Seeing.{instruction-width}
 use Rattle.tone_elements.proofs.Steps.{onward-got, onward-made}
 use Rattle.tone_elements.proofs.Walks.{InSight, sight-begins, sight-near, sight-here, sight-next, body-more, notes-more}
@@ -70,7 +71,7 @@ all-played {i} {d} {old = old} a e z =
       state = refl;
       ready = a .ready;
       place = a .place ∙ z;
-      cells = a .cells ∙ ap (λ (rs : List Entry). i + 2 * length rs) (sym n);
+      cells = a .cells ∙ ap (λ (rs : List Entry). i + entryCells * length rs) (sym n);
       list = a .list ∙ ap (λ (rs : List Entry). sets old i (numbers rs)) (sym n);
     })
 
@@ -123,18 +124,20 @@ pub record PassWalk (m : List ℕ) (s : State) (b : List ℕ) (i q : ℕ) (old n
   pub stands : BodyAt m (w .at .0) left others q
   pub advanced : Advanced i done (w .at .0) old new w
   pub goes : pass s b ≡ ahead (done .entries) (pass (stateOf w) others)
-  pub room : i + 2 * notes b ≤ length old
+  pub room : i + entryCells * notes b ≤ length old
+  -- the last instruction's position is at most 254
+  pub few : w .position + left ≤ 255
 
-pub pass-begins : {m : List ℕ} {b : List ℕ} {q n : ℕ} {old : List ℕ} (w : Walk) → Ready w → BodyAt m (w .at .0) n b q → w .cells + 2 * notes b ≤ length old
+pub pass-begins : {m : List ℕ} {b : List ℕ} {q n : ℕ} {old : List ℕ} (w : Walk) → Ready w × (w .position + n ≤ 255) → BodyAt m (w .at .0) n b q → w .cells + entryCells * notes b ≤ length old
     → PassWalk m (stateOf w) b (w .cells) q old old w n
-pass-begins {b = b} {old = old} w r h k = record { done = record { entries = []; after = stateOf w }; others = b; stands = h; advanced = nothing-yet w old r; goes = refl; room = k }
+pass-begins {b = b} {old = old} w r h k = record { done = record { entries = []; after = stateOf w }; others = b; stands = h; advanced = nothing-yet w old (r .0); goes = refl; room = k; few = r .1 }
 
 module _ {m : List ℕ} {s : State} {b : List ℕ} {i q : ℕ} {old new : List ℕ} {w : Walk} {left : ℕ} (v : PassWalk m s b i q old new w left) where
   pub pass-long : length new ≡ length old
   pass-long = advanced-long (v .advanced)
 
   -- there is room for what is left
-  left-room : w .cells + 2 * notes (v .others) ≤ length new
+  left-room : w .cells + entryCells * notes (v .others) ≤ length new
   left-room =
       let n : notes b ≡ length (v .done .entries) + notes (v .others) =
       sym (pass-count s b) ∙ ap (λ (d : Played). length (d .entries)) (v .goes) ∙ length-append (v .done .entries) (pass (stateOf w) (v .others) .entries)
@@ -143,8 +146,8 @@ module _ {m : List ℕ} {s : State} {b : List ℕ} {i q : ℕ} {old new : List �
 
   -- what is played next, and what is left then
   go-on : {d : Played} {p n : ℕ} {rest : List ℕ} {new′ : List ℕ} {w′ : Walk} → Advanced (w .cells) d p new new′ w′ → pass (stateOf w) (v .others) ≡ ahead (d .entries) (pass (d .after) rest)
-      → bodyDue n (bitsOf m) p ≡ got rest q → p ≤ length (bitsOf m) → n ≤ 255 → PassWalk m s b i q old new′ w′ n
-  go-on {d} {rest = rest} a e more inside short = record {
+      → bodyDue n (bitsOf m) p ≡ got rest q → p ≤ length (bitsOf m) → n ≤ 255 → w′ .position + n ≤ 255 → PassWalk m s b i q old new′ w′ n
+  go-on {d} {rest = rest} a e more inside short few = record {
     done = ahead (v .done .entries) d;
     others = rest;
     stands = record {
@@ -156,6 +159,7 @@ module _ {m : List ℕ} {s : State} {b : List ℕ} {i q : ℕ} {old new : List �
     goes = v .goes ∙ ap (ahead (v .done .entries)) e ∙ ahead-twice (v .done .entries) (d .entries) (pass (d .after) rest)
         ∙ ap (λ (r : State). ahead (v .done .entries ++ d .entries) (pass r rest)) (sym (a .state));
     room = v .room;
+    few = few;
   }
 
   -- k instructions at once
@@ -172,7 +176,7 @@ module _ {m : List ℕ} {s : State} {b : List ℕ} {i q : ℕ} {old new : List �
     pub pass-few : BodyAt m (w .at .0) k (bodyIn m (w .at .0) k) (behindIn m (w .at .0) k)
     pass-few = record { within = v .stands .within; short = omega (arith, h .1); reads = rw (split .first) refl }
 
-    pub pass-fits : w .cells + 2 * notes (bodyIn m (w .at .0) k) ≤ length new
+    pub pass-fits : w .cells + entryCells * notes (bodyIn m (w .at .0) k) ≤ length new
     pass-fits = omega (arith, left-room, ap notes (split .body) ∙ notes-more (split .front) (split .others), ap notes front)
 
     pub pass-on : {new′ : List ℕ} {w′ : Walk} → Advanced (w .cells) (pass (stateOf w) (bodyIn m (w .at .0) k)) (behindIn m (w .at .0) k) new new′ w′
@@ -181,6 +185,7 @@ module _ {m : List ℕ} {s : State} {b : List ℕ} {i q : ℕ} {old new : List �
         let read = body-exact k .sound (bitsOf m) (w .at .0) (rw (length-bitsOf m) (v .stands .within .inside)) (split .first) in
         go-on {rest = split .others} a (ap (pass (stateOf w)) (split .body) ∙ pass-append (stateOf w) (split .front) (split .others) ∙ ap (λ (x : List ℕ). ahead (pass (stateOf w) x .entries) (pass (pass (stateOf w) x .after) (split .others))) (sym front))
         (rw behind (split .more)) (rw behind (read .inside)) (omega (arith, v .stands .short))
+        (omega (arith, v .few, ap (λ (r : State). r .position) (a .state) ∙ pass-position (stateOf w) (bodyIn m (w .at .0) k), ap length front, read .good .size))
 
 pub pass-done : {m : List ℕ} {s : State} {b : List ℕ} {i q : ℕ} {old new : List ℕ} {w : Walk} {left : ℕ} → PassWalk m s b i q old new w left → left ≤ 0 → Advanced i (pass s b) q old new w
 unfolding bodyDue
@@ -191,7 +196,11 @@ pass-done {m} {s} {b} {q = q} {w = w} {left} v h =
     let e₂ : w .at .0 ≡ q = cc in
     all-played (v .advanced) (v .goes ∙ ap (λ (x : List ℕ). ahead (v .done .entries) (pass (stateOf w) x)) e₁) e₂
 
-pub ruleset passings = (pass-begins, pass-long, pass-few, pass-fits, pass-on, pass-done)
+-- there are positions for the next few
+pub pass-positions : {m : List ℕ} {s : State} {b : List ℕ} {i q : ℕ} {old new : List ℕ} {w : Walk} {left k : ℕ} → PassWalk m s b i q old new w left → k ≤ left → w .position + k ≤ 255
+pass-positions v h = omega (arith, v .few)
+
+pub ruleset passings = (pass-begins, pass-long, pass-few, pass-fits, pass-positions, pass-on, pass-done)
 
 -- ---- some instructions in one sight
 
@@ -200,9 +209,9 @@ pub record FewWalk (m : List ℕ) (s : State) (b : List ℕ) (at i q : ℕ) (old
   pub walked : PassWalk m s b i q old new w left
   pub seen : InSight at (w .at .0) left
 
-pub few-begins : {m : List ℕ} {b : List ℕ} {q n : ℕ} {old : List ℕ} (w : Walk) → Ready w × (n ≤ 4) → BodyAt m (w .at .0) n b q → w .cells + 2 * notes b ≤ length old
+pub few-begins : {m : List ℕ} {b : List ℕ} {q n : ℕ} {old : List ℕ} (w : Walk) → Ready w × (n ≤ 4) × (w .position + n ≤ 255) → BodyAt m (w .at .0) n b q → w .cells + entryCells * notes b ≤ length old
     → FewWalk m (stateOf w) b (w .at .0) (w .cells) q old old w n
-few-begins {n = n} w r h k = record { walked = pass-begins w (r .0) h k; seen = sight-begins (w .at .0) n (r .1) }
+few-begins {n = n} w r h k = record { walked = pass-begins w (r .0, r .2) h k; seen = sight-begins (w .at .0) n (r .1) }
 
 module _ {m : List ℕ} {s : State} {b : List ℕ} {at i q : ℕ} {old new : List ℕ} {w : Walk} {left : ℕ} (f : FewWalk m s b at i q old new w left) where
   pub few-ready : Ready w
@@ -217,6 +226,10 @@ module _ {m : List ℕ} {s : State} {b : List ℕ} {at i q : ℕ} {old new : Lis
 
     pub few-near : w .at .0 - at ≤ 36
     few-near = sight-near (f .seen) h
+
+    -- there is a position for the next instruction
+    pub few-position : w .position < 255
+    few-position = omega (arith, f .walked .few)
 
     -- the place can be counted
     pub few-place : w .at .0 < 2 ^ 63
@@ -242,7 +255,7 @@ module _ {m : List ℕ} {s : State} {b : List ℕ} {at i q : ℕ} {old new : Lis
       pub few-instruction : Instruction (entrySeen y)
       few-instruction = rw same (taken .good)
 
-      pub few-room : w .cells + 2 * noteIn (entrySeen y) ≤ length new
+      pub few-room : w .cells + entryCells * noteIn (entrySeen y) ≤ length new
       few-room = omega (arith, left-room (f .walked), ap notes (head .body), ap noteIn same)
 
       pub few-on : {new′ : List ℕ} {w′ : Walk} → Advanced (w .cells) (step (stateOf w) (entrySeen y)) (w .at .0 + length (entryBits (entrySeen y))) new new′ w′
@@ -253,14 +266,14 @@ module _ {m : List ℕ} {s : State} {b : List ℕ} {at i q : ℕ} {old new : Lis
           let d : Advanced (w .cells) (step (stateOf w) (head .entry)) (head .behind) new new′ w′ =
           subst (λ (c : ℕ). Advanced (w .cells) (step (stateOf w) c) (head .behind) new new′ w′) same (subst (λ (p : ℕ). Advanced (w .cells) (step (stateOf w) (entrySeen y)) p new new′ w′) z a) in
           record {
-            walked = go-on (f .walked) d (ap (pass (stateOf w)) (head .body)) (head .more) (taken .inside) (omega (arith, f .walked .stands .short));
+            walked = go-on (f .walked) d (ap (pass (stateOf w)) (head .body)) (head .more) (taken .inside) (omega (arith, f .walked .stands .short)) (omega (arith, f .walked .few, ap (λ (r : State). r .position) (d .state)));
             seen = rw (d .place) (sight-next (f .seen) h m (f .walked .stands .within .inside) (head .first));
           }
 
   pub few-done : left ≤ 0 → Advanced i (pass s b) q old new w
   few-done h = pass-done (f .walked) h
 
-pub ruleset seeings = (few-begins, few-ready, few-long, few-back, few-near, few-place, few-instruction, few-room, few-on, few-done)
+pub ruleset seeings = (few-begins, few-ready, few-long, few-back, few-near, few-position, few-place, few-instruction, few-room, few-on, few-done)
 
 -- ---- so many passes
 
@@ -271,7 +284,7 @@ pub record TimesWalk (m : List ℕ) (from : BitPlace) (n value : ℕ) (s : State
   pub advanced : Advanced i done (w .at .0) old new w
   pub goes : passes value (passesOf value) s (bodyIn m (from .0) n) ≡ ahead (done .entries) (passes value left (stateOf w) (bodyIn m (from .0) n))
   pub behind : left < passesOf value → w .at .0 ≡ behindIn m (from .0) n
-  pub room : i + 2 * (notes (bodyIn m (from .0) n) * passesOf value) ≤ length old
+  pub room : i + entryCells * (notes (bodyIn m (from .0) n) * passesOf value) ≤ length old
 
 passes-some : (value : ℕ) → 1 ≤ passesOf value
 unfolding passesOf
@@ -284,7 +297,7 @@ one-time-more : (k times : ℕ) → 1 ≤ times → k * times ≡ k + k * (times
 one-time-more k times h = let e : times ≡ suc (times - 1) = omega arith in ap (λ (n : ℕ). k * n) e ∙ mul-suc k (times - 1) ∙ omega arith
 
 -- before the first pass
-pub times-begin : (m : List ℕ) (from : BitPlace) (n : ℕ) (w : Walk) {value left : ℕ} {old : List ℕ} → Ready w → w .cells + 2 * (notes (bodyIn m (from .0) n) * passesOf value) ≤ length old → left ≡ passesOf value
+pub times-begin : (m : List ℕ) (from : BitPlace) (n : ℕ) (w : Walk) {value left : ℕ} {old : List ℕ} → Ready w → w .cells + entryCells * (notes (bodyIn m (from .0) n) * passesOf value) ≤ length old → left ≡ passesOf value
     → TimesWalk m from n value (stateOf w) (w .cells) old old w left
 times-begin m from n w {value} {left} {old} r h e = record {
   done = record { entries = []; after = stateOf w };
@@ -311,7 +324,7 @@ module _ {m : List ℕ} {from : BitPlace} {n value : ℕ} {s : State} {i : ℕ} 
   times-long = advanced-long (v .advanced)
 
   module _ (h : 0 < left) where
-    room-left : w .cells + 2 * notes b ≤ length new
+    room-left : w .cells + entryCells * notes b ≤ length new
     room-left =
         let k : notes b * passesOf value ≡ length (v .done .entries) + notes b * left =
         sym (passes-count value (passesOf value) s b) ∙ ap (λ (d : Played). length (d .entries)) (v .goes) ∙ length-append (v .done .entries) (passes value left (stateOf w) b .entries)
@@ -319,7 +332,7 @@ module _ {m : List ℕ} {from : BitPlace} {n value : ℕ} {s : State} {i : ℕ} 
         omega (arith, one-time-more (notes b) left h, v .advanced .cells, v .room, times-long)
 
     module _ {w₁ : Walk} (g : Begun value from w w₁) where
-      pub times-room : w₁ .cells + 2 * notes (bodyIn m (w₁ .at .0) n) ≤ length new
+      pub times-room : w₁ .cells + entryCells * notes (bodyIn m (w₁ .at .0) n) ≤ length new
       times-room = rw (g .cells, g .place) room-left
 
       pub times-on : {new′ : List ℕ} {w′ : Walk} → Advanced (w₁ .cells) (pass (stateOf w₁) (bodyIn m (w₁ .at .0) n)) (behindIn m (w₁ .at .0) n) new new′ w′
@@ -349,4 +362,8 @@ pub times-body : {m : List ℕ} {value n : ℕ} {from : BitPlace} {w w₁ : Walk
     → BodyAt m (w₁ .at .0) n (bodyIn m (w₁ .at .0) n) (behindIn m (w₁ .at .0) n)
 times-body h g = rw (g .place) h
 
-pub ruleset timings = (times-begin, times-ready, times-long, times-body, times-room, times-on, times-done)
+-- with positions for all its instructions
+pub times-positions : {m : List ℕ} {value n q : ℕ} {b : List ℕ} {from : BitPlace} {w w₁ : Walk} → BodyAt m (from .0) n b q → Begun value from w w₁ → w₁ .position + n ≤ 255
+times-positions h g = omega (arith, h .short, ap (λ (r : State). r .position) (g .state))
+
+pub ruleset timings = (times-begin, times-ready, times-long, times-body, times-positions, times-room, times-on, times-done)

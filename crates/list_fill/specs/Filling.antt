@@ -1,5 +1,5 @@
 -- What filling a list is handed, and what it leaves.
-use Prim.Native.Nat.{ℕ, _+_, _-_, _*_, _/_, _%_, _^_}
+use Prim.Native.Nat.{ℕ, _+_, _-_, _*_, _/_, _%_, _^_, _≤_}
 use mathlib.Core.Path.{_≡_}
 use mathlib.Core.List.{List, []}
 use lib.ListN.{length}
@@ -19,9 +19,9 @@ use Rattle.list_fill.specs.declared.Walk.{Walk}
 use Rattle.list_count.specs.Parts.{soundingPart}
 use Rattle.list_rules.specs.Duration.{beats}
 use Rattle.list_rules.specs.Tempo.{Timed, baseOf}
-use Rattle.list_rules.specs.Sounding.{State, numbers}
+use Rattle.list_rules.specs.Sounding.{State, entryCells, numbers}
 use Rattle.list_rules.specs.Ranges.{InRange}
-use Rattle.list_rules.specs.Playing.{Played, begun}
+use Rattle.list_rules.specs.Playing.{Played, begun, nextHeader}
 
 -- ---- what stands in a message
 
@@ -54,11 +54,14 @@ entrySeen x = let w = width (x / 2 ^ 61) in entry (x / 2 ^ 61) (x / 2 ^ (61 - w)
 
 -- the state that a walk has come to
 abbrev pub stateOf : Walk → State
-stateOf w = record { settings = w .settings; fraction = w .fraction }
+stateOf w = record { settings = w .settings; fraction = w .fraction; header = w .header; position = w .position }
 
--- the settings are in range, the base is theirs, the beats are those of their tempo, and one over them and the fraction go with these
+-- the settings are in range, the base is theirs, the beats are those of their tempo, and one over them and the fraction go with these; no
+-- tone has more than 255 headers, and no body has more than 255 instructions
 pub record Ready (w : Walk) : Type 0 where
   pub range : InRange (w .settings)
+  pub headers : w .header ≤ 255
+  pub positions : w .position ≤ 255
   pub based : w .base ≡ baseOf (w .settings)
   pub beating : w .beats ≡ beats (w .settings .tempo)
   pub timed : Timed (w .fraction) (w .beats) (w .inverse)
@@ -70,10 +73,17 @@ pub record Begun (value : ℕ) (from : BitPlace) (w r : Walk) : Type 0 where
   pub place : r .at ≡ from
   pub cells : r .cells ≡ w .cells
 
+-- the next header is due
+pub record Headed (w r : Walk) : Type 0 where
+  pub ready : Ready r
+  pub state : stateOf r ≡ nextHeader (stateOf w)
+  pub place : r .at ≡ w .at
+  pub cells : r .cells ≡ w .cells
+
 -- behind the first i cells d was played: its entries are written, and the next place is q
 pub record Advanced (i : ℕ) (d : Played) (q : ℕ) (old new : List ℕ) (r : Walk) : Type 0 where
   pub state : stateOf r ≡ d .after
   pub ready : Ready r
   pub place : r .at .0 ≡ q
-  pub cells : r .cells ≡ i + 2 * length (d .entries)
+  pub cells : r .cells ≡ i + entryCells * length (d .entries)
   pub list : new ≡ sets old i (numbers (d .entries))

@@ -2,7 +2,7 @@
 use Prim.Native.Nat.{ℕ, zero, suc, _+_, _*_, _^_, _≤_, _<_}
 use native.Mathlib.Omega.{arith}
 use native.Mathlib.Nat.{mul-le-mul, le-trans}
-use mathlib.Core.Path.{_≡_}
+use mathlib.Core.Path.{_≡_, refl}
 use mathlib.Core.Bool.{Bool, true}
 use mathlib.Core.List.{List, [], _∷_, _++_}
 use lib.ListN.{length}
@@ -14,9 +14,9 @@ use Rattle.tone.specs.Tone.{Pattern, Tone, Formed, header, learn, Instructions,
 use Rattle.list_rules.specs.declared.Settings.{Settings}
 use Rattle.list_rules.specs.declared.Entry.{Entry}
 use Rattle.list_rules.specs.Duration.{beats}
-use Rattle.list_rules.specs.Sounding.{defaults, applied, State, restarted, atStart, unitsOf, beatsAt, fractionAfter, following, sounded}
+use Rattle.list_rules.specs.Sounding.{defaults, applied, State, atStart, unitsOf, beatsAt, fractionAfter, following, sounded}
 use Rattle.list_rules.specs.Ranges.{InRange, InTime, Bounded, AllBounded}
-use Rattle.list_rules.specs.Playing.{Played, step, pass, begun, onePass, passes, Listing, patternPlayed, play, playingList}
+use Rattle.list_rules.specs.Playing.{Played, step, pass, begun, onePass, passes, Listing, patternPlayed, nextHeader, play, playingList}
 use Rattle.list_count.specs.Bodies.{passesOf, Remembered, noBodies, bodyOf, remember}
 use Rattle.tone_elements.specs.Answers.{notes}
 use Rattle.tone_elements.proofs.Walks.{notes-most}
@@ -24,6 +24,7 @@ use Rattle.list_count.specs.Counting.{entryCount}
 use Rattle.list_count.proofs.Bodies.{Each, each-start, each-sounds, each-kept, Body, none-body, sound-body, passes-most}
 use Rattle.list_rules.proofs.Restarts.{applied-tempo}
 use Rattle.list_rules.proofs.Durations.{slowest, longest-duration, left-below}
+use Rattle.list_rules.proofs.Headers.{pass-header, pattern-header}
 use Rattle.list_rules.proofs.Counts.{list-count}
 
 -- ---- the number of entries
@@ -67,11 +68,11 @@ pub beats-some : (s : Settings) → InRange s → 0 < beats (s .tempo)
 beats-some s r = let b = slowest (s .tempo) (omega (arith, r .tempo)) in omega arith
 
 -- a restart leaves it below the beats
-pub time-restarted : (s : State) → InRange (s .settings) → InTime (restarted s)
-time-restarted s r = record { range = r; below = beats-some (s .settings) r }
+pub time-restarted : (s : State) → InRange (s .settings) → s .fraction ≡ 0 → InTime s
+time-restarted s r none = record { range = r; below = rw none (beats-some (s .settings) r) }
 
 pub time-start : InTime atStart
-time-start = time-restarted atStart range-start
+time-start = time-restarted atStart range-start refl
 
 -- an instruction leaves the fraction below the beats
 pub time-following : (s : State) (e : ℕ) → InTime s → Instruction e → InTime (following s e)
@@ -90,61 +91,74 @@ time-following s e t i =
 
 -- ---- the entries
 
--- a note of the table makes an entry within bounds
-pub sounded-bounded : (s : State) (e : ℕ) → InTime s → Instruction e → kind e ≡ 1 → Bounded (sounded s (payload e))
+-- a note of the table makes an entry within bounds, where its header and its position are
+pub sounded-bounded : (s : State) (e : ℕ) → InTime s → s .header ≤ 254 → s .position ≤ 254 → Instruction e → kind e ≡ 1 → Bounded (sounded s (payload e))
 unfolding sounded allowed
-sounded-bounded s e t i h = record {
-  note = leb-true (noteOf (payload e)) 12 (both (leb (noteOf (payload e)) 12) (leb (durationOf (payload e)) 5) (rw h at (i .inTable .code)) .0);
+sounded-bounded s e t h p i k = record {
+  note = leb-true (noteOf (payload e)) 12 (both (leb (noteOf (payload e)) 12) (leb (durationOf (payload e)) 5) (rw k at (i .inTable .code)) .0);
   scale = t .range .scale;
   style = t .range .style;
   volume = t .range .volume;
   microseconds = longest-duration (durationOf (payload e)) (specifierOf (payload e)) (s .settings .tempo) (s .fraction) (t .below);
+  header = h;
+  position = p;
 }
 
 bounded-append : (a b : List Entry) → AllBounded a → AllBounded b → AllBounded (a ++ b)
 bounded-append [] b h k = k
 bounded-append (r ∷ a) b h k = (h .0, bounded-append a b (h .1) k)
 
--- entries within bounds, and a state in time after them
-abbrev pub Fair : Played → Type 0
-Fair d = AllBounded (d .entries) × InTime (d .after)
-
-pub step-fair : (s : State) (e : ℕ) → InTime s → Instruction e → Fair (step s e)
+step-bounded : (s : State) (e : ℕ) → InTime s → s .header ≤ 254 → s .position ≤ 254 → Instruction e → AllBounded (step s e .entries)
 unfolding step
-step-fair s e t i = (pick-elim AllBounded (eqb (kind e) 1) (λ h. (sounded-bounded s e t i (eqb-true (kind e) 1 h), tt)) (λ _. tt), time-following s e t i)
+step-bounded s e t h p i = pick-elim AllBounded (eqb (kind e) 1) (λ k. (sounded-bounded s e t h p i (eqb-true (kind e) 1 k), tt)) (λ _. tt)
 
-pub pass-fair : (s : State) (b : List ℕ) → InTime s → Instructions b → Fair (pass s b)
-pass-fair s [] t i = (tt, t)
-pass-fair s (e ∷ b) t i =
-    let f = step-fair s e t (i .0) in
-    let g = pass-fair (step s e .after) b (f .1) (i .1) in
-    (bounded-append (step s e .entries) (pass (step s e .after) b .entries) (f .0) (g .0), g .1)
+-- instructions leave the state in time
+pub pass-time : (s : State) (b : List ℕ) → InTime s → Instructions b → InTime (pass s b .after)
+unfolding step
+pass-time s [] t i = t
+pass-time s (e ∷ b) t i = pass-time (following s e) b (time-following s e t (i .0)) (i .1)
+
+-- a body of up to 255 instructions, the last at position 254
+pub pass-bounded : (s : State) (b : List ℕ) → InTime s → s .header ≤ 254 → s .position + length b ≤ 255 → Instructions b → AllBounded (pass s b .entries)
+unfolding step
+pass-bounded s [] t h p i = tt
+pass-bounded s (e ∷ b) t h p i =
+    bounded-append (step s e .entries) (pass (following s e) b .entries) (step-bounded s e t h (omega arith) (i .0))
+    (pass-bounded (following s e) b (time-following s e t (i .0)) h (omega arith) (i .1))
 
 pub time-begun : (loop : ℕ) (s : State) → InTime s → InTime (begun loop s)
-time-begun loop s t = pick-elim InTime (eqb loop 15) (λ _. time-restarted s (t .range)) (λ _. t)
+time-begun loop s t = record { range = t .range; below = pick-elim (λ (n : ℕ). n < beatsAt s) (eqb loop 15) (λ _. beats-some (s .settings) (t .range)) (λ _. t .below) }
 
-pub passes-fair : (loop n : ℕ) (s : State) (b : List ℕ) → InTime s → Instructions b → Fair (passes loop n s b)
-passes-fair loop zero s b t i = (tt, t)
-passes-fair loop (suc n) s b t i =
+passes-time : (loop n : ℕ) (s : State) (b : List ℕ) → InTime s → Instructions b → InTime (passes loop n s b .after)
+passes-time loop zero s b t i = t
+passes-time loop (suc n) s b t i = passes-time loop n (onePass loop s b .after) b (pass-time (begun loop s) b (time-begun loop s t) i) i
+
+passes-bounded : (loop n : ℕ) (s : State) (b : List ℕ) → InTime s → s .header ≤ 254 → Body b → AllBounded (passes loop n s b .entries)
+passes-bounded loop zero s b t h k = tt
+passes-bounded loop (suc n) s b t h k =
     let d = onePass loop s b in
-    let f = pass-fair (begun loop s) b (time-begun loop s t) i in
-    let g = passes-fair loop n (d .after) b (f .1) i in
-    (bounded-append (d .entries) (passes loop n (d .after) b .entries) (f .0) (g .0), g .1)
+    let begins = time-begun loop s t in
+    let same = pass-header (begun loop s) b in
+    bounded-append (d .entries) (passes loop n (d .after) b .entries) (pass-bounded (begun loop s) b begins h (omega (arith, k .1)) (k .0))
+    (passes-bounded loop n (d .after) b (pass-time (begun loop s) b begins (k .0)) (rw same h) k)
 
-pub pattern-fair : (s : State) (bodies : List Remembered) (p : Pattern) → InTime s → Each Body bodies → Sound p → Fair (patternPlayed s bodies p)
+-- up to 255 patterns, the last at position 254
+pub play-bounded : (s : State) (bodies : List Remembered) (n : ℕ) (seen : List Bool) (ps : List Pattern) → InTime s → s .header + length ps ≤ 255 → Each Body bodies → Sequence seen ps
+    → AllBounded (play s bodies n ps .entries)
 unfolding patternPlayed
-pattern-fair s bodies p t h k = passes-fair (p .loop) (passesOf (p .loop)) s (bodyOf bodies p) t (each-sounds Body none-body bodies h p (sound-body p k) .0)
-
-pub play-bounded : (s : State) (bodies : List Remembered) (n : ℕ) (seen : List Bool) (ps : List Pattern) → InTime s → Each Body bodies → Sequence seen ps → AllBounded (play s bodies n ps .entries)
-play-bounded s bodies n seen [] t h k = tt
-play-bounded s bodies n seen (p ∷ ps) t h k =
+play-bounded s bodies n seen [] t few h k = tt
+play-bounded s bodies n seen (p ∷ ps) t few h k =
     let d = patternPlayed s bodies p in
-    let f = pattern-fair s bodies p t h (k .0) in
-    let more = play-bounded (d .after) (remember bodies p) (n + length (d .entries)) (learn seen (header p)) ps (f .1) (each-kept Body bodies h p (sound-body p (k .0))) (k .2) in
-    pick-elim (λ (g : Listing). AllBounded (g .entries)) (eqb (p .loop) 15) (λ _. f .0)
-    (λ _. bounded-append (d .entries) (play (d .after) (remember bodies p) (n + length (d .entries)) ps .entries) (f .0) more)
+    let own = sound-body p (k .0) in
+    let b = each-sounds Body none-body bodies h p own in
+    let f = passes-bounded (p .loop) (passesOf (p .loop)) s (bodyOf bodies p) t (omega arith) b in
+    let after = passes-time (p .loop) (passesOf (p .loop)) s (bodyOf bodies p) t (b .0) in
+    let same = pattern-header s bodies p in
+    let more = play-bounded (nextHeader (d .after)) (remember bodies p) (n + length (d .entries)) (learn seen (header p)) ps (record { range = after .range; below = after .below }) (omega arith) (each-kept Body bodies h p own) (k .2) in
+    pick-elim (λ (g : Listing). AllBounded (g .entries)) (eqb (p .loop) 15) (λ _. f)
+    (λ _. bounded-append (d .entries) (play (nextHeader (d .after)) (remember bodies p) (n + length (d .entries)) ps .entries) f more)
 
 -- each entry of a tone's list is within bounds
 pub list-bounded : (t : Tone) → Formed t → AllBounded (playingList t .entries)
 unfolding playingList
-list-bounded t f = play-bounded atStart noBodies 0 noneKnown (t .patterns) time-start (each-start Body none-body) (f .sequence)
+list-bounded t f = play-bounded atStart noBodies 0 noneKnown (t .patterns) time-start (omega (arith, f .front .most)) (each-start Body none-body) (f .sequence)

@@ -15,7 +15,7 @@ use Rattle.tone.specs.Table.{kind, payload}
 use Rattle.tone.specs.Tone.{Pattern}
 use Rattle.list_rules.specs.declared.Entry.{Entry}
 use Rattle.list_rules.specs.Sounding.{State, following, sounded}
-use Rattle.list_rules.specs.Playing.{step, pass, begun, onePass, passes, Listing, patternPlayed, play, markAt}
+use Rattle.list_rules.specs.Playing.{step, pass, begun, onePass, passes, Listing, patternPlayed, nextHeader, play, markAt}
 use Rattle.list_count.specs.Bodies.{passesOf, Remembered, bodyOf, remember, noMark}
 use Rattle.tone_elements.specs.Answers.{notes}
 use Rattle.list_count.specs.Counting.{entryCount}
@@ -50,7 +50,7 @@ pub list-count : (s : State) (bodies : List Remembered) (n : ℕ) (ps : List Pat
 list-count s bodies n [] = refl
 list-count s bodies n (p ∷ ps) =
     let d = patternPlayed s bodies p in
-    go (eqb (p .loop) 15) (d .entries) (markAt n (onePass (p .loop) s (bodyOf bodies p) .entries)) (play (d .after) (remember bodies p) (n + length (d .entries)) ps) (pattern-count s bodies p) (list-count (d .after) (remember bodies p) (n + length (d .entries)) ps)
+    go (eqb (p .loop) 15) (d .entries) (markAt n (onePass (p .loop) s (bodyOf bodies p) .entries)) (play (nextHeader (d .after)) (remember bodies p) (n + length (d .entries)) ps) (pattern-count s bodies p) (list-count (nextHeader (d .after)) (remember bodies p) (n + length (d .entries)) ps)
   where
     go : (t : Bool) (a : List Entry) (m : ℕ) (g : Listing) {k c : ℕ} → length a ≡ c → length (g .entries) ≡ k
         → length (pick {A = Listing} t (record { entries = a; mark = m }) (record { entries = a ++ g .entries; mark = g .mark }) .entries) ≡ c + pick t 0 k
@@ -66,10 +66,10 @@ mark-placed s bodies n [] = inr refl
 mark-placed s bodies n (p ∷ ps) =
     let d = patternPlayed s bodies p in
     let k = n + length (d .entries) in
-    let more = play (d .after) (remember bodies p) k ps in
+    let more = play (nextHeader (d .after)) (remember bodies p) k ps in
     pick-elim (Placed n) (eqb (p .loop) 15)
     (λ h. first (d .entries) (onePass (p .loop) s (bodyOf bodies p) .entries) (twice (eqb-true (p .loop) 15 h)))
-    (λ _. later (d .entries) more (mark-placed (d .after) (remember bodies p) k ps))
+    (λ _. later (d .entries) more (mark-placed (nextHeader (d .after)) (remember bodies p) k ps))
   where
     -- two passes have as many entries each
     twice : p .loop ≡ 15 → length (patternPlayed s bodies p .entries) ≡ length (onePass (p .loop) s (bodyOf bodies p) .entries) * 2

@@ -15,9 +15,10 @@ use Rattle.list_count.specs.Bodies.{Remembered, noBodies, noMark, bodyOf, remem
 use Rattle.list_count.proofs.Bodies.{endless-passes}
 use Rattle.list_rules.specs.declared.Entry.{Entry}
 use Rattle.list_rules.specs.Duration.{beats, units, microseconds, leftOver}
-use Rattle.list_rules.specs.Sounding.{State, restarted, atStart, applied, fractionAfter, sounded, numbers}
-use Rattle.list_rules.specs.Playing.{Played, Listing, step, pass, onePass, passes, patternPlayed, play, playingList, markAt}
+use Rattle.list_rules.specs.Sounding.{State, atStart, applied, fractionAfter, sounded, numbers}
+use Rattle.list_rules.specs.Playing.{Played, Listing, step, pass, begun, onePass, passes, patternPlayed, nextHeader, play, playingList, markAt}
 use Rattle.list_rules.proofs.Joining.{stateAfter, bodiesAfter, NoneEndless, listed-ahead, play-last, joined, same-behind}
+use Rattle.list_rules.proofs.Headers.{pass-header}
 use Rattle.list_rules.proofs.Counts.{pass-count}
 use Rattle.list_rules.proofs.Bounds.{list-most}
 use Rattle.list_rules.proofs.Settling.{pass-settles}
@@ -36,16 +37,17 @@ none-behind s bodies n ps p qs h = same-behind s bodies n ps (p ∷ qs) (p ∷ [
 
 -- ---- the passes
 
--- from the same settings a restart gives the same state
-same-restart : (s r : State) → s .settings ≡ r .settings → restarted s ≡ restarted r
-same-restart s r e = λ i. record { settings = e i; fraction = 0 }
+-- from the same settings, passes of one header begin alike
+same-beginning : (s r : State) → s .settings ≡ r .settings → s .header ≡ r .header → begun 15 s ≡ begun 15 r
+same-beginning s r e h = λ i. record { settings = e i; fraction = 0; header = h i; position = 0 }
 
 -- a third pass would equal the second: from the state after two passes, a pass of the body gives the second pass's entries, since
 -- each pass begins with a restart
 pub third-pass-is-second : (s : State) (b : List ℕ) → onePass 15 (passes 15 2 s b .after) b .entries ≡ onePass 15 (onePass 15 s b .after) b .entries
 third-pass-is-second s b =
     let one = onePass 15 s b .after in
-    ap (λ (r : State). pass r b .entries) (same-restart (pass (restarted one) b .after) one (pass-settles (restarted s) (restarted one) b refl))
+    let again = begun 15 one in
+    ap (λ (r : State). pass r b .entries) (same-beginning (pass again b .after) one (pass-settles (begun 15 s) again b refl) (pass-header again b))
 
 -- the same entries so many times
 abbrev pub repeated : ℕ → List Entry → List Entry
@@ -64,7 +66,7 @@ abbrev pub chime : List ℕ
 chime = 65576 ∷ 327682 ∷ []
 
 -- its first three passes at the start: volume 7, and then 2 for good
-pub chime-passes : numbers (passes 15 3 atStart chime .entries) ≡ 1287 ∷ 952380 ∷ 1282 ∷ 952380 ∷ 1282 ∷ 952380 ∷ []
+pub chime-passes : numbers (passes 15 3 atStart chime .entries) ≡ 1287 ∷ 952380 ∷ 0 ∷ 1282 ∷ 952380 ∷ 0 ∷ 1282 ∷ 952380 ∷ 0 ∷ []
 unfolding step applied fractionAfter sounded beats units microseconds leftOver
 chime-passes = refl
 
@@ -120,7 +122,7 @@ module _ (s : State) (bodies : List Remembered) (n : ℕ) (ps : List Pattern) (p
       let b = bodyOf (bodiesAfter bodies ps) p in
       ap (λ (g : Listing). length (g .entries)) endless-list
       ∙ length-append listedAhead (first ++ second)
-      ∙ (rw (length-append first second, pass-count (restarted (stateAfter s bodies ps)) b, pass-count (restarted (firstPass s bodies ps p .after)) b) (omega arith))
+      ∙ (rw (length-append first second, pass-count (begun 15 (stateAfter s bodies ps)) b, pass-count (begun 15 (firstPass s bodies ps p .after)) b) (omega arith))
 
   -- the mark is the position of the second pass's first entry: so many as there are entries ahead of it
   pub mark-there : 1 ≤ length first → play s bodies n (ps ++ p ∷ qs) .mark ≡ n + length (listedAhead ++ first)
@@ -137,7 +139,7 @@ module _ (s : State) (bodies : List Remembered) (n : ℕ) (ps : List Pattern) (p
 -- none where there is no loop 15
 pub mark-none : (s : State) (bodies : List Remembered) (n : ℕ) (ps : List Pattern) → NoneEndless ps → play s bodies n ps .mark ≡ noMark
 mark-none s bodies n [] h = refl
-mark-none s bodies n (p ∷ ps) h = rw (ne-eqb (p .loop) 15 (h .0)) (mark-none (patternPlayed s bodies p .after) (remember bodies p) (n + length (patternPlayed s bodies p .entries)) ps (h .1))
+mark-none s bodies n (p ∷ ps) h = rw (ne-eqb (p .loop) 15 (h .0)) (mark-none (nextHeader (patternPlayed s bodies p .after)) (remember bodies p) (n + length (patternPlayed s bodies p .entries)) ps (h .1))
 
 -- ---- the player
 
@@ -178,7 +180,7 @@ module _ (t : Tone) (formed : Formed t) (ps : List Pattern) (p : Pattern) (qs : 
   pub second-from-mark : fromMark (playingList t) ≡ secondPass atStart noBodies ps p .entries
   second-from-mark =
       let most = rw (ap (λ (g : Listing). g .entries) listed) at (list-most t formed) in
-      ap fromMark listed ∙ from-second before (one .entries) (two .entries) most (silent-alike (restarted (stateAfter atStart noBodies ps)) (restarted (one .after)) (bodyOf (bodiesAfter noBodies ps) p))
+      ap fromMark listed ∙ from-second before (one .entries) (two .entries) most (silent-alike (begun 15 (stateAfter atStart noBodies ps)) (begun 15 (one .after)) (bodyOf (bodiesAfter noBodies ps) p))
 
   -- through the list, and then k rounds from the mark: the entries ahead of the endless pattern, and then k + 2 passes of it
   pub heard-for-ever : (k : ℕ) → heard k (playingList t) ≡ play atStart noBodies 0 ps .entries ++ passes 15 (k + 2) (stateAfter atStart noBodies ps) (bodyOf (bodiesAfter noBodies ps) p) .entries

@@ -3,6 +3,7 @@ use Prim.Native.Nat.{ℕ, _+_}
 use native.Mathlib.Omega.{arith}
 use native.Mathlib.Nat.{add-zero}
 use mathlib.Core.Path.{_≡_, refl, sym, ap, _∙_}
+use mathlib.Core.Bool.{Bool, true, false}
 use mathlib.Core.List.{List, [], _∷_, _++_, append-assoc, append-nil}
 use lib.ListN.{length, length-append}
 use lib.Dec.{eqb}
@@ -11,13 +12,13 @@ use Rattle.bits.specs.Choice.{pick}
 use Rattle.tone.specs.Tone.{Pattern}
 use Rattle.list_rules.specs.declared.Entry.{Entry}
 use Rattle.list_rules.specs.Sounding.{State}
-use Rattle.list_rules.specs.Playing.{Played, Listing, ahead, step, pass, onePass, passes, patternPlayed, play, markAt}
+use Rattle.list_rules.specs.Playing.{Played, Listing, ahead, step, pass, onePass, passes, patternPlayed, nextHeader, play, markAt}
 use Rattle.list_count.specs.Bodies.{Remembered, bodyOf, remember}
 
--- the state that patterns leave
+-- the state that patterns leave, at the header behind them
 abbrev pub stateAfter : State → List Remembered → List Pattern → State
 stateAfter s bodies [] = s
-stateAfter s bodies (p ∷ ps) = stateAfter (patternPlayed s bodies p .after) (remember bodies p) ps
+stateAfter s bodies (p ∷ ps) = stateAfter (nextHeader (patternPlayed s bodies p .after)) (remember bodies p) ps
 
 -- the bodies that patterns leave
 abbrev pub bodiesAfter : List Remembered → List Pattern → List Remembered
@@ -56,18 +57,28 @@ joined s bodies n (p ∷ ps) qs h =
     let d = patternPlayed s bodies p in
     let k = n + length (d .entries) in
     rw (ne-eqb (p .loop) 15 (h .0))
-    (ap (listed-ahead (d .entries)) (joined (d .after) (remember bodies p) k ps qs (h .1))
-    ∙ two-ahead (d .entries) (play (d .after) (remember bodies p) k ps .entries) n (λ m. play (stateAfter (d .after) (remember bodies p) ps) (bodiesAfter (remember bodies p) ps) m qs))
+    (ap (listed-ahead (d .entries)) (joined (nextHeader (d .after)) (remember bodies p) k ps qs (h .1))
+    ∙ two-ahead (d .entries) (play (nextHeader (d .after)) (remember bodies p) k ps .entries) n (λ m. play (stateAfter (nextHeader (d .after)) (remember bodies p) ps) (bodiesAfter (remember bodies p) ps) m qs))
 
--- what is listed alike from any state is listed alike behind other patterns
+-- what is listed alike from any state is listed alike behind other patterns: the same, or alike in any other way that entries ahead keep
+pub alike-behind : (Like : Listing → Listing → Type 0) → ((g : Listing) → Like g g) → ((rs : List Entry) (g h : Listing) → Like g h → Like (listed-ahead rs g) (listed-ahead rs h))
+    → (s : State) (bodies : List Remembered) (n : ℕ) (ps qs qs′ : List Pattern)
+    → ((s : State) (n : ℕ) → Like (play s (bodiesAfter bodies ps) n qs) (play s (bodiesAfter bodies ps) n qs′))
+    → Like (play s bodies n (ps ++ qs)) (play s bodies n (ps ++ qs′))
+alike-behind Like same keeps s bodies n [] qs qs′ h = h s n
+alike-behind Like same keeps s bodies n (p ∷ ps) qs qs′ h =
+    let d = patternPlayed s bodies p in
+    go (eqb (p .loop) 15) (record { entries = d .entries; mark = markAt n (onePass (p .loop) s (bodyOf bodies p) .entries) })
+    (keeps (d .entries) _ _ (alike-behind Like same keeps (nextHeader (d .after)) (remember bodies p) (n + length (d .entries)) ps qs qs′ h))
+  where
+    go : (t : Bool) (last : Listing) {g h : Listing} → Like g h → Like (pick t last g) (pick t last h)
+    go true last k = same last
+    go false last k = k
+
 pub same-behind : (s : State) (bodies : List Remembered) (n : ℕ) (ps qs qs′ : List Pattern)
     → ((s : State) (n : ℕ) → play s (bodiesAfter bodies ps) n qs ≡ play s (bodiesAfter bodies ps) n qs′)
     → play s bodies n (ps ++ qs) ≡ play s bodies n (ps ++ qs′)
-same-behind s bodies n [] qs qs′ h = h s n
-same-behind s bodies n (p ∷ ps) qs qs′ h =
-    let d = patternPlayed s bodies p in
-    ap (λ (more : Listing). pick (eqb (p .loop) 15) (record { entries = d .entries; mark = markAt n (onePass (p .loop) s (bodyOf bodies p) .entries) }) (listed-ahead (d .entries) more))
-    (same-behind (d .after) (remember bodies p) (n + length (d .entries)) ps qs qs′ h)
+same-behind = alike-behind (λ (g h : Listing). g ≡ h) (λ g. refl) (λ rs g h e. ap (listed-ahead rs) e)
 
 -- one pass is a pass
 pub one-pass : (loop : ℕ) (s : State) (b : List ℕ) → passes loop 1 s b ≡ onePass loop s b

@@ -1,10 +1,12 @@
 pub mod Durations
 pub mod Restarts
 pub mod Joining
+pub mod Headers
 pub mod Loops
 pub mod Recalls
 pub mod Counts
 pub mod Marks
+pub mod Tunes
 pub mod Bounds
 pub mod Order
 pub mod Packing

@@ -15,7 +15,7 @@ use Rattle.list_count.specs.Bodies.{Remembered, bodyOf, remember}
 use Rattle.list_count.specs.Counting.{markOf, markFrom}
 use Rattle.list_rules.specs.declared.Entry.{Entry}
 use Rattle.list_rules.specs.Sounding.{State}
-use Rattle.list_rules.specs.Playing.{begun, onePass, markAt, Listing, patternPlayed, play}
+use Rattle.list_rules.specs.Playing.{begun, onePass, markAt, Listing, patternPlayed, nextHeader, play}
 use Rattle.list_rules.proofs.Counts.{pass-count, pattern-count}
 
 mark-length : (n : ℕ) (rs : List Entry) → markAt n rs ≡ markOf n (length rs)
@@ -33,8 +33,8 @@ list-mark s bodies n (p ∷ ps) =
     let d = patternPlayed s bodies p in
     let k = notes (bodyOf bodies p) in
     let m = n + length (d .entries) in
-    let more = play (d .after) (remember bodies p) m ps in
+    let more = play (nextHeader (d .after)) (remember bodies p) m ps in
     picked-mark (eqb (p .loop) 15) (record { entries = d .entries; mark = markAt n (onePass (p .loop) s (bodyOf bodies p) .entries) }) (record { entries = d .entries ++ more .entries; mark = more .mark })
     ∙ pick-cong (eqb (p .loop) 15)
     (λ h. mark-length n (onePass (p .loop) s (bodyOf bodies p) .entries) ∙ ap (markOf n) (pass-count (begun (p .loop) s) (bodyOf bodies p)))
-    (λ h. list-mark (d .after) (remember bodies p) m ps ∙ ap (λ (x : ℕ). markFrom (remember bodies p) (n + x) ps) (pattern-count s bodies p))
+    (λ h. list-mark (nextHeader (d .after)) (remember bodies p) m ps ∙ ap (λ (x : ℕ). markFrom (remember bodies p) (n + x) ps) (pattern-count s bodies p))

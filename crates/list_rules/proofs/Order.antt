@@ -14,6 +14,7 @@ use Rattle.tone.specs.Tone.{Tone}
 use Rattle.tone.specs.Reading.{readTone}
 use Rattle.tone.proofs.Rows.{and-false}
 use Rattle.tone.proofs.Grounds.{Among, Numbered, read-number}
+use Rattle.list_rules.specs.Sounding.{entryCells}
 use Rattle.list_rules.specs.Playing.{Listing, playingList}
 use Rattle.list_rules.specs.Listing.{fitsNumbers, fitsBoth, listTone}
 
@@ -42,26 +43,26 @@ module _ (m : List ℕ) where
     unfolding listTone
     list-made fits h = rw (q, h) refl
 
-    -- the list in two numbers an entry
+    -- the list in cells
     module _ (cells : ℕ) where
       -- 11 where the cells are too few
-      pub cells-short : cells < 2 * length (playingList t .entries) → listTone m (fitsNumbers cells) ≡ refused 11 0
-      cells-short h = room-last (fitsNumbers cells) (lt-leb (2 * length (playingList t .entries)) cells h)
+      pub cells-short : cells < entryCells * length (playingList t .entries) → listTone m (fitsNumbers cells) ≡ refused 11 0
+      cells-short h = room-last (fitsNumbers cells) (lt-leb (entryCells * length (playingList t .entries)) cells h)
 
       -- else it is made
-      pub cells-enough : 2 * length (playingList t .entries) ≤ cells → listTone m (fitsNumbers cells) ≡ accepted (playingList t)
-      cells-enough h = list-made (fitsNumbers cells) (le-leb (2 * length (playingList t .entries)) cells h)
+      pub cells-enough : entryCells * length (playingList t .entries) ≤ cells → listTone m (fitsNumbers cells) ≡ accepted (playingList t)
+      cells-enough h = list-made (fitsNumbers cells) (le-leb (entryCells * length (playingList t .entries)) cells h)
 
     -- both forms: 11 where either is too small
     module _ (cells rows : ℕ) where
       -- the cells are
-      pub first-short : cells < 2 * length (playingList t .entries) → listTone m (fitsBoth cells rows) ≡ refused 11 0
-      first-short h = room-last (fitsBoth cells rows) (rw (lt-leb (2 * length (playingList t .entries)) cells h) refl)
+      pub first-short : cells < entryCells * length (playingList t .entries) → listTone m (fitsBoth cells rows) ≡ refused 11 0
+      first-short h = room-last (fitsBoth cells rows) (rw (lt-leb (entryCells * length (playingList t .entries)) cells h) refl)
 
       -- the rows are
       pub rows-short : rows < length (playingList t .entries) → listTone m (fitsBoth cells rows) ≡ refused 11 0
-      rows-short h = room-last (fitsBoth cells rows) (rw (lt-leb (length (playingList t .entries)) rows h) (and-false (leb (2 * length (playingList t .entries)) cells)))
+      rows-short h = room-last (fitsBoth cells rows) (rw (lt-leb (length (playingList t .entries)) rows h) (and-false (leb (entryCells * length (playingList t .entries)) cells)))
 
       -- neither is, and it is made
-      pub both-enough : 2 * length (playingList t .entries) ≤ cells → length (playingList t .entries) ≤ rows → listTone m (fitsBoth cells rows) ≡ accepted (playingList t)
-      both-enough h g = list-made (fitsBoth cells rows) (rw (le-leb (2 * length (playingList t .entries)) cells h, le-leb (length (playingList t .entries)) rows g) refl)
+      pub both-enough : entryCells * length (playingList t .entries) ≤ cells → length (playingList t .entries) ≤ rows → listTone m (fitsBoth cells rows) ≡ accepted (playingList t)
+      both-enough h g = list-made (fitsBoth cells rows) (rw (le-leb (entryCells * length (playingList t .entries)) cells h, le-leb (length (playingList t .entries)) rows g) refl)

@@ -1,7 +1,8 @@
--- The playing list as long passes, each from a restart: within these each span is on time, and nothing else restarts the fraction.
+-- The playing list as long passes, each from a restart: within these each span is on time, and nothing else restarts the fraction. Origins
+-- have no part in it: all this is of tunes.
 use Prim.Native.Nat.{ℕ, zero, suc, _+_}
 use native.Mathlib.Omega.{arith}
-use mathlib.Core.Path.{_≡_, refl, sym, ap, _∙_}
+use mathlib.Core.Path.{_≡_, refl, sym, ap, ap₂, _∙_}
 use mathlib.Core.Logic.{_⊎_, inl, inr}
 use mathlib.Core.Bool.{Bool}
 use mathlib.Core.List.{List, [], _∷_, _++_, map, append-assoc, append-nil}
@@ -12,14 +13,15 @@ use Rattle.list_count.specs.Bodies.{Remembered, noBodies, bodyOf, remember}
 use Rattle.list_count.proofs.Bodies.{Each, each-start, each-sounds, each-kept, Body, none-body, sound-body}
 use Rattle.list_rules.specs.declared.Entry.{Entry}
 use Rattle.list_rules.specs.Duration.{beats, units, microseconds, leftOver}
-use Rattle.list_rules.specs.Sounding.{State, restarted, atStart, applied, beatsAt, fractionAfter, sounded}
+use Rattle.list_rules.specs.Sounding.{State, atStart, applied, beatsAt, fractionAfter, sounded}
 use Rattle.list_rules.specs.Ranges.{InTime}
-use Rattle.list_rules.specs.Playing.{Played, Listing, ahead, step, pass, passes, patternPlayed, play, playingList}
+use Rattle.list_rules.specs.Playing.{Played, Listing, ahead, step, pass, begun, onePass, passes, patternPlayed, nextHeader, play, playingList}
 use Rattle.list_rules.proofs.Restarts.{tempo-restarts, pattern-carried, patterns-carry}
 use Rattle.list_rules.proofs.Joining.{stateAfter, bodiesAfter, NoneEndless, pass-append}
 use Rattle.list_rules.proofs.Boundaries.{boundary, OnTime, Steady, unitsIn, durations, sums, differences, boundaries-exact, durations-between, AllOnTime, no-drift}
-use Rattle.list_rules.proofs.Bounds.{beats-some, time-restarted, time-start, pass-fair}
+use Rattle.list_rules.proofs.Bounds.{beats-some, time-start, time-begun, pass-time}
 use Rattle.list_rules.proofs.Endless.{endless-list}
+use Rattle.list_rules.proofs.Tunes.{tune, unplaced, tune-append, Alike, alike, alike-then, same-alike, ahead-alike, pass-alike}
 
 -- ---- one long pass
 
@@ -33,54 +35,76 @@ abbrev pub sounding : List Remembered → List Pattern → List ℕ
 sounding bodies [] = []
 sounding bodies (p ∷ ps) = times (p .loop + 1) (bodyOf bodies p) ++ sounding (remember bodies p) ps
 
-passes-on-end : (n : ℕ) (s : State) (b : List ℕ) → passes 0 n s b ≡ pass s (times n b)
-passes-on-end zero s b = refl
-passes-on-end (suc n) s b = ap (ahead (pass s b .entries)) (passes-on-end n (pass s b .after) b) ∙ sym (pass-append s b (times n b))
+passes-on-end : (n : ℕ) (s : State) (b : List ℕ) → Alike (passes 0 n s b) (pass s (times n b))
+passes-on-end zero s b = alike (pass s [])
+passes-on-end (suc n) s b =
+    let one = onePass 0 s b in
+    let first = pass-alike (begun 0 s) s b refl in
+    alike-then (ahead-alike (one .entries) (pass s b .entries) (passes 0 n (one .after) b) (pass (pass s b .after) (times n b)) (first .entries)
+    (alike-then (passes-on-end n (one .after) b) (pass-alike (one .after) (pass s b .after) (times n b) (first .after))))
+    (same-alike (sym (pass-append s b (times n b))))
 
--- without loop 15 the list is one long pass: patterns, recalls and passes do nothing to the state
+-- a pattern with another loop is its passes on end
+pattern-on-end : (s : State) (bodies : List Remembered) (p : Pattern) → (p .loop ≡ 15 → ⊥) → Alike (patternPlayed s bodies p) (pass s (times (p .loop + 1) (bodyOf bodies p)))
+pattern-on-end s bodies p h = alike-then (same-alike (pattern-carried s bodies p h)) (passes-on-end (p .loop + 1) s (bodyOf bodies p))
+
+-- without loop 15 the list is one long pass: patterns, recalls and passes do nothing to the state but for the origin
 pub one-long-pass : (s : State) (bodies : List Remembered) (n : ℕ) (ps : List Pattern) → NoneEndless ps
-    → record { entries = play s bodies n ps .entries; after = stateAfter s bodies ps } ≡ pass s (sounding bodies ps)
-one-long-pass s bodies n [] h = refl
+    → Alike (record { entries = play s bodies n ps .entries; after = stateAfter s bodies ps }) (pass s (sounding bodies ps))
+one-long-pass s bodies n [] h = alike (pass s [])
 one-long-pass s bodies n (p ∷ ps) h =
     let d = patternPlayed s bodies p in
+    let next = nextHeader (d .after) in
     let k = n + length (d .entries) in
     let body = times (p .loop + 1) (bodyOf bodies p) in
     let rest = sounding (remember bodies p) ps in
-    ap (λ (g : Listing). record { entries = g .entries; after = stateAfter (d .after) (remember bodies p) ps }) (patterns-carry s bodies n p ps (h .0))
-    ∙ ap (ahead (d .entries)) (one-long-pass (d .after) (remember bodies p) k ps (h .1))
-    ∙ ap (λ (x : Played). ahead (x .entries) (pass (x .after) rest)) (pattern-carried s bodies p (h .0) ∙ passes-on-end (p .loop + 1) s (bodyOf bodies p))
-    ∙ sym (pass-append s body rest)
+    let first = pattern-on-end s bodies p (h .0) in
+    let more : Played = record { entries = play next (remember bodies p) k ps .entries; after = stateAfter next (remember bodies p) ps } in
+    alike-then (same-alike (ap (λ (g : Listing). record { entries = g .entries; after = more .after }) (patterns-carry s bodies n p ps (h .0))))
+    (alike-then (ahead-alike (d .entries) (pass s body .entries) more (pass (pass s body .after) rest) (first .entries)
+    (alike-then (one-long-pass next (remember bodies p) k ps (h .1)) (pass-alike next (pass s body .after) rest (first .after))))
+    (same-alike (sym (pass-append s body rest))))
 
--- so a tone's list without loop 15 is one long pass from the start
-pub list-without-endless : (t : Tone) → NoneEndless (t .patterns) → playingList t .entries ≡ pass atStart (sounding noBodies (t .patterns)) .entries
+-- so a tone's list without loop 15 has the tune of one long pass from the start
+pub list-without-endless : (t : Tone) → NoneEndless (t .patterns) → tune (playingList t .entries) ≡ tune (pass atStart (sounding noBodies (t .patterns)) .entries)
 unfolding playingList
-list-without-endless t h = ap (λ (d : Played). d .entries) (one-long-pass atStart noBodies 0 (t .patterns) h)
+list-without-endless t h = one-long-pass atStart noBodies 0 (t .patterns) h .entries
 
 -- the state ahead of the first loop 15, behind patterns
 abbrev pub aheadOfEndless : List Pattern → State
 aheadOfEndless ps = pass atStart (sounding noBodies ps) .after
 
--- and with one it is the long pass ahead of it, and then two passes of its body, each from a restart
+-- and with one it has that of the long pass ahead of it, and then of two passes of its body, each from a restart
 pub list-with-endless : (t : Tone) (ps : List Pattern) (p : Pattern) (qs : List Pattern) → t .patterns ≡ ps ++ p ∷ qs → NoneEndless ps → p .loop ≡ 15
     → let b = bodyOf (bodiesAfter noBodies ps) p in
-    let first = pass (restarted (aheadOfEndless ps)) b in
-    playingList t .entries ≡ pass atStart (sounding noBodies ps) .entries ++ (first .entries ++ pass (restarted (first .after)) b .entries)
+    let first = pass (begun 15 (aheadOfEndless ps)) b in
+    tune (playingList t .entries) ≡ tune (pass atStart (sounding noBodies ps) .entries) ++ (tune (first .entries) ++ tune (pass (begun 15 (first .after)) b .entries))
 unfolding playingList
 list-with-endless t ps p qs split h e =
     let b = bodyOf (bodiesAfter noBodies ps) p in
-    ap (λ (l : List Pattern). play atStart noBodies 0 l .entries) split
-    ∙ ap (λ (g : Listing). g .entries) (endless-list atStart noBodies 0 ps p qs h e)
-    ∙ ap (λ (d : Played). d .entries ++ (pass (restarted (d .after)) b .entries ++ pass (restarted (pass (restarted (d .after)) b .after)) b .entries)) (one-long-pass atStart noBodies 0 ps h)
+    let lead = one-long-pass atStart noBodies 0 ps h in
+    let one = onePass 15 (stateAfter atStart noBodies ps) b in
+    let two = onePass 15 (one .after) b in
+    let first = pass (begun 15 (aheadOfEndless ps)) b in
+    let k = begins-alike (stateAfter atStart noBodies ps) (aheadOfEndless ps) b (lead .after) in
+    let l = begins-alike (one .after) (first .after) b (k .after) in
+    ap (λ (l : List Pattern). tune (play atStart noBodies 0 l .entries)) split
+    ∙ ap (λ (g : Listing). tune (g .entries)) (endless-list atStart noBodies 0 ps p qs h e)
+    ∙ tune-append (play atStart noBodies 0 ps .entries) (one .entries ++ two .entries)
+    ∙ ap₂ (λ (x y : List Entry). x ++ y) (lead .entries) (tune-append (one .entries) (two .entries) ∙ ap₂ (λ (x y : List Entry). x ++ y) (k .entries) (l .entries))
+  where
+    begins-alike : (s r : State) (b : List ℕ) → unplaced s ≡ unplaced r → Alike (onePass 15 s b) (onePass 15 r b)
+    begins-alike s r b h = pass-alike (begun 15 s) (begun 15 r) b (ap (λ (z : State). unplaced (begun 15 z)) h)
 
 -- ---- the long passes of a list, and their spans
 
--- entries stand in a list, behind some and ahead of others
+-- a tune stands in a list, behind some entries and ahead of others
 pub record StandIn (l rs : List Entry) : Type 0 where
   pub before : List Entry
   pub behind : List Entry
-  pub there : l ≡ before ++ (rs ++ behind)
+  pub there : tune l ≡ before ++ (tune rs ++ behind)
 
--- a long pass of a list: instructions from a restart, whose entries stand in it
+-- a long pass of a list: instructions from a restart, whose tune stands in it
 pub record LongPass (l : List Entry) (r : State) (b : List ℕ) : Type 0 where
   pub stand : StandIn l (pass r b .entries)
   pub none : r .fraction ≡ 0
@@ -91,7 +115,7 @@ pub record LongPass (l : List Entry) (r : State) (b : List ℕ) : Type 0 where
 abbrev pub FromRestart : List ℕ → Type 0
 FromRestart a = (a ≡ []) ⊎ ((before : List ℕ) × (e : ℕ) × (kind e ≡ 4) × (a ≡ before ++ (e ∷ [])))
 
--- a span of a list keeps the time: its entries stand there, their boundaries are the exact sums rounded down, each duration is the difference
+-- a span of a list keeps the time: its tune stands there, their boundaries are the exact sums rounded down, each duration is the difference
 -- of two, and each boundary is less than one microsecond early and never late
 pub record KeepsTime (l : List Entry) (s : State) (b : List ℕ) : Type 0 where
   pub stand : StandIn l (pass s b .entries)
@@ -118,18 +142,19 @@ pub span-keeps-time : (l : List Entry) (r : State) (a b c : List ℕ) → LongPa
 span-keeps-time l r a b c g begins steady =
     let s = pass r a .after in
     let rest = pass (pass s b .after) c .entries in
-    let apart : pass r (a ++ (b ++ c)) .entries ≡ pass r a .entries ++ (pass s b .entries ++ rest) =
-    ap (λ (d : Played). d .entries) (pass-append r a (b ++ c) ∙ ap (ahead (pass r a .entries)) (pass-append s b c)) in
-    let fair = pass-fair r a (g .time) (instructions-split a (b ++ c) (g .each)) in
+    let apart : tune (pass r (a ++ (b ++ c)) .entries) ≡ tune (pass r a .entries) ++ (tune (pass s b .entries) ++ tune rest) =
+    ap (λ (d : Played). tune (d .entries)) (pass-append r a (b ++ c) ∙ ap (ahead (pass r a .entries)) (pass-append s b c))
+    ∙ tune-append (pass r a .entries) (pass s b .entries ++ rest) ∙ ap (λ (l : List Entry). tune (pass r a .entries) ++ l) (tune-append (pass s b .entries) rest) in
+    let time = pass-time r a (g .time) (instructions-split a (b ++ c) (g .each)) in
     let none = restarts-there r a (g .none) begins in
-    let some = beats-some (s .settings) (fair .1 .range) in
+    let some = beats-some (s .settings) (time .range) in
     let x = g .stand .before in
     let y = g .stand .behind in
     record {
       stand = record {
-        before = x ++ pass r a .entries;
-        behind = rest ++ y;
-        there = g .stand .there ∙ ap (λ (m : List Entry). x ++ (m ++ y)) apart ∙ inner x (pass r a .entries) (pass s b .entries) rest y;
+        before = x ++ tune (pass r a .entries);
+        behind = tune rest ++ y;
+        there = g .stand .there ∙ ap (λ (m : List Entry). x ++ (m ++ y)) apart ∙ inner x (tune (pass r a .entries)) (tune (pass s b .entries)) (tune rest) y;
       };
       exact = boundaries-exact s b none some steady;
       between = durations-between s b none some steady;
@@ -159,7 +184,7 @@ instructions-from bodies h seen (p ∷ ps) qs k =
 -- without loop 15 its list is one long pass
 pub all-in-one-pass : (t : Tone) → Formed t → NoneEndless (t .patterns) → LongPass (playingList t .entries) atStart (sounding noBodies (t .patterns))
 all-in-one-pass t f h = record {
-  stand = record { before = []; behind = []; there = list-without-endless t h ∙ sym (append-nil (pass atStart (sounding noBodies (t .patterns)) .entries)) };
+  stand = record { before = []; behind = []; there = list-without-endless t h ∙ sym (append-nil (tune (pass atStart (sounding noBodies (t .patterns)) .entries))) };
   none = refl;
   time = time-start;
   each = instructions-from noBodies (each-start Body none-body) noneKnown (t .patterns) [] (rw (append-nil (t .patterns)) (f .sequence)) .0;
@@ -173,10 +198,10 @@ module _ (t : Tone) (f : Formed t) (ps : List Pattern) (p : Pattern) (qs : List 
 
   -- the states that its passes begin with
   abbrev pub firstState : State
-  firstState = restarted (aheadOfEndless ps)
+  firstState = begun 15 (aheadOfEndless ps)
 
   abbrev pub secondState : State
-  secondState = restarted (pass firstState endlessBody .after)
+  secondState = begun 15 (pass firstState endlessBody .after)
 
   sounded-ones : Instructions (sounding noBodies ps) × Instructions endlessBody
   sounded-ones =
@@ -184,19 +209,19 @@ module _ (t : Tone) (f : Formed t) (ps : List Pattern) (p : Pattern) (qs : List 
       (i .0, each-sounds Body none-body (bodiesAfter noBodies ps) (i .1) p (sound-body p (i .2 .1 .0)) .0)
 
   time-first : InTime firstState
-  time-first = time-restarted (aheadOfEndless ps) (pass-fair atStart (sounding noBodies ps) time-start (sounded-ones .0) .1 .range)
+  time-first = time-begun 15 (aheadOfEndless ps) (pass-time atStart (sounding noBodies ps) time-start (sounded-ones .0))
 
-  -- the entries of the three
+  -- the tunes of the three
   abbrev lead : List Entry
-  lead = pass atStart (sounding noBodies ps) .entries
+  lead = tune (pass atStart (sounding noBodies ps) .entries)
 
   abbrev first : List Entry
-  first = pass firstState endlessBody .entries
+  first = tune (pass firstState endlessBody .entries)
 
   abbrev second : List Entry
-  second = pass secondState endlessBody .entries
+  second = tune (pass secondState endlessBody .entries)
 
-  three-in-turn : playingList t .entries ≡ lead ++ (first ++ second)
+  three-in-turn : tune (playingList t .entries) ≡ lead ++ (first ++ second)
   three-in-turn = list-with-endless t ps p qs split h e
 
   pub pass-ahead : LongPass (playingList t .entries) atStart (sounding noBodies ps)
@@ -209,7 +234,7 @@ module _ (t : Tone) (f : Formed t) (ps : List Pattern) (p : Pattern) (qs : List 
   second-endless-pass = record {
     stand = record { before = lead ++ first; behind = []; there = three-in-turn ∙ sym (append-assoc lead first second) ∙ ap (λ (rs : List Entry). (lead ++ first) ++ rs) (sym (append-nil second)) };
     none = refl;
-    time = time-restarted (pass firstState endlessBody .after) (pass-fair firstState endlessBody time-first (sounded-ones .1) .1 .range);
+    time = time-begun 15 (pass firstState endlessBody .after) (pass-time firstState endlessBody time-first (sounded-ones .1));
     each = sounded-ones .1;
   }
 

@@ -8,15 +8,16 @@ use Rattle.bits.specs.Choice.{pick}
 use Rattle.bits.specs.Outcome.{Outcome, accepted, refused, andThen}
 use Rattle.tone.specs.Tone.{Tone}
 use Rattle.tone.specs.Reading.{readTone}
+use Rattle.list_rules.specs.Sounding.{entryCells}
 use Rattle.list_rules.specs.Playing.{Listing, playingList}
 
 -- a tone's list, or 11 where it does not fit
 abbrev pub fitted : (Listing → Bool) → Tone → Outcome Listing
 fitted fits t = pick (fits (playingList t)) (accepted (playingList t)) (refused 11 0)
 
--- a list fits so many numbers, two an entry
+-- a list fits so many cells
 abbrev pub fitsNumbers : ℕ → Listing → Bool
-fitsNumbers room g = leb (2 * length (g .entries)) room
+fitsNumbers room g = leb (entryCells * length (g .entries)) room
 
 -- and so many rows, one an entry
 abbrev pub fitsBoth : ℕ → ℕ → Listing → Bool

@@ -8,7 +8,7 @@ use Rattle.tone.specs.Table.{kind, payload}
 use Rattle.tone.specs.Tone.{Pattern, Tone}
 use Rattle.list_count.specs.Bodies.{Remembered, noBodies, passesOf, noMark, bodyOf, remember}
 use Rattle.list_rules.specs.declared.Entry.{Entry}
-use Rattle.list_rules.specs.Sounding.{State, restarted, atStart, following, sounded}
+use Rattle.list_rules.specs.Sounding.{State, atStart, following, sounded}
 
 -- entries that were added, and the state after them
 pub record Played : Type 0 where
@@ -28,9 +28,10 @@ abbrev pub pass : State → List ℕ → Played
 pass s [] = record { entries = []; after = s }
 pass s (e ∷ b) = ahead (step s e .entries) (pass (step s e .after) b)
 
--- the state that a pass begins with: with loop 15 the fraction restarts, and with any other loop it is carried on
+-- the state that a pass begins with, at the body's first instruction: with loop 15 the fraction restarts at zero, and with any other loop it
+-- is carried on
 abbrev pub begun : ℕ → State → State
-begun loop s = pick (eqb loop 15) (restarted s) s
+begun loop s = record { settings = s .settings; fraction = pick (eqb loop 15) 0 (s .fraction); header = s .header; position = 0 }
 
 -- one pass of a body at a loop value
 abbrev pub onePass : ℕ → State → List ℕ → Played
@@ -58,12 +59,16 @@ markAt n (r ∷ rs) = n + length (r ∷ rs)
 unfoldable pub patternPlayed : State → List Remembered → Pattern → Played
 patternPlayed s bodies p = passes (p .loop) (passesOf (p .loop)) s (bodyOf bodies p)
 
+-- the state at the next header
+abbrev pub nextHeader : State → State
+nextHeader s = record { settings = s .settings; fraction = s .fraction; header = s .header + 1; position = 0 }
+
 -- the patterns from one on, with n entries listed: listing stops with a loop 15
 abbrev pub play : State → List Remembered → ℕ → List Pattern → Listing
 play s bodies n [] = record { entries = []; mark = noMark }
 play s bodies n (p ∷ ps) =
     let d = patternPlayed s bodies p in
-    let more = play (d .after) (remember bodies p) (n + length (d .entries)) ps in
+    let more = play (nextHeader (d .after)) (remember bodies p) (n + length (d .entries)) ps in
     pick (eqb (p .loop) 15)
     (record { entries = d .entries; mark = markAt n (onePass (p .loop) s (bodyOf bodies p) .entries) })
     (record { entries = d .entries ++ more .entries; mark = more .mark })

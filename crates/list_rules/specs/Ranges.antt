@@ -24,6 +24,8 @@ pub record Bounded (r : Entry) : Type 0 where
   pub style : r .style ≤ 2
   pub volume : r .volume ≤ 15
   pub microseconds : r .microseconds ≤ 16800000
+  pub header : r .header ≤ 254
+  pub position : r .position ≤ 254
 
 -- each entry is
 abbrev pub AllBounded : List Entry → Type 0

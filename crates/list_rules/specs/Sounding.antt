@@ -1,6 +1,6 @@
--- The settings and the fraction left over, and what each instruction makes of them.
+-- The settings, the fraction left over and the place in the tone, and what each instruction makes of them.
 use Prim.Native.Nat.{ℕ, zero, suc, _+_, _*_, _/_, _%_}
-use mathlib.Core.List.{List, [], _∷_}
+use mathlib.Core.List.{List, [], _∷_, _++_}
 use lib.ListN.{getD, drop}
 use lib.Dec.{eqb}
 use Rattle.bits.specs.Choice.{pick}
@@ -24,18 +24,17 @@ applied s e =
 
 -- ---- the walk's state
 
--- what one instruction hands on to the next: the settings, and the fraction left over, in beats-ths of a microsecond
+-- what one instruction hands on to the next: the settings; the fraction left over, in beats-ths of a microsecond; and its origin, which is
+-- the position of the header that sounds, from 0 in the message, and that of the next instruction, from 0 in the body played
 pub record State : Type 0 where
   pub settings : Settings
   pub fraction : ℕ
-
--- the fraction restarts at zero
-abbrev pub restarted : State → State
-restarted s = record { settings = s .settings; fraction = 0 }
+  pub header : ℕ
+  pub position : ℕ
 
 -- the start of the tone
 abbrev pub atStart : State
-atStart = record { settings = defaults; fraction = 0 }
+atStart = record { settings = defaults; fraction = 0; header = 0; position = 0 }
 
 -- the units of a note or pause
 abbrev pub unitsOf : ℕ → ℕ
@@ -52,13 +51,13 @@ fractionAfter s e =
     (pick (eqb (kind e) 4) 0
     (s .fraction))
 
--- the state after an instruction
+-- the state after an instruction: the next one of the same body is due
 abbrev pub following : State → ℕ → State
-following s e = record { settings = applied (s .settings) e; fraction = fractionAfter s e }
+following s e = record { settings = applied (s .settings) e; fraction = fractionAfter s e; header = s .header; position = s .position + 1 }
 
 -- ---- entries
 
--- the entry that a note or pause adds
+-- the entry that a note or pause adds, with its origin
 unfoldable pub sounded : State → ℕ → Entry
 sounded s p = record {
   note = noteOf p;
@@ -66,32 +65,48 @@ sounded s p = record {
   style = s .settings .style;
   volume = s .settings .volume;
   microseconds = microseconds (s .fraction) (unitsOf p) (beatsAt s);
+  header = s .header;
+  position = s .position;
 }
 
 -- an entry's first number
 abbrev pub packed : Entry → ℕ
 packed r = r .note * 1024 + r .scale * 256 + r .style * 16 + r .volume
 
--- the list in two-number form
+-- its third number, the origin
+abbrev pub origin : Entry → ℕ
+origin r = r .header * 256 + r .position
+
+-- an entry's cells
+abbrev pub cells : Entry → List ℕ
+cells r = packed r ∷ r .microseconds ∷ origin r ∷ []
+
+-- and their number
+abbrev pub entryCells : ℕ
+entryCells = 3
+
+-- the list in cells
 abbrev pub numbers : List Entry → List ℕ
 numbers [] = []
-numbers (r ∷ rs) = packed r ∷ r .microseconds ∷ numbers rs
+numbers (r ∷ rs) = cells r ++ numbers rs
 
--- an entry from its two numbers
-unfoldable pub unpacked : ℕ → ℕ → Entry
-unpacked first second = record {
+-- an entry from its three numbers
+unfoldable pub unpacked : ℕ → ℕ → ℕ → Entry
+unpacked first second third = record {
   note = first / 1024;
   scale = first / 256 % 4;
   style = first / 16 % 16;
   volume = first % 16;
   microseconds = second;
+  header = third / 256;
+  position = third % 256;
 }
 
--- the entry at a position of a list in two-number form
+-- the entry at a position of a list in cells
 abbrev pub entryAt : List ℕ → ℕ → Entry
-entryAt l i = unpacked (getD l (i * 2) 0) (getD l (i * 2 + 1) 0)
+entryAt l i = unpacked (getD l (i * entryCells) 0) (getD l (i * entryCells + 1) 0) (getD l (i * entryCells + 2) 0)
 
 -- its first n entries
 abbrev pub entriesOf : ℕ → List ℕ → List Entry
 entriesOf zero l = []
-entriesOf (suc n) l = entryAt l 0 ∷ entriesOf n (drop 2 l)
+entriesOf (suc n) l = entryAt l 0 ∷ entriesOf n (drop entryCells l)

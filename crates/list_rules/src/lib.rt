@@ -21,7 +21,12 @@ pub struct Entry {
     pub style: u32,
     pub volume: u32,
     pub microseconds: u32,
+    pub header: u32,
+    pub position: u32,
 }
+
+// The cells that an entry takes in a list.
+pub const ENTRY_CELLS: usize = 3;
 
 impl Settings {
     // The defaults of 000.
@@ -194,9 +199,9 @@ pub fn base(s: Settings) -> u32
     s.scale * 256 + s.style * 16 + s.volume
 }
 
-// An entry from its two numbers.
-pub fn entry_of(first: u32, second: u32) -> Entry
-    ensures { λ r. ⌜ r ≡ unpacked first second ⌝ }
+// An entry from its three numbers.
+pub fn entry_of(first: u32, second: u32, third: u32) -> Entry
+    ensures { λ r. ⌜ r ≡ unpacked first second third ⌝ }
 {
     Entry {
         note: first / 1024,
@@ -204,5 +209,7 @@ pub fn entry_of(first: u32, second: u32) -> Entry
         style: first / 16 % 16,
         volume: first % 16,
         microseconds: second,
+        header: third / 256,
+        position: third % 256,
     }
 }

@@ -51,7 +51,7 @@ use denote.Triple.Table.{entered, cited}
 use denote.Triple.Walked.{says, needs, Stays, stay-slice, stay-none-slice, stay-none, walkOf, goes-none, goes-none-slice, goes-slice, Walks, ends-at, walked, walk-meets}
 use denote.Exit.{yes}
 use Rattle.list_rules.specs.declared.Entry.{Entry}
-use Rattle.list_rules.specs.Sounding.{entryAt}
+use Rattle.list_rules.specs.Sounding.{entryCells, entryAt}
 use Rattle.list_rules.proofs.Packing.{filled, filled-length, filled-next}
 use Rattle.list_rules.proofs.Entry as E
 use Rattle.list_rules.proofs.Entry.Laws as E′
@@ -146,7 +146,7 @@ module _ {M : Type 1} (𝓤 : URA M) (H : Heap 𝓤) (A : Atoms 𝓤) (W : Given
   Asked i = onEntry 𝓤 H A entry-at.signature (κ, tt) (q, tt) (s, (i, tt)) (handed i)
 
   -- `list` is copied, and one copy goes to the call
-  lends-list : (i : ℕ) → i < 2 ^ 64 → i * 2 + 1 < length xs → ent 𝓤 (⋆ 𝓤 H A (‵ (flft κ q) ∷ ‵ Own ∷ [])) (sep 𝓤 (Reading 𝓤 H A mem run .pre (reading i)) (sem 𝓤 H A Own))
+  lends-list : (i : ℕ) → i < 2 ^ 64 → i * entryCells + 2 < length xs → ent 𝓤 (⋆ 𝓤 H A (‵ (flft κ q) ∷ ‵ Own ∷ [])) (sep 𝓤 (Reading 𝓤 H A mem run .pre (reading i)) (sem 𝓤 H A Own))
   lends-list i fits inside =
       qed W (‵ (flft κ q) ∷ ‵ Own ∷ []) ∵
       move ! (1 ∷ []) $ use1 W (‵ Own ⊛ ‵ Own) (shr-slice-copy 𝓤 H A W (named 0) κ u32 .twice s (listAt ∷ [])) $ split ! $
@@ -170,7 +170,7 @@ module _ {M : Type 1} (𝓤 : URA M) (H : Heap 𝓤) (A : Atoms 𝓤) (W : Given
   nearer-ends : WellFounded Nearer
   nearer-ends = InvImage·wf (λ (i : Upto). n - i .0) (Nat·lt-wfRel .wf)
 
-  module _ (𝓣 : Tables 𝓤 H) (known : Triple 𝓤 (𝓣 .C #list·entry-at) (Reading 𝓤 H A mem run)) (room : Room E.the-row (length ys)) (n-fits : n < 2 ^ 64) (n-list : n * 2 ≤ length xs) (n-rows : n ≤ length ys) where
+  module _ (𝓣 : Tables 𝓤 H) (known : Triple 𝓤 (𝓣 .C #list·entry-at) (Reading 𝓤 H A mem run)) (room : Room E.the-row (length ys)) (n-fits : n < 2 ^ 64) (n-list : n * entryCells ≤ length xs) (n-rows : n ≤ length ys) where
     abbrev C : Calls 𝓤 H
     C = 𝓣 .C
 
@@ -198,11 +198,11 @@ module _ {M : Type 1} (𝓤 : URA M) (H : Heap 𝓤) (A : Atoms 𝓤) (W : Given
       unfolding afterTurn
       fills i less =
           let k = i .0 in
-          let inside : k * 2 + 1 < length xs = omega arith in
+          let inside : k * entryCells + 2 < length xs = omega arith in
           let within : k < length (filled xs ys k) = omega (arith, filled-length xs ys k (omega arith)) in
           let k-fits : k < 2 ^ 64 = omega arith in
           let next-fits : k + 1 < 2 ^ 64 = omega arith in
-          let bytes-fit : k * 20 < 2 ^ 64 = omega (arith, room .1) in
+          let bytes-fit : k * 28 < 2 ^ 64 = omega (arith, room .1) in
           assigns ! (bin ! (load ! (from ! (stop !)) (look ! 1 refl)) (load ! (from ! (stop !)) (look ! 7 refl)) tt) (from ! (stop !)) (init ! 3 refl (tt, tt)) $
           rewrite ! 3 (λ (t : Bool). ‵ (fat fullShare tyBool l₆ 0 (vbool t))) (lt-ltb k n less) refl $
           stays ! (load ! (from ! (stop !)) (look ! 3 refl)) $
@@ -219,7 +219,7 @@ module _ {M : Type 1} (𝓤 : URA M) (H : Heap 𝓤) (A : Atoms 𝓤) (W : Given
           -- the place of the record
           assigns ! (bin ! (load ! (from ! (stop !)) (look ! 4 refl)) (lit ! tt) (record { fits = bytes-fit })) (from ! (stop !)) (init ! 7 refl (tt, record { fits = bytes-fit })) $
           assigns ! (bin ! (load ! (from ! (fld ! refl (stop !))) (look-in ! 11 (sub ! 0 refl (whole !)))) (load ! (from ! (stop !)) (look ! 7 refl)) tt) (from ! (stop !)) (init ! 8 refl (tt, tt)) $
-          rewrite ! 8 (λ (p : ℕ). ‵ (fat fullShare tyPtr l₈ 0 (vptr b p))) (sym (place-is 20 o k)) refl $
+          rewrite ! 8 (λ (p : ℕ). ‵ (fat fullShare tyPtr l₈ 0 (vptr b p))) (sym (place-is 28 o k)) refl $
           -- it is taken out of the row, stored to and put back
           move ! (3 ∷ []) $ elem-out ! E.the-row (Is E.the-row) (shows 𝓤 H A E.the-row) vals (LL.tells E.the-type E′.the-laws) fullShare (filled xs ys k) k (entryAt xs k) b o within (λ _.
           -- [the record; what it owned; the others; the entry; the token; what list owns; i; e; the test; two scratch places; ..]

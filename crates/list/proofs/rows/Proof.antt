@@ -49,7 +49,7 @@ use denote.Triple.Walked.{says, Stays, stay-slice, stay-none-slice, gave-slice, 
 use denote.Exit.{yes}
 use Rattle.list_rules.specs.declared.Entry.{Entry}
 use Rattle.list.specs.declared.Listed.{Listed}
-use Rattle.list_rules.specs.Sounding.{entriesOf}
+use Rattle.list_rules.specs.Sounding.{entryCells, entriesOf}
 use Rattle.list_rules.specs.Listing.{fitsBoth}
 use Rattle.list.specs.Promise.{entriesIn, ListPromise, RowsPromise}
 use Rattle.list.proofs.Agreeing.{rows-fit, cells-kept, rows-made}
@@ -216,7 +216,7 @@ module _ {M : Type 1} (𝓤 : URA M) (H : Heap 𝓤) (A : Atoms 𝓤) (W : Given
     abbrev OwnRead : Fml
     OwnRead = ShrSlice (named 0) (α ∷ []) u32 .own (listRef δ zs) (lentAt ∷ [])
 
-    asks-filling : n < 2 ^ 64 → (n * 2 ≤ length zs) × (n ≤ length rs) → ent 𝓤 (⋆ 𝓤 H A (‵ (flft (α ∷ []) fullShare) ∷ ‵ OwnRead ∷ ‵ (flft κ₃ q₃) ∷ ‵ (MutSlice (named 1) κ₃ E.the-row .own rowsRef (rowsAt ∷ [])) ∷ [])) (Fills 𝓤 H A mem run .pre filling)
+    asks-filling : n < 2 ^ 64 → (n * entryCells ≤ length zs) × (n ≤ length rs) → ent 𝓤 (⋆ 𝓤 H A (‵ (flft (α ∷ []) fullShare) ∷ ‵ OwnRead ∷ ‵ (flft κ₃ q₃) ∷ ‵ (MutSlice (named 1) κ₃ E.the-row .own rowsRef (rowsAt ∷ [])) ∷ [])) (Fills 𝓤 H A mem run .pre filling)
     asks-filling fits h =
         qed W (‵ (flft (α ∷ []) fullShare) ∷ ‵ OwnRead ∷ ‵ (flft κ₃ q₃) ∷ ‵ (MutSlice (named 1) κ₃ E.the-row .own rowsRef (rowsAt ∷ [])) ∷ []) ∵
         nothing ! $ move ! (3 ∷ 0 ∷ []) $ join ! $ move ! (1 ∷ 0 ∷ []) $ join ! $

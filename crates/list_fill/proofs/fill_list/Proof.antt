@@ -3,7 +3,7 @@ use Rattle.list_fill.proofs.fill_list.Statement.{statement}
 use Rattle.list_fill.proofs.fill_list.Tie as tie
 use borrow.Author.Needs.{needs}
 use Rattle.list_fill.specs.Filling.{patternsIn}
-use Rattle.list_fill.proofs.Fillings.{ListWalk, list-begins, list-body, list-fits, list-on, listings}
+use Rattle.list_fill.proofs.Fillings.{ListWalk, list-begins, list-body, list-fits, list-header, list-on, listings}
 
 abbrev Inv-loop : tie.InvT-loop
 Inv-loop msg n list₀ parts₀ place₀ walk₀ left₀ list parts place walk left = ListWalk msg (patternsIn msg (place₀ .0) n) list₀ list parts (place .0) walk left
@@ -62,17 +62,23 @@ returns-2 c = search (listings, needs)
 behind-pattern-requires : tie.Need-behind-pattern-requires Inv-loop μ-loop
 behind-pattern-requires c κs = search (listings, needs)
 
+next-header-requires : tie.Need-next-header-requires Inv-loop μ-loop
+next-header-requires c κs =
+    let filled = c .before .before .before .before in
+    let turn = filled .before .before .before .before .before in
+    (filled .fill-passes .ensures .ready, list-header (turn .before .before .before .before .loop .inv) (search needs) (turn .before .before .entry-at .ensures) (turn .part-after .ensures) (search needs) (filled .fill-passes .ensures))
+
 sub-left : tie.Need-sub-left Inv-loop μ-loop
-sub-left c = search (listings, needs)
+sub-left c = search (needs, c .before .before .before .before .before .before .before .before .before .before .before .before .before .loop-test .taken)
 
 loop-less : tie.Need-loop-less Inv-loop μ-loop
-loop-less c = search (listings, needs)
+loop-less c = search (needs, c .before .before .before .before .before .before .before .before .before .before .before .before .before .loop-test .taken)
 
 loop-again : tie.Need-loop-again Inv-loop μ-loop
 loop-again c =
-    let filled = c .before .before .before .before in
+    let filled = c .before .before .before .before .before in
     let turn = filled .before .before .before .before .before in
-    list-on (turn .before .before .before .before .loop .inv) (search needs) (turn .before .before .entry-at .ensures) (turn .part-after .ensures) (search needs) (filled .fill-passes .ensures) (search needs) (c .behind-pattern .ensures)
+    list-on (turn .before .before .before .before .loop .inv) (search needs) (turn .before .before .entry-at .ensures) (turn .part-after .ensures) (search needs) (filled .fill-passes .ensures) (search needs) (c .before .behind-pattern .ensures) (c .next-header .ensures)
 
 same-length-3 : tie.Need-same-length-3 Inv-loop μ-loop
 same-length-3 c = search (listings, needs)
@@ -103,6 +109,7 @@ fill-list-spec =
     same-length-2
     returns-2
     behind-pattern-requires
+    next-header-requires
     sub-left
     loop-less
     loop-again

@@ -4,20 +4,8 @@ use Rattle.list_fill.proofs.Walk.step.Statement.{statement}
 use Rattle.list_fill.proofs.Walk.step.Tie as tie
 use Rattle.list_fill.proofs.Stepping.{steps}
 
-cast-list : tie.Need-cast-list
-cast-list c = search needs
-
-mul-list : tie.Need-mul-list
-mul-list c = search needs
-
-add-list : tie.Need-add-list
-add-list c = search needs
-
-mul-list-2 : tie.Need-mul-list-2
-mul-list-2 c = search needs
-
-slice-write-list : tie.Need-slice-write-list
-slice-write-list c = search (steps, needs)
+add-walk : tie.Need-add-walk
+add-walk c = search needs
 
 cast-units : tie.Need-cast-units
 cast-units c = search needs
@@ -31,26 +19,32 @@ units-requires c κs = search (steps, needs)
 duration-step-requires : tie.Need-duration-step-requires
 duration-step-requires c κs = search (steps, needs)
 
-add-list-2 : tie.Need-add-list-2
-add-list-2 c = search needs
+cast-sound : tie.Need-cast-sound
+cast-sound c = search needs
 
-mul-list-3 : tie.Need-mul-list-3
-mul-list-3 c = search needs
+mul-sound : tie.Need-mul-sound
+mul-sound c = search needs
 
-slice-write-list-2 : tie.Need-slice-write-list-2
-slice-write-list-2 c = search (steps, needs)
+add-sound : tie.Need-add-sound
+add-sound c = search needs
 
-add-t22 : tie.Need-add-t22
-add-t22 c = search needs
+mul-origin : tie.Need-mul-origin
+mul-origin c = search needs
 
-add-walk : tie.Need-add-walk
-add-walk c = search needs
+add-origin : tie.Need-add-origin
+add-origin c = let p = c .before .before .before .before .before .before .before .before .pre in search (needs, p .0 .0 .headers, p .0 .0 .positions)
+
+put-cells-requires : tie.Need-put-cells-requires
+put-cells-requires c κs = search (steps, needs)
+
+add-t27 : tie.Need-add-t27
+add-t27 c = let p = c .before .before .before .before .before .before .before .before .before .before .before .before .before .pre in search (needs, p .0 .1)
 
 same-length : tie.Need-same-length
 same-length c = search needs
 
 returns : tie.Need-returns
-returns c = search (steps, needs)
+returns c = let p = c .before .before .before .before .before .before .before .before .before .before .before .before .before .pre in search (steps, needs, p .0, p .1)
 
 cast-kind : tie.Need-cast-kind
 cast-kind c = search needs
@@ -107,20 +101,18 @@ pub step-spec : {M : Type 1} → statement M
 step-spec =
     tie.close
     (tie.spec
-    cast-list
-    mul-list
-    add-list
-    mul-list-2
-    slice-write-list
+    add-walk
     cast-units
     cast-units-2
     units-requires
     duration-step-requires
-    add-list-2
-    mul-list-3
-    slice-write-list-2
-    add-t22
-    add-walk
+    cast-sound
+    mul-sound
+    add-sound
+    mul-origin
+    add-origin
+    put-cells-requires
+    add-t27
     same-length
     returns
     cast-kind
