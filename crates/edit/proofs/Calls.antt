@@ -19,7 +19,7 @@ use Rattle.tone.specs.Reading.{readTone}
 use Rattle.tone.proofs.Demand2.{read-formed, accepted-is-written, bits-toneOctets, length-toneOctets}
 use Rattle.list.specs.declared.Listed.{Listed}
 use Rattle.list.specs.declared.Listed.the-variants.{Made as ListMade}
-use Rattle.list_rules.specs.Sounding.{numbers}
+use Rattle.list_rules.specs.Sounding.{entryCells, numbers}
 use Rattle.list_rules.specs.Playing.{Listing, playingList}
 use Rattle.list_rules.specs.Listing.{fitsNumbers, listTone}
 use Rattle.list.specs.Promise.{listAnswer, cellsAfter, ListPromise}
@@ -87,7 +87,7 @@ pub record ListIs (t : Tone) (message lent list : List ℕ) (r : Answer) : Type 
   pub listed : listTone message (fitsNumbers (length lent)) ≡ accepted (playingList t)
   pub entries : numbersOf r .entries ≡ length (playingList t .entries)
   pub mark : numbersOf r .mark ≡ playingList t .mark
-  pub whole : list ≡ numbers (playingList t .entries) ++ drop (2 * numbersOf r .entries) lent
+  pub whole : list ≡ numbers (playingList t .entries) ++ drop (entryCells * numbersOf r .entries) lent
   pub each : (j : ℕ) (d : Entry) → j < numbersOf r .entries → Agree (getD (playingList t .entries) j d) list j
 
 module _ (buf : List ℕ) (used : ℕ) (ed : Edit) (k i : ℕ) (list buf′ list′ : List ℕ) (r : Answer) (p : EditPromise buf used ed k i list buf′ list′ r) where
@@ -185,11 +185,11 @@ module _ (buf : List ℕ) (used : ℕ) (ed : Edit) (k i : ℕ) (list buf′ list
     pub edit-listing : listTone (take (newLength r) buf′) (fitsNumbers (length list)) ≡ accepted (playingList (changed ed k i t))
     edit-listing = cells-enough (take (newLength r) buf′) edit-result-reads (length list) (edit-conditions .listRoom)
 
-    -- the lent list holds it, two numbers an entry, and beyond it what there was
-    pub edit-list : list′ ≡ numbers (playingList (changed ed k i t) .entries) ++ drop (2 * numbersOf r .entries) list
+    -- the lent list holds it in cells, and beyond it what there was
+    pub edit-list : list′ ≡ numbers (playingList (changed ed k i t) .entries) ++ drop (entryCells * numbersOf r .entries) list
     edit-list =
         let rs = playingList (changed ed k i t) .entries in
-        p .listed ∙ ap (λ (x : Outcome Edited). listAfter x list) outcome ∙ ap (λ (x : ℕ). numbers rs ++ drop x list) (length-numbers rs ∙ ap (λ (x : ℕ). 2 * x) (sym (ap (λ (x : Numbers). x .entries) edit-numbers)))
+        p .listed ∙ ap (λ (x : Outcome Edited). listAfter x list) outcome ∙ ap (λ (x : ℕ). numbers rs ++ drop x list) (length-numbers rs ∙ ap (λ (x : ℕ). entryCells * x) (sym (ap (λ (x : Numbers). x .entries) edit-numbers)))
 
     -- all that is said of the list
     pub edit-list-is : ListIs (changed ed k i t) (take (newLength r) buf′) list list′ r
@@ -201,7 +201,7 @@ module _ (buf : List ℕ) (used : ℕ) (ed : Edit) (k i : ℕ) (list buf′ list
           entries = n;
           mark = ap (λ (x : Numbers). x .mark) edit-numbers;
           whole = edit-list;
-          each = λ j d h. rw edit-list (agree-at rs (drop (2 * numbersOf r .entries) list) (list-bounded (changed ed k i t) (edit-formed ed k i t formed (edit-conditions .grounds))) j d (rw (← n) h));
+          each = λ j d h. rw edit-list (agree-at rs (drop (entryCells * numbersOf r .entries) list) (list-bounded (changed ed k i t) (edit-formed ed k i t formed (edit-conditions .grounds))) j d (rw (← n) h));
         }
 
     -- a call of `list::list` on the new bytes, with the list as it was lent, answers and leaves the same

@@ -11,6 +11,7 @@ use Rattle.bits.proofs.Choice.{pick-elim, then-elim}
 use Rattle.tone.specs.Tone.{Tone}
 use Rattle.tone.specs.Writing.{toneLength, mostOctets}
 use Rattle.tone.specs.Reading.{readTone}
+use Rattle.list_rules.specs.Sounding.{entryCells}
 use Rattle.list_rules.specs.Playing.{playingList}
 use Rattle.list_rules.specs.Listing.{fitsNumbers}
 use Rattle.edit_change.specs.declared.Edit.{Edit}
@@ -25,7 +26,7 @@ pub record Conditions (buf : List ℕ) (used : ℕ) (ed : Edit) (k i cells : ℕ
   pub grounds : Grounds ed k i t
   pub size : toneLength (changed ed k i t) ≤ mostOctets
   pub room : toneLength (changed ed k i t) ≤ length buf
-  pub listRoom : 2 * length (playingList (changed ed k i t) .entries) ≤ cells
+  pub listRoom : entryCells * length (playingList (changed ed k i t) .entries) ≤ cells
 
 -- the changed tone and its list
 abbrev pub edited : Edit → ℕ → ℕ → Tone → Edited
@@ -65,7 +66,7 @@ module _ (buf : List ℕ) (used : ℕ) (ed : Edit) (k i cells : ℕ) where
               grounds = g;
               size = leb-true (toneLength t′) mostOctets h₁;
               room = leb-true (toneLength t′) (length buf) h₂;
-              listRoom = leb-true (2 * length (o .entries)) cells h₃;
+              listRoom = leb-true (entryCells * length (o .entries)) cells h₃;
             },
             refl,
           ))
@@ -83,7 +84,7 @@ module _ (buf : List ℕ) (used : ℕ) (ed : Edit) (k i cells : ℕ) where
         edit-accepts ed k i t (c .grounds),
         le-leb (toneLength t′) mostOctets (c .size),
         le-leb (toneLength t′) (length buf) (c .room),
-        le-leb (2 * length (playingList t′ .entries)) cells (c .listRoom),
+        le-leb (entryCells * length (playingList t′ .entries)) cells (c .listRoom),
       )
       refl
 

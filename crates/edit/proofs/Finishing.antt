@@ -18,7 +18,7 @@ use Rattle.tone.specs.Writing.{tableBits, frontBits, endBits, toneBits, toneLen
 use Rattle.tone.specs.Reading.{got, patternsDue, readTone}
 use Rattle.tone.proofs.Demand2.{octets-are, one-tone, written-is-accepted, length-toneOctets}
 use Rattle.tone_elements.specs.Answers.{Within}
-use Rattle.list_rules.specs.Sounding.{atStart, numbers}
+use Rattle.list_rules.specs.Sounding.{atStart, entryCells, numbers}
 use Rattle.list_rules.specs.Playing.{play, playingList}
 use Rattle.list_fill.specs.Filling.{patternsIn, endIn, PatternsAt}
 use Rattle.list_rules.proofs.Counts.{list-count}
@@ -69,16 +69,19 @@ module _ (new buf list : List ℕ) (used : ℕ) {o : Outline} (w : Written new o
   unfolding playingList
   count = list-count atStart noBodies 0 (w .tone .patterns) ∙ sym (w .outlines .entries)
 
-  pub finish-short : length list / 2 < o .entries → (t : Tone) → WellFormed t → toneOctets t ≡ new → Leaves (withList (length list) t) used buf list buf list (Refused 11 (place 0))
+  pub finish-short : length list / entryCells < o .entries → (t : Tone) → WellFormed t → toneOctets t ≡ new → Leaves (withList (length list) t) used buf list buf list (Refused 11 (place 0))
   finish-short h t f e =
-      let z : withList (length list) t ≡ refused 11 0 = ap (withList (length list)) (same-tone t f e) ∙ (rw (count, lt-leb (2 * o .entries) (length list) (omega arith)) refl) in
+      let z : withList (length list) t ≡ refused 11 0 = ap (withList (length list)) (same-tone t f e) ∙ (rw (count, lt-leb (entryCells * o .entries) (length list) (omega arith)) refl) in
       rw z (leaves (refused 11 0) used buf list buf list (Refused 11 (place 0)) refl refl refl)
 
-  module _ (h : o .entries ≤ length list / 2) where
+  module _ (h : o .entries ≤ length list / entryCells) where
     pub finish-patterns : PatternsAt new (o .first .0) (o .patterns) (patternsIn new (o .first .0) (o .patterns)) (endIn new (o .first .0) (o .patterns))
     finish-patterns = record { within = subst (Within new) (sym (w .outlines .first)) (patterns-within new (w .tone) new-reads); reads = rw new-there refl }
 
-    pub finish-room : 2 * entryCount noBodies (patternsIn new (o .first .0) (o .patterns)) ≤ length list
+    pub finish-few : o .patterns ≤ 255
+    finish-few = omega (arith, w .outlines .patterns, w .formed .formed .front .most)
+
+    pub finish-room : entryCells * entryCount noBodies (patternsIn new (o .first .0) (o .patterns)) ≤ length list
     finish-room = omega (arith, ap (entryCount noBodies) patterns-are, w .outlines .entries)
 
     pub finish-made : {list′ buf₁ buf₂ : List ℕ} {ch : ℤ} {n : ℕ} → length new ≡ n → list′ ≡ over (numbers (play atStart noBodies 0 (patternsIn new (o .first .0) (o .patterns)) .entries)) list → n ≤ length buf
@@ -88,7 +91,7 @@ module _ (new buf list : List ℕ) (used : ℕ) {o : Outline} (w : Written new o
     finish-made {list′} {buf₁} {buf₂} {ch} {n} hn z l b₁ b₂ hc t f e =
         let g = playingList (w .tone) in
         let d : withList (length list) t ≡ accepted (record { tone = w .tone; listing = g }) =
-        ap (withList (length list)) (same-tone t f e) ∙ (rw (count, le-leb (2 * o .entries) (length list) (omega arith)) refl) in
+        ap (withList (length list)) (same-tone t f e) ∙ (rw (count, le-leb (entryCells * o .entries) (length list) (omega arith)) refl) in
         let size : n ≡ toneLength (w .tone) = sym hn ∙ ap length (sym (w .writes)) ∙ length-toneOctets (w .tone) in
         let buffer : buf₂ ≡ over (toneOctets (w .tone) ++ replicate (used - toneLength (w .tone)) 0) buf =
         b₂ ∙ ap (cleared n used) b₁ ∙ cleared-over new buf n used hn l

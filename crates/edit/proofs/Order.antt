@@ -9,6 +9,7 @@ use Rattle.bits.specs.Outcome.{accepted, refused}
 use Rattle.tone.specs.Tone.{Tone}
 use Rattle.tone.specs.Writing.{toneLength, mostOctets}
 use Rattle.tone.specs.Reading.{readTone}
+use Rattle.list_rules.specs.Sounding.{entryCells}
 use Rattle.list_rules.specs.Playing.{playingList}
 use Rattle.edit_change.specs.declared.Edit.{Edit}
 use Rattle.edit_change.specs.Change.{carriesNew, isThere, empties, overfills}
@@ -68,7 +69,7 @@ module _ (buf : List ℕ) (used : ℕ) (ed : Edit) (k i cells : ℕ) where
           room-sixth r = list-last (rw (le-leb (toneLength t′) mostOctets l, lt-leb (toneLength t′) (length buf) r) refl)
 
           -- and 11 for the list, where nothing else is in the way
-          pub list-room : toneLength t′ ≤ length buf → cells < 2 * length (playingList t′ .entries) → editMessage buf used ed k i cells ≡ refused 11 0
+          pub list-room : toneLength t′ ≤ length buf → cells < entryCells * length (playingList t′ .entries) → editMessage buf used ed k i cells ≡ refused 11 0
           unfolding editMessage
           list-room r s =
               rw (
@@ -77,6 +78,6 @@ module _ (buf : List ℕ) (used : ℕ) (ed : Edit) (k i cells : ℕ) where
                 a,
                 le-leb (toneLength t′) mostOctets l,
                 le-leb (toneLength t′) (length buf) r,
-                lt-leb (2 * length (playingList t′ .entries)) cells s,
+                lt-leb (entryCells * length (playingList t′ .entries)) cells s,
               )
               refl

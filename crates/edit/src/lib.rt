@@ -172,7 +172,7 @@ fn finish(
     let first = outline.first;
     let entries = outline.entries;
     let mark = outline.mark;
-    if list.len() / 2 < entries as usize {
+    if list.len() / list_rules::ENTRY_CELLS < entries as usize {
         return Answer::Refused {
             number: 11,
             place: BitPlace(0),

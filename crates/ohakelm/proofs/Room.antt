@@ -21,6 +21,7 @@ use Rattle.tone_table.specs.Judging.{judgeTable}
 use Rattle.tone_table.proofs.Grounds.{table-grounds}
 use Rattle.tone_write.specs.Judging.{songFine, titleFine, sized, toneOf, writeTone}
 use Rattle.tone_write.specs.Promise.{writeNumbers}
+use Rattle.list_rules.specs.Sounding.{entryCells}
 use Rattle.list_rules.specs.declared.Entry.{Entry}
 use Rattle.list_rules.specs.Playing.{Listing, playingList}
 use Rattle.list_rules.specs.Listing.{fitsNumbers, fitsBoth, listTone}
@@ -114,9 +115,13 @@ write-room song unicode title table out out′ r x h e =
 
 -- ---- the playing list
 
--- the numbers of a list fit
+-- three cells an entry
+pub list-cells : listRoom ≡ 2926125
+list-cells = refl
+
+-- the cells of a list fit
 numbers-fit : (room : ℕ) (t : Tone) → Formed t → listRoom ≤ room → fitsNumbers room (playingList t) ≡ true
-numbers-fit room t f h = le-leb (2 * length (playingList t .entries)) room (omega (arith, list-most t f))
+numbers-fit room t f h = le-leb (entryCells * length (playingList t .entries)) room (omega (arith, list-most t f))
 
 -- and its rows
 both-fit : (room rows : ℕ) (t : Tone) → Formed t → listRoom ≤ room → entriesRoom ≤ rows → fitsBoth room rows (playingList t) ≡ true
@@ -126,13 +131,13 @@ list-spared : (m : List ℕ) (fits : Listing → Bool) → ((t : Tone) → Forme
 unfolding listTone
 list-spared m fits h = then-elim Spared (readTone m) (λ t e. rw (h t (read-well-formed m t e .formed)) none) (λ n p e. unread m e)
 
--- `ohakelm_list`, with 1,950,750 numbers
+-- `ohakelm_list`, with 2,926,125 cells
 pub list-room : (m list list′ : List ℕ) (r : ListAnswer) → ListExport m list list′ r → listRoom ≤ length list → r .refusal ≡ 11 → ⊥
 list-room m list list′ r x h e =
     not-eleven (λ o. listNumbers o .refusal) (λ _. refl) (λ _ _. refl) (list-spared m (fitsNumbers (length list)) (λ t f. numbers-fit (length list) t f h))
     (sym (ap (λ (a : ListAnswer). a .refusal) (x .answer)) ∙ e)
 
--- `ohakelm_rows`, with 1,950,750 numbers and 975,375 rows
+-- `ohakelm_rows`, with 2,926,125 cells and 975,375 rows
 pub rows-room : (m list : List ℕ) (rows : List Entry) (list′ : List ℕ) (rows′ : List Entry) (r : ListAnswer) → RowsExport m list rows list′ rows′ r
     → listRoom ≤ length list → entriesRoom ≤ length rows → r .refusal ≡ 11 → ⊥
 rows-room m list rows list′ rows′ r x h k e =
@@ -177,7 +182,7 @@ edit-spared ed buf used k i cells h l =
         (λ b. let z : ⊥ = omega (arith, leb-true n mostOctets a, leb-false n (length buf) b) in absurd z))
         (λ _. other 1 refl)
 
--- `ohakelm_replace`, `ohakelm_insert` and `ohakelm_delete`, with a buffer of 4,096 octets and 1,950,750 numbers
+-- `ohakelm_replace`, `ohakelm_insert` and `ohakelm_delete`, with a buffer of 4,096 octets and 2,926,125 cells
 pub edit-room : (ed : Edit) (buf : List ℕ) (used k i : ℕ) (list buf′ list′ : List ℕ) (r : EditAnswer) → EditExport ed buf used k i list buf′ list′ r
     → toneRoom ≤ length buf → listRoom ≤ length list → r .refusal ≡ 11 → ⊥
 edit-room ed buf used k i list buf′ list′ r x h l e =

@@ -1,5 +1,6 @@
 -- How much room is always enough: what a caller lends at most, so that 11 is never met.
-use Prim.Native.Nat.{ℕ}
+use Prim.Native.Nat.{ℕ, _*_}
+use Rattle.list_rules.specs.Sounding.{entryCells}
 use Rattle.bitmap_ahead.specs.declared.Kind.{Kind}
 use Rattle.bitmap_ahead.specs.declared.Kind.the-variants.{Plain, Icon, Logo}
 
@@ -19,9 +20,9 @@ toneRoom = 4096
 abbrev pub entriesRoom : ℕ
 entriesRoom = 975375
 
--- numbers for a playing list, two an entry
+-- cells for a playing list
 abbrev pub listRoom : ℕ
-listRoom = 1950750
+listRoom = entriesRoom * entryCells
 
 -- octets for a plain bitmap
 abbrev pub bitmapRoom : ℕ

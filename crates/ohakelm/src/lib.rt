@@ -72,12 +72,12 @@ pub struct EditAnswer {
 
 // ---- the version
 
-// The version of the library, 0.6.0.
+// The version of the library, 0.8.0.
 #[no_mangle]
 pub extern "C" fn ohakelm_version() -> u32
     ensures { λ r. ⌜ VersionExport r ⌝ }
 {
-    700
+    800
 }
 
 // ---- tones
@@ -179,7 +179,7 @@ fn list_answer(listed: Listed) -> ListAnswer
     }
 }
 
-// Makes the playing list of a tone message, two numbers an entry.
+// Makes the playing list of a tone message, three cells an entry.
 #[no_mangle]
 pub extern "C" fn ohakelm_list(msg: &[u8], list: &mut [u32]) -> ListAnswer
     ensures { λ r. ⌜ ListExport (now (msg .entry)) (now (list .entry)) (now (list .exit)) r ⌝ }
@@ -187,7 +187,7 @@ pub extern "C" fn ohakelm_list(msg: &[u8], list: &mut [u32]) -> ListAnswer
     list_answer(list::list(msg, list))
 }
 
-// Makes the playing list in both forms: two numbers an entry, and one record an entry.
+// Makes the playing list in both forms: three cells an entry, and one record an entry.
 #[no_mangle]
 pub extern "C" fn ohakelm_rows(msg: &[u8], list: &mut [u32], rows: &mut [Entry]) -> ListAnswer
     ensures { λ r. ⌜ RowsExport (now (msg .entry)) (now (list .entry)) (now (rows .entry)) (now (list .exit)) (now (rows .exit)) r ⌝ }

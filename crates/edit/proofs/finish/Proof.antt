@@ -4,7 +4,7 @@ use mathlib.Core.Path.{sym}
 use lib.ListN.{take}
 use lib.Seq.{length-take-le}
 use borrow.Author.Needs.{needs}
-use Rattle.edit.proofs.Finishing.{finish-short, finish-patterns, finish-room, finish-made}
+use Rattle.edit.proofs.Finishing.{finish-short, finish-patterns, finish-few, finish-room, finish-made}
 use Rattle.edit.proofs.Changes.{change-kept}
 use Rattle.edit.proofs.finish.Statement.{statement}
 use Rattle.edit.proofs.finish.Tie as tie
@@ -32,7 +32,8 @@ fill-list-requires c κs =
     let a = s .args in
     let new = take (a .n .0) (a .scratch .now) in
     let left = c .before .before .if1 .left in
-    (finish-patterns new (a .buf .now) (a .list .now) (a .used .0) (s .pre .1) left, finish-room new (a .buf .now) (a .list .now) (a .used .0) (s .pre .1) left)
+    let here = finish-patterns new (a .buf .now) (a .list .now) (a .used .0) (s .pre .1) left in
+    ((here, finish-few new (a .buf .now) (a .list .now) (a .used .0) (s .pre .1) left), finish-room new (a .buf .now) (a .list .now) (a .used .0) (s .pre .1) left)
 
 copy-octets-requires : tie.Need-copy-octets-requires
 copy-octets-requires c κs = search needs
