@@ -13,7 +13,7 @@ use Rattle.bits.specs.Lent.{over}
 use Rattle.bits.specs.Outcome.{Outcome, accepted, refused}
 use Rattle.bits.specs.declared.BitPlace.{BitPlace}
 use Rattle.bits.proofs.Octets.{octets-take}
-use Rattle.tone.specs.Tone.{Tone, Formed}
+use Rattle.tone.specs.Tone.{Tone, patternAt, Formed}
 use Rattle.tone.specs.Writing.{entryBits, tableBits, toneBits, toneLength, toneOctets}
 use Rattle.tone.specs.Reading.{readTone}
 use Rattle.tone.proofs.Demand2.{read-formed, accepted-is-written, bits-toneOctets, length-toneOctets}
@@ -31,7 +31,7 @@ use Rattle.list.proofs.Agreeing.{Agree, agree-at}
 use Rattle.edit_change.specs.declared.Edit.{Edit}
 use Rattle.edit.specs.declared.Answer.{Answer}
 use Rattle.edit.specs.declared.Answer.the-variants.{Edited as Made, Refused}
-use Rattle.edit_change.specs.Change.{patternAt, changed, headerPlace, instructionPlace}
+use Rattle.edit_change.specs.Change.{changed, headerPlace, instructionPlace}
 use Rattle.edit.specs.Editing.{Edited, bodyLength, editMessage, bufferAfter, listAfter}
 use Rattle.edit.specs.Promise.{Numbers, numbersOf, editNumbers, editAnswer, EditPromise}
 use Rattle.edit.proofs.Demand3.{unchanged, edit-formed, edit-reads-again}

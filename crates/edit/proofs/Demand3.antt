@@ -13,14 +13,14 @@ use Rattle.bits.specs.Outcome.{Outcome, accepted, refused}
 use Rattle.bits.proofs.Choice.{pick-elim, both}
 use Rattle.bits.proofs.Numbers.{length-bits, bits-append}
 use Rattle.tone.specs.Table.{kind, payload, width, Instruction}
-use Rattle.tone.specs.Tone.{Pattern, Tone, frontOf, header, cells, noneKnown, Instructions, Sound, Formed}
+use Rattle.tone.specs.Tone.{Pattern, Tone, frontOf, header, cells, patternAt, noneKnown, Instructions, Sound, Formed}
 use Rattle.tone.specs.Writing.{entryBits, tableBits, frontBits, songBits, endBits, toneBits, toneLength, toneOctets, mostOctets}
 use Rattle.tone.specs.Reading.{readTone}
 use Rattle.tone.proofs.Rows.{tableBits-append}
 use Rattle.tone.proofs.Demand2.{written-is-accepted}
 use Rattle.edit_change.specs.declared.Edit.{Edit}
 use Rattle.edit_change.specs.declared.Edit.the-variants.{Replace, Insert, Delete}
-use Rattle.edit_change.specs.Change.{carried, removed, bodyAfter, withBody, patternAt, changed, isNew, carriesNew, inBody, isThere, empties, overfills, headerPlace, instructionPlace}
+use Rattle.edit_change.specs.Change.{carried, removed, bodyAfter, withBody, changed, isNew, carriesNew, inBody, isThere, empties, overfills, headerPlace, instructionPlace}
 use Rattle.edit_change.proofs.Bodies.{cells-append, fits, carried-instructions, changed-formed, sound-at, front-same}
 use Rattle.edit.specs.Editing.{bodyLength, editTone}
 

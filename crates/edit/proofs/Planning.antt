@@ -16,7 +16,7 @@ use Rattle.bits.specs.declared.BitPlace.{BitPlace}
 use Rattle.bits.specs.declared.OctetCount.{OctetCount}
 use Rattle.bits.proofs.Octets.{length-bitsOf}
 use Rattle.bits.specs.Places.{place}
-use Rattle.tone.specs.Tone.{Pattern, Tone, Front, frontOf, specifier, header, cells, noneKnown, Sound as SoundPart}
+use Rattle.tone.specs.Tone.{Pattern, Tone, Front, frontOf, specifier, header, cells, patternAt, noneKnown, Sound as SoundPart}
 use Rattle.tone.specs.Writing.{entryBits, tableBits, frontBits}
 use Rattle.tone.specs.Reading.{readTone}
 use Rattle.tone.proofs.Rows.{tableBits-append, header-small, header-wide}
@@ -31,7 +31,7 @@ use Rattle.tone_judge.specs.Wishes.{grants, wished, placeIn, cutOf, noCut}
 use Rattle.tone_judge.specs.Answers.{totalOf, judgedFor}
 use Rattle.tone_read.proofs.Told.{Told, told}
 use Rattle.edit_change.specs.declared.Edit.{Edit}
-use Rattle.edit_change.specs.Change.{carried, removed, bodyAfter, withBody, patternAt, changed, carriesNew, inBody, empties, overfills, headerPlace}
+use Rattle.edit_change.specs.Change.{carried, removed, bodyAfter, withBody, changed, carriesNew, inBody, empties, overfills, headerPlace}
 use Rattle.edit_change.specs.Answers.{Puts, groundOf}
 use Rattle.edit_change.proofs.Bodies.{Fits as FitsEdit, length-after, body-instructions, cells-append, changed-formed, front-same, sound-at}
 use Rattle.edit_change.proofs.Grounds.{no-ground}

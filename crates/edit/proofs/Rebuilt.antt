@@ -9,13 +9,13 @@ use lib.Seq.{take-at, drop-at, drop-drop, set-split, split-at}
 use Rattle.bits.specs.Bits.{bitsN, bitsOf}
 use Rattle.bits.proofs.Numbers.{bits-append}
 use Rattle.tone.specs.Table.{kind, payload, width}
-use Rattle.tone.specs.Tone.{Pattern, Tone, frontOf, header, cells, noneKnown, Sound}
+use Rattle.tone.specs.Tone.{Pattern, Tone, frontOf, header, cells, patternAt, noneKnown, Sound}
 use Rattle.tone.specs.Writing.{entryBits, tableBits, frontBits, songBits}
 use Rattle.tone.proofs.Rows.{tableBits-append, header-small, header-wide}
 use Rattle.tone_read.proofs.Told.{Told}
 use Rattle.edit_build.specs.Anew.{joined}
 use Rattle.edit_change.specs.declared.Edit.{Edit}
-use Rattle.edit_change.specs.Change.{carried, removed, bodyAfter, withBody, patternAt, changed, headerPlace}
+use Rattle.edit_change.specs.Change.{carried, removed, bodyAfter, withBody, changed, headerPlace}
 use Rattle.edit_change.specs.Answers.{Puts}
 use Rattle.edit_change.proofs.Bodies.{cells-append, sound-at, front-same}
 

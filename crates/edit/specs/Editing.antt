@@ -6,14 +6,14 @@ use lib.Dec.{leb}
 use Rattle.bits.specs.Choice.{pick}
 use Rattle.bits.specs.Lent.{over}
 use Rattle.bits.specs.Outcome.{Outcome, accepted, refused, andThen}
-use Rattle.tone.specs.Tone.{Tone}
+use Rattle.tone.specs.Tone.{Tone, patternAt}
 use Rattle.tone.specs.Writing.{toneLength, toneOctets, mostOctets}
 use Rattle.tone.specs.Reading.{readTone}
 use Rattle.list_rules.specs.Sounding.{numbers}
 use Rattle.list_rules.specs.Playing.{Listing}
 use Rattle.list_rules.specs.Listing.{fitted, fitsNumbers}
 use Rattle.edit_change.specs.declared.Edit.{Edit}
-use Rattle.edit_change.specs.Change.{patternAt, changed, carriesNew, isThere, empties, overfills}
+use Rattle.edit_change.specs.Change.{changed, carriesNew, isThere, empties, overfills}
 
 -- the length of the body named
 abbrev pub bodyLength : ℕ → Tone → ℕ

@@ -9,12 +9,12 @@ use lib.Seq.{length-take-le}
 use lib.Dec.{ltb}
 use borrow.Author.Tests.{ltb-true, leb-true, eqb-false, ne-eqb}
 use Rattle.tone.specs.Table.{kind, payload, width, allowed, isInstruction, Instruction}
-use Rattle.tone.specs.Tone.{Pattern, Tone, frontOf, specifier, partOf, header, cells, recallable, learn, noneKnown, Instructions, Sound, Sequence, Formed}
+use Rattle.tone.specs.Tone.{Pattern, Tone, frontOf, specifier, partOf, header, cells, patternAt, recallable, learn, noneKnown, Instructions, Sound, Sequence, Formed}
 use Rattle.tone.proofs.Rows.{is-instruction}
 use Rattle.bits.proofs.Choice.{both}
 use Rattle.edit_change.specs.declared.Edit.{Edit}
 use Rattle.edit_change.specs.declared.Edit.the-variants.{Replace, Insert, Delete}
-use Rattle.edit_change.specs.Change.{carried, removed, bodyAfter, withBody, patternAt, changed, isNew, carriesNew, inBody, empties, overfills}
+use Rattle.edit_change.specs.Change.{carried, removed, bodyAfter, withBody, changed, isNew, carriesNew, inBody, empties, overfills}
 
 -- ---- instructions
 

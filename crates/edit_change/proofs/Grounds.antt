@@ -9,11 +9,11 @@ use lib.Dec.{leb, ltb}
 use borrow.Author.Tests.{lt-leb, le-leb, leb-true, eq-eqb, ne-eqb}
 use Rattle.bits.specs.Choice.{pick}
 use Rattle.bits.proofs.Choice.{both}
-use Rattle.tone.specs.Tone.{Pattern}
+use Rattle.tone.specs.Tone.{Pattern, patternAt}
 use Rattle.tone.proofs.Rows.{and-false}
 use Rattle.edit_change.specs.declared.Edit.{Edit}
 use Rattle.edit_change.specs.declared.Edit.the-variants.{Replace, Insert, Delete}
-use Rattle.edit_change.specs.Change.{patternAt, inBody, isThere, empties, overfills}
+use Rattle.edit_change.specs.Change.{inBody, isThere, empties, overfills}
 use Rattle.edit_change.specs.Answers.{overdoneOf, groundOf}
 use Rattle.edit_change.proofs.Bodies.{Fits, fits}
 

@@ -2,10 +2,10 @@
 use Prim.Native.Nat.{ℕ, _+_, _^_}
 use mathlib.Core.Bool.{Bool, true, false, _&&_}
 use mathlib.Core.List.{List, [], _∷_, _++_}
-use lib.ListN.{length, getD, take, drop, set}
+use lib.ListN.{length, take, drop, set}
 use lib.Dec.{leb, ltb, eqb}
 use Rattle.tone.specs.Table.{kind, payload, width, allowed, isInstruction}
-use Rattle.tone.specs.Tone.{Pattern, Tone, frontOf, cells}
+use Rattle.tone.specs.Tone.{Pattern, Tone, frontOf, cells, patternAt}
 use Rattle.tone.specs.Writing.{tableBits, frontBits}
 use Rattle.edit_change.specs.declared.Edit.{Edit}
 use Rattle.edit_change.specs.declared.Edit.the-variants.{Replace, Insert, Delete}
@@ -29,10 +29,6 @@ bodyAfter ed i b = take i b ++ (carried ed ++ drop (i + removed ed) b)
 -- a pattern with another body
 abbrev pub withBody : Pattern → List ℕ → Pattern
 withBody p b = record { id = p .id; loop = p .loop; body = b }
-
--- the pattern at position k; past the end none, which has no body
-abbrev pub patternAt : List Pattern → ℕ → Pattern
-patternAt ps k = getD ps k (record { id = 0; loop = 0; body = [] })
 
 -- the patterns after an edit of the one at position k
 abbrev pub patternsAfter : Edit → ℕ → ℕ → List Pattern → List Pattern

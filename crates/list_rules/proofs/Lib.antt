@@ -14,4 +14,5 @@ pub mod Settling
 pub mod Boundaries
 pub mod Endless
 pub mod Spans
+pub mod Origins
 pub mod Samples

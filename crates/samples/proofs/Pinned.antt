@@ -11,6 +11,7 @@ use Rattle.samples.proofs.List.{lists}
 use Rattle.samples.proofs.Endless.{endless}
 use Rattle.samples.proofs.Drift.{drift}
 use Rattle.samples.proofs.Edits.{edits}
+use Rattle.samples.proofs.Origins.{origins}
 use Rattle.samples.proofs.Bounds.{bounds}
 use Rattle.samples.proofs.Text.{texts}
 
@@ -26,6 +27,7 @@ pinned = record {
   drift = drift;
   durations = lengths.durations;
   edits = edits;
+  origins = origins;
   bounds = bounds;
   bitmaps = bitmap-samples;
   kinds = kind-samples;

@@ -22,6 +22,7 @@ samples = record {
   p1-lists = refl;
   p2-octets = refl;
   p2-numbers = refl;
+  p2-lists = refl;
   p3-octets = refl;
   p3-numbers = refl;
   p3-lists = refl;

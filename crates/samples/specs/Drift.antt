@@ -27,7 +27,7 @@ two = 0x02 ∷ 0x4A ∷ 0x3A ∷ 0x80 ∷ 0x40 ∷ 0x00 ∷ 0x73 ∷ 0xE4 ∷ 0x
 
 -- the list of an edit of it, in a buffer of one octet more
 abbrev pub ofTwo : Edit → ℕ → List ℕ
-ofTwo ed i = listAfter (editMessage (two ++ (0 ∷ [])) 12 ed 0 i 6) (replicate 6 77)
+ofTwo ed i = listAfter (editMessage (two ++ (0 ∷ [])) 12 ed 0 i 9) (replicate 9 77)
 
 -- the step, spans, what carries on and what restarts, and then edits
 pub record Drift : Type 0 where
@@ -58,16 +58,16 @@ pub record Drift : Type 0 where
   pub endlessRecall : lasting (part 0 0 (c ∷ []) ∷ part 0 15 [] ∷ []) ≡ 952380 ∷ 952380 ∷ 952380 ∷ []
   -- within a pass it is carried on
   pub endlessTwo : lasting (part 0 15 (c ∷ c ∷ []) ∷ []) ≡ 952380 ∷ 952381 ∷ 952380 ∷ 952381 ∷ []
-  -- a message's list, and "entries 2 return none", "1 1 0 7 5555" and "1 1 0 7 5556", each with a line feed
-  pub cells : cellsAfter (listTone two (fitsNumbers 4)) (replicate 5 77) ≡ 1287 ∷ 5555 ∷ 1287 ∷ 5556 ∷ 77 ∷ []
-  pub text : answerOf two (replicate 4 0)
+  -- a message's list, and "entries 2 return none", "1 1 0 7 5555 0 1" and "1 1 0 7 5556 0 2", each with a line feed
+  pub cells : cellsAfter (listTone two (fitsNumbers 7)) (replicate 7 77) ≡ 1287 ∷ 5555 ∷ 1 ∷ 1287 ∷ 5556 ∷ 2 ∷ 77 ∷ []
+  pub text : answerOf two (replicate 6 0)
       ≡ (0x65 ∷ 0x6E ∷ 0x74 ∷ 0x72 ∷ 0x69 ∷ 0x65 ∷ 0x73 ∷ 0x20 ∷ 0x32 ∷ 0x20 ∷ 0x72 ∷ 0x65 ∷ 0x74 ∷ 0x75 ∷ 0x72 ∷ 0x6E ∷ 0x20 ∷ 0x6E ∷ 0x6F ∷ 0x6E ∷ 0x65 ∷ 0x0A ∷ [])
-      ++ ((0x31 ∷ 0x20 ∷ 0x31 ∷ 0x20 ∷ 0x30 ∷ 0x20 ∷ 0x37 ∷ 0x20 ∷ 0x35 ∷ 0x35 ∷ 0x35 ∷ 0x35 ∷ 0x0A ∷ [])
-      ++ (0x31 ∷ 0x20 ∷ 0x31 ∷ 0x20 ∷ 0x30 ∷ 0x20 ∷ 0x37 ∷ 0x20 ∷ 0x35 ∷ 0x35 ∷ 0x35 ∷ 0x36 ∷ 0x0A ∷ []))
+      ++ ((0x31 ∷ 0x20 ∷ 0x31 ∷ 0x20 ∷ 0x30 ∷ 0x20 ∷ 0x37 ∷ 0x20 ∷ 0x35 ∷ 0x35 ∷ 0x35 ∷ 0x35 ∷ 0x20 ∷ 0x30 ∷ 0x20 ∷ 0x31 ∷ 0x0A ∷ [])
+      ++ (0x31 ∷ 0x20 ∷ 0x31 ∷ 0x20 ∷ 0x30 ∷ 0x20 ∷ 0x37 ∷ 0x20 ∷ 0x35 ∷ 0x35 ∷ 0x35 ∷ 0x36 ∷ 0x20 ∷ 0x30 ∷ 0x20 ∷ 0x32 ∷ 0x0A ∷ []))
   -- an edit: the same tempo between the two notes restarts
-  pub inserted : ofTwo (Insert 262175) 2 ≡ 1287 ∷ 5555 ∷ 1287 ∷ 5555 ∷ 77 ∷ 77 ∷ []
+  pub inserted : ofTwo (Insert 262175) 2 ≡ 1287 ∷ 5555 ∷ 1 ∷ 1287 ∷ 5555 ∷ 3 ∷ replicate 3 77
   -- a quarter for the first: it leaves 600 of 900 parts, and the note behind it is the longer one
-  pub replaced : ofTwo (Replace c) 1 ≡ 1287 ∷ 66666 ∷ 1287 ∷ 5556 ∷ 77 ∷ 77 ∷ []
+  pub replaced : ofTwo (Replace c) 1 ≡ 1287 ∷ 66666 ∷ 1 ∷ 1287 ∷ 5556 ∷ 2 ∷ replicate 3 77
   -- without the tempo both are at 63 beats, and without the first note the second is the first
-  pub tempoDeleted : ofTwo Delete 0 ≡ 1287 ∷ 79365 ∷ 1287 ∷ 79365 ∷ 77 ∷ 77 ∷ []
-  pub noteDeleted : ofTwo Delete 1 ≡ 1287 ∷ 5555 ∷ 77 ∷ 77 ∷ 77 ∷ 77 ∷ []
+  pub tempoDeleted : ofTwo Delete 0 ≡ 1287 ∷ 79365 ∷ 0 ∷ 1287 ∷ 79365 ∷ 1 ∷ replicate 3 77
+  pub noteDeleted : ofTwo Delete 1 ≡ 1287 ∷ 5555 ∷ 1 ∷ replicate 6 77

@@ -44,20 +44,24 @@ heard ps = notesOf (listOf ps .entries)
 abbrev pub markOf : List Pattern → ℕ
 markOf ps = listOf ps .mark
 
--- the list in two-number form
+-- the list in cells
 abbrev pub cellsOf : List Pattern → List ℕ
 cellsOf ps = numbers (listOf ps .entries)
 
+-- a row before the call
+abbrev pub noEntry : Entry
+noEntry = record { note = 0; scale = 0; style = 0; volume = 0; microseconds = 0; header = 0; position = 0 }
+
 -- settings and entries, passes and marks, recalls, and then the room
 pub record Lists : Type 0 where
-  -- scale code 1, natural style, tempo code 8, volume 7, and nothing left over
-  pub start : atStart ≡ record { settings = record { scale = 1; style = 0; tempo = 8; volume = 7 }; fraction = 0 }
-  -- note × 1,024 + scale × 256 + style × 16 + volume, and the microseconds: C at the start, a pause, H with all settings at their last
-  pub first : cellsOf (part 0 0 (c ∷ []) ∷ []) ≡ 1287 ∷ 952380 ∷ []
-  pub pause : cellsOf (part 0 0 (65544 ∷ []) ∷ []) ≡ 263 ∷ 952380 ∷ []
-  pub last : cellsOf (part 0 0 (131075 ∷ 196610 ∷ 262175 ∷ 327695 ∷ 65943 ∷ []) ∷ []) ≡ 13103 ∷ 5555 ∷ []
+  -- scale code 1, natural style, tempo code 8, volume 7, nothing left over, and the first header's first instruction
+  pub start : atStart ≡ record { settings = record { scale = 1; style = 0; tempo = 8; volume = 7 }; fraction = 0; header = 0; position = 0 }
+  -- note × 1,024 + scale × 256 + style × 16 + volume, the microseconds, and the origin: C at the start, a pause, H with all settings at their last
+  pub first : cellsOf (part 0 0 (c ∷ []) ∷ []) ≡ 1287 ∷ 952380 ∷ 0 ∷ []
+  pub pause : cellsOf (part 0 0 (65544 ∷ []) ∷ []) ≡ 263 ∷ 952380 ∷ 0 ∷ []
+  pub last : cellsOf (part 0 0 (131075 ∷ 196610 ∷ 262175 ∷ 327695 ∷ 65943 ∷ []) ∷ []) ≡ 13103 ∷ 5555 ∷ 4 ∷ []
   -- and back
-  pub fields : entryAt (0 ∷ 0 ∷ 13103 ∷ 5555 ∷ []) 1 ≡ record { note = 12; scale = 3; style = 2; volume = 15; microseconds = 5555 }
+  pub fields : entryAt (0 ∷ 0 ∷ 0 ∷ 13103 ∷ 5555 ∷ 65277 ∷ []) 1 ≡ record { note = 12; scale = 3; style = 2; volume = 15; microseconds = 5555; header = 254; position = 253 }
   -- loop n sounds n + 1 times
   pub once : heard (part 0 0 (c ∷ []) ∷ []) ≡ 1 ∷ []
   pub twice : heard (part 0 1 (c ∷ []) ∷ []) ≡ 1 ∷ 1 ∷ []
@@ -78,23 +82,23 @@ pub record Lists : Type 0 where
   -- a later definition replaces the earlier one, and no other part's
   pub redefined : heard (part 3 0 (c ∷ []) ∷ part 2 0 (65544 ∷ []) ∷ part 3 0 (d ∷ []) ∷ part 3 0 [] ∷ part 2 0 [] ∷ []) ≡ 1 ∷ 0 ∷ 3 ∷ 3 ∷ 0 ∷ []
   -- settings carry on through patterns and recalls: A is recalled with the volume that B set, and not the one that it was defined with
-  pub carried : cellsOf (part 0 0 (c ∷ []) ∷ part 1 0 (327689 ∷ []) ∷ part 0 0 [] ∷ []) ≡ 1287 ∷ 952380 ∷ 1289 ∷ 952381 ∷ []
+  pub carried : cellsOf (part 0 0 (c ∷ []) ∷ part 1 0 (327689 ∷ []) ∷ part 0 0 [] ∷ []) ≡ 1287 ∷ 952380 ∷ 0 ∷ 1289 ∷ 952381 ∷ 512 ∷ []
   -- and through passes: the second pass begins with the volume that the first ended with
-  pub carriedOn : cellsOf (part 0 1 (c ∷ 327689 ∷ []) ∷ []) ≡ 1287 ∷ 952380 ∷ 1289 ∷ 952381 ∷ []
+  pub carriedOn : cellsOf (part 0 1 (c ∷ 327689 ∷ []) ∷ []) ≡ 1287 ∷ 952380 ∷ 0 ∷ 1289 ∷ 952381 ∷ 0 ∷ []
   -- each instruction sets its own: scale 2, style 1, tempo 14, volume 0, between notes
-  pub each : cellsOf (part 0 0 (131074 ∷ c ∷ 196609 ∷ c ∷ 262158 ∷ c ∷ 327680 ∷ c ∷ []) ∷ []) ≡ 1543 ∷ 952380 ∷ 1559 ∷ 952381 ∷ 1559 ∷ 480000 ∷ 1552 ∷ 480000 ∷ []
-  -- two numbers an entry and one row: exact, and one too few
-  pub room : listTone message (fitsNumbers 2) ≡ accepted (oneNote 480000)
-  pub noRoom : listTone message (fitsNumbers 1) ≡ refused 11 0
-  pub both : listTone message (fitsBoth 2 1) ≡ accepted (oneNote 480000)
-  pub noRows : listTone message (fitsBoth 2 0) ≡ refused 11 0
-  pub noNumbers : listTone message (fitsBoth 1 1) ≡ refused 11 0
+  pub each : cellsOf (part 0 0 (131074 ∷ c ∷ 196609 ∷ c ∷ 262158 ∷ c ∷ 327680 ∷ c ∷ []) ∷ []) 
+      ≡ 1543 ∷ 952380 ∷ 1 ∷ 1559 ∷ 952381 ∷ 3 ∷ 1559 ∷ 480000 ∷ 5 ∷ 1552 ∷ 480000 ∷ 7 ∷ []
+  -- three cells an entry and one row: exact, and one too few
+  pub room : listTone message (fitsNumbers 3) ≡ accepted (oneNote 480000 1)
+  pub noRoom : listTone message (fitsNumbers 2) ≡ refused 11 0
+  pub both : listTone message (fitsBoth 3 1) ≡ accepted (oneNote 480000 1)
+  pub noRows : listTone message (fitsBoth 3 0) ≡ refused 11 0
+  pub noNumbers : listTone message (fitsBoth 2 1) ≡ refused 11 0
   -- the message's refusal with its place ahead of 11, and all other numbers 0
   pub messageFirst : listNumbers (listTone (message ++ (0 ∷ [])) (fitsNumbers 0)) ≡ record { refusal = 10; place = 80; entries = 0; mark = 0 }
-  -- the numbers of P1, its cells, and its rows; what lies behind is left
-  pub p1 : listNumbers (listTone message (fitsNumbers 2)) ≡ record { refusal = 0; place = 0; entries = 1; mark = 4294967295 }
-  pub cells : cellsAfter (listTone message (fitsNumbers 3)) (77 ∷ 77 ∷ 77 ∷ []) ≡ 10503 ∷ 480000 ∷ 77 ∷ []
-  pub rows : rowsAfter (listTone message (fitsBoth 2 2)) (replicate 2 (record { note = 0; scale = 0; style = 0; volume = 0; microseconds = 0 }))
-      ≡ record { note = 10; scale = 1; style = 0; volume = 7; microseconds = 480000 } ∷ record { note = 0; scale = 0; style = 0; volume = 0; microseconds = 0 } ∷ []
+  -- the numbers of P1, its cells, and its rows; what lies behind is left, also two cells, too few for an entry
+  pub p1 : listNumbers (listTone message (fitsNumbers 3)) ≡ record { refusal = 0; place = 0; entries = 1; mark = 4294967295 }
+  pub cells : cellsAfter (listTone message (fitsNumbers 5)) (replicate 5 77) ≡ 10503 ∷ 480000 ∷ 1 ∷ 77 ∷ 77 ∷ []
+  pub rows : rowsAfter (listTone message (fitsBoth 3 2)) (replicate 2 noEntry) ≡ record { note = 10; scale = 1; style = 0; volume = 7; microseconds = 480000; header = 0; position = 1 } ∷ noEntry ∷ []
   -- P1 with loop 15: two entries, and the mark is 1
-  pub endless : listNumbers (listTone (set (set message 4 0x41) 5 0xE0) (fitsNumbers 4)) ≡ record { refusal = 0; place = 0; entries = 2; mark = 1 }
+  pub endless : listNumbers (listTone (set (set message 4 0x41) 5 0xE0) (fitsNumbers 6)) ≡ record { refusal = 0; place = 0; entries = 2; mark = 1 }

@@ -10,6 +10,7 @@ use Rattle.samples.specs.List.{Lists}
 use Rattle.samples.specs.Endless.{Endless}
 use Rattle.samples.specs.Drift.{Drift}
 use Rattle.samples.specs.Edits.{Edits}
+use Rattle.samples.specs.Origins.{Origins}
 use Rattle.samples.specs.Bounds.{Bounds}
 use Rattle.samples.specs.Text.{Texts}
 
@@ -25,6 +26,7 @@ pub record Pinned : Type 0 where
   pub drift : Drift
   pub durations : Durations
   pub edits : Edits
+  pub origins : Origins
   pub bounds : Bounds
   pub bitmaps : BitmapSamples
   pub kinds : KindSamples

@@ -77,7 +77,7 @@ pub record Titles : Type 0 where
   pub listed : listTone (spelt 0x41 9 0x42) (fitsNumbers 0) ≡ refused 21 38
   -- so has an edit, ahead of its own grounds and behind a used length beyond the buffer
   pub edited : map (λ ed. editMessage (spelt 0x41 9 0x42) 13 ed 9 9 0) (Replace 393216 ∷ Insert 393216 ∷ Delete ∷ []) ≡ replicate 3 (refused 21 38)
-  pub usedFirst : editMessage (spelt 0x41 9 0x42) 14 Delete 0 0 2 ≡ refused 1 0
+  pub usedFirst : editMessage (spelt 0x41 9 0x42) 14 Delete 0 0 3 ≡ refused 1 0
   -- writing: 21 for the same characters
   pub written : map (λ c. writes (c ∷ 0x41 ∷ [])) wreckers ≡ replicate 6 21
   pub writtenBeside : map (λ c. writes (0x41 ∷ c ∷ [])) beside ≡ replicate 4 0

@@ -6,6 +6,7 @@ pub mod Grounds
 pub mod Demand2
 pub mod Refusals
 pub mod Tables
+pub mod Positions
 pub mod Instructions
 pub mod Recalls
 pub mod Largest

@@ -3,7 +3,7 @@ use Prim.Native.Nat.{ℕ, _+_, _*_, _/_, _%_, _≤_, _<_}
 use mathlib.Core.Path.{_≡_}
 use mathlib.Core.Bool.{Bool, true, false, not, _&&_, _||_}
 use mathlib.Core.List.{List, [], _∷_, _++_}
-use lib.ListN.{length, getD, set}
+use lib.ListN.{length, getD, take, set}
 use lib.Dec.{leb, eqb}
 use Rattle.bits.specs.Choice.{pick}
 use Rattle.bits.specs.Bits.{Octets}
@@ -63,6 +63,14 @@ cells (p ∷ ps) = header p ∷ (p .body ++ cells ps)
 -- how many entries the table has
 abbrev pub entries : List Pattern → ℕ
 entries ps = length (cells ps)
+
+-- the pattern at position k; past the end none, which has no body
+abbrev pub patternAt : List Pattern → ℕ → Pattern
+patternAt ps k = getD ps k (record { id = 0; loop = 0; body = [] })
+
+-- where its header stands in the table
+abbrev pub headerCell : List Pattern → ℕ → ℕ
+headerCell ps k = entries (take k ps)
 
 -- instructions that stand under no header yet, and the patterns behind them
 pub record Gathered : Type 0 where

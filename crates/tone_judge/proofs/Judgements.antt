@@ -15,13 +15,13 @@ use Rattle.bits.specs.declared.BitPlace.{BitPlace}
 use Rattle.bits.specs.declared.OctetCount.{OctetCount}
 use Rattle.bits.proofs.Octets.{length-bitsOf}
 use Rattle.bits.specs.Places.{place, octetCount}
-use Rattle.tone.specs.Tone.{Pattern, Tone, Front, frontOf, header, cells, noneKnown}
+use Rattle.tone.specs.Tone.{Pattern, Tone, Front, frontOf, header, cells, patternAt, noneKnown}
 use Rattle.tone.specs.Writing.{frontBits, tableBits, mostOctets}
 use Rattle.tone.specs.Reading.{Got, got, bad, front, patternsDue, ending, rest, wholeTone, nothingMore, readTone}
 use Rattle.tone.proofs.Fronts.{front-exact}
 use Rattle.tone.proofs.Rows.{patterns-exact}
 use Rattle.tone.proofs.Demand2.{read-formed}
-use Rattle.edit_change.specs.Change.{withBody, patternAt}
+use Rattle.edit_change.specs.Change.{withBody}
 use Rattle.tone_elements.specs.declared.Step.the-variants.{Good, Bad}
 use Rattle.tone_elements.specs.declared.Opening.the-variants.{Opened, Closed}
 use Rattle.tone_judge.specs.declared.Whole.{Whole}

@@ -11,10 +11,10 @@ use lib.Dec.{eqb, ltb}
 use borrow.Author.Tests.{eq-eqb, ne-eqb, eqb-true, ltb-true, ltb-false}
 use Rattle.bits.specs.Choice.{pick}
 use Rattle.bits.proofs.Choice.{pick-elim}
-use Rattle.tone.specs.Tone.{Pattern, header, cells}
+use Rattle.tone.specs.Tone.{Pattern, header, cells, patternAt}
 use Rattle.tone.specs.Writing.{entryBits, tableBits}
 use Rattle.tone.proofs.Rows.{tableBits-append}
-use Rattle.edit_change.specs.Change.{bodyAfter, withBody, patternAt}
+use Rattle.edit_change.specs.Change.{bodyAfter, withBody}
 use Rattle.edit_change.specs.Answers.{groundOf}
 use Rattle.edit_change.proofs.Bodies.{length-after}
 use Rattle.edit_change.proofs.Grounds.{no-ground}

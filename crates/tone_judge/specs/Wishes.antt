@@ -7,11 +7,11 @@ use lib.ListN.{length, take, set}
 use lib.Dec.{eqb, ltb}
 use Rattle.bits.specs.Choice.{pick}
 use Rattle.bits.specs.Places.{place}
-use Rattle.tone.specs.Tone.{Pattern, header, cells}
+use Rattle.tone.specs.Tone.{Pattern, header, cells, patternAt}
 use Rattle.tone.specs.Writing.{tableBits}
 use Rattle.tone_elements.specs.Answers.{notes}
 use Rattle.edit_change.specs.declared.Edit.the-variants.{Delete}
-use Rattle.edit_change.specs.Change.{removed, bodyAfter, withBody, patternAt}
+use Rattle.edit_change.specs.Change.{removed, bodyAfter, withBody}
 use Rattle.edit_change.specs.Answers.{groundOf}
 use Rattle.tone_judge.specs.declared.Wish.{Wish}
 use Rattle.tone_judge.specs.declared.Cut.{Cut}
