@@ -16,7 +16,7 @@ pub enum Listed {
 }
 
 // The entry at a position of a list in cells.
-fn entry_at(list: &[u32], i: usize) -> Entry
+pub fn entry_at(list: &[u32], i: usize) -> Entry
     requires { ⌜ i * entryCells + 2 < length (now list) ⌝ }
     ensures { λ r. ⌜ r ≡ entryAt (now (list .entry)) i ⌝ }
 {

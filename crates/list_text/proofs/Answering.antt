@@ -15,6 +15,7 @@ use Rattle.tone.specs.Reading.{readTone}
 use Rattle.tone.proofs.Refusals.{place-most}
 use Rattle.list.specs.declared.Listed.{Listed}
 use Rattle.list.specs.declared.Listed.the-variants.{Made, Refused}
+use Rattle.list_rules.specs.Sounding.{entryCells}
 use Rattle.list_rules.specs.Playing.{Listing, playingList}
 use Rattle.list_rules.specs.Listing.{fitsNumbers, listTone}
 use Rattle.list.specs.Promise.{ListPromise, listAnswer}
@@ -26,14 +27,14 @@ use Rattle.list_text.proofs.Texts.{added-two}
 
 -- a list that was made fits
 pub made-fits : (m list : List ℕ) {list′ : List ℕ} {r : Listed} {n k : ℕ} → ListPromise m (fitsNumbers (length list)) list list′ r → r ≡ Made n k
-    → 2 * n ≤ length list
+    → entryCells * n ≤ length list
 made-fits m list {n = n} {k} q e = go (listTone m fits) refl (sym e ∙ q .answer)
   where
     fits : Listing → Bool
     fits = fitsNumbers (length list)
 
-    go : (x : Outcome Listing) → listTone m fits ≡ x → Made n k ≡ listAnswer x → 2 * n ≤ length list
-    go (accepted g) s h = let c : n ≡ length (g .entries) = cc in rw c (leb-true (2 * length (g .entries)) (length list) (list-fitting m fits g s .0))
+    go : (x : Outcome Listing) → listTone m fits ≡ x → Made n k ≡ listAnswer x → entryCells * n ≤ length list
+    go (accepted g) s h = let c : n ≡ length (g .entries) = cc in rw c (leb-true (entryCells * length (g .entries)) (length list) (list-fitting m fits g s .0))
     go (refused i p) s h = let z : _≡_ {A = ℕ} 0 1 = cc in absurd (omega arith)
 
 -- the place of a refusal is small

@@ -7,6 +7,8 @@ use mathlib.Core.List.{List, [], _∷_, _++_, append-nil, append-assoc}
 use lib.ListN.{length, getD, take, drop, set, length-set, length-append}
 use lib.Seq.{getD-drop, take-add, take-suc, take-length, drop-cons, getD-set-same, drop-set-lt, take-set-le, take-suc-set, append-snoc, drop-drop}
 use borrow.Author.Tests.{eq-eqb, ne-eqb}
+use Rattle.list_rules.specs.declared.Entry.{Entry}
+use Rattle.list_rules.specs.Sounding.{entryCells, unpacked, entryAt}
 use Rattle.list_text.specs.Text.{Added, digits, places, number, line, lines, markText, opening, refusal}
 
 -- one octet more
@@ -22,6 +24,14 @@ added-two {a} {b} {c} {at} {p} {r} {s} {t} f g =
       long = g .long ∙ f .long;
       holds = g .holds ∙ (ap (λ (l : List ℕ). l ++ t) (f .holds) ∙ append-assoc (take at a) s t);
     }
+
+-- a text of at most so many octets is put
+abbrev pub Put : List ℕ → ℕ → List ℕ → ℕ → List ℕ → ℕ → Type 0
+Put out at text most out′ end = Added out at text out′ end × (end ≤ at + most)
+
+-- one such text behind another
+put-two : {a b c : List ℕ} {at p r : ℕ} {s t : List ℕ} (i k : ℕ) → Put a at s i b p → Put b p t k c r → Put a at (s ++ t) (i + k) c r
+put-two i k f g = (added-two (f .0) (g .0), omega (arith, f .1, g .1))
 
 -- ---- the loop of `put_digits`
 
@@ -101,51 +111,66 @@ number-put out₀ at n behind {out} {k} e t h l =
     let i : at + k < length out = omega (arith, t .long) in
     rw (sym e) (added-two t (added-one out (at + k) behind i))
 
--- five numbers are a line
-pub line-put : (a : List ℕ) (at sound us : ℕ) {b c d e f : List ℕ} {p q r s z : ℕ}
-    → Added a at (number (sound / 1024) 32) b p → Added b p (number (sound / 256 % 4) 32) c q → Added c q (number (sound / 16 % 16) 32) d r
-    → Added d r (number (sound % 16) 32) e s → Added e s (number us 10) f z → Added a at (line sound us) f z
+-- seven numbers are a line
+pub line-put : (a : List ℕ) (at : ℕ) (entry : Entry) {b c d e f g h : List ℕ} {p q r s t u z : ℕ}
+    → Put a at (number (entry .note) 32) 11 b p → Put b p (number (entry .scale) 32) 11 c q → Put c q (number (entry .style) 32) 11 d r
+    → Put d r (number (entry .volume) 32) 11 e s → Put e s (number (entry .microseconds) 32) 11 f t → Put f t (number (entry .header) 32) 11 g u
+    → Put g u (number (entry .position) 10) 11 h z → Put a at (line entry) 77 h z
 unfolding line
-line-put a at sound us t u v w x = added-two t (added-two u (added-two v (added-two w x)))
+line-put a at entry t₁ t₂ t₃ t₄ t₅ t₆ t₇ = put-two 11 66 t₁ (put-two 11 55 t₂ (put-two 11 44 t₃ (put-two 11 33 t₄ (put-two 11 22 t₅ (put-two 11 11 t₆ t₇)))))
 
 -- ---- the loop of `put_entries`
+
+-- the list from its entry i on
+abbrev entriesFrom : List ℕ → ℕ → List ℕ
+entriesFrom list i = drop (i * entryCells) list
 
 -- so many lines are put, and with those of the other entries they make the whole
 pub record Lining (out₀ : List ℕ) (start : ℕ) (list : List ℕ) (n : ℕ) (out : List ℕ) (at i : ℕ) : Type 0 where
   pub inside : i ≤ n
-  pub reach : at ≤ start + i * 55
+  pub reach : at ≤ start + i * 77
   pub long : length out ≡ length out₀
-  pub ends : at + length (lines (n - i) (drop (2 * i) list)) ≡ start + length (lines n list)
-  pub holds : take at out ++ lines (n - i) (drop (2 * i) list) ≡ take start out₀ ++ lines n list
+  pub ends : at + length (lines (n - i) (entriesFrom list i)) ≡ start + length (lines n list)
+  pub holds : take at out ++ lines (n - i) (entriesFrom list i) ≡ take start out₀ ++ lines n list
 
 pub line-begin : (out : List ℕ) (start : ℕ) (list : List ℕ) (n : ℕ) → Lining out start list n out start 0
 line-begin out start list n =
     let z : n - 0 ≡ n = omega arith in
     record { inside = omega arith; reach = omega arith; long = refl; ends = rw z refl; holds = rw z refl }
 
-pub line-turn : (out₀ : List ℕ) (start : ℕ) (list : List ℕ) (n : ℕ) {out : List ℕ} {at i : ℕ} {out′ : List ℕ} {r : ℕ} → Lining out₀ start list n out at i → i < n
-    → Added out at (line (getD list (2 * i) 0) (getD list (2 * i + 1) 0)) out′ r → r ≤ at + 55 → Lining out₀ start list n out′ r (i + 1)
+-- the first entry from entry i on is entry i
+entry-from : (list : List ℕ) (i : ℕ) → entryAt (entriesFrom list i) 0 ≡ entryAt list i
+entry-from list i =
+    let at : ℕ = i * entryCells in
+    let o : at + 0 ≡ at = omega arith in
+    let first = getD-drop at list 0 0 ∙ ap (λ (j : ℕ). getD list j 0) o in
+    let second = getD-drop at list 1 0 in
+    let third = getD-drop at list 2 0 in
+    λ j. unpacked (first j) (second j) (third j)
+
+-- the lines from entry i on are its own and those from the next on
+lines-from : (list : List ℕ) (n i : ℕ) → i < n → lines (n - i) (entriesFrom list i) ≡ line (entryAt list i) ++ lines (n - (i + 1)) (entriesFrom list (i + 1))
 unfolding lines
-line-turn out₀ start list n {out} {at} {i} {out′} {r} t h a b =
-    let L : List ℕ = drop (2 * i) list in
+lines-from list n i h =
     let e : n - i ≡ suc (n - (i + 1)) = omega (arith, h) in
-    let o : 2 * i + 0 ≡ 2 * i = omega arith in
-    let g : getD L 0 0 ≡ getD list (2 * i) 0 = getD-drop (2 * i) list 0 0 ∙ ap (λ (j : ℕ). getD list j 0) o in
-    let g′ : getD L 1 0 ≡ getD list (2 * i + 1) 0 = getD-drop (2 * i) list 1 0 in
-    let f : 2 * i + 2 ≡ 2 * (i + 1) = omega arith in
-    let d : drop 2 L ≡ drop (2 * (i + 1)) list = drop-drop 2 (2 * i) list ∙ ap (λ (j : ℕ). drop j list) f in
-    let w : lines (n - i) L ≡ line (getD list (2 * i) 0) (getD list (2 * i + 1) 0) ++ lines (n - (i + 1)) (drop (2 * (i + 1)) list) =
-    rw (e, sym g, sym g′, sym d) refl in
-    let x : length (lines (n - i) L) ≡ length (line (getD list (2 * i) 0) (getD list (2 * i + 1) 0)) + length (lines (n - (i + 1)) (drop (2 * (i + 1)) list)) =
-    ap length w ∙ length-append (line (getD list (2 * i) 0) (getD list (2 * i + 1) 0)) (lines (n - (i + 1)) (drop (2 * (i + 1)) list)) in
+    let f : i * entryCells + entryCells ≡ (i + 1) * entryCells = omega arith in
+    let d : drop entryCells (entriesFrom list i) ≡ entriesFrom list (i + 1) = drop-drop entryCells (i * entryCells) list ∙ ap (λ (j : ℕ). drop j list) f in
+    rw e (ap₂ (λ (x : Entry) (l : List ℕ). line x ++ lines (n - (i + 1)) l) (entry-from list i) d)
+
+pub line-turn : (out₀ : List ℕ) (start : ℕ) (list : List ℕ) (n : ℕ) {out : List ℕ} {at i : ℕ} {entry : Entry} {out′ : List ℕ} {r : ℕ}
+    → Lining out₀ start list n out at i → i < n → entry ≡ entryAt list i → Added out at (line entry) out′ r → r ≤ at + 77 → Lining out₀ start list n out′ r (i + 1)
+line-turn out₀ start list n {out} {at} {i} {entry} {out′} {r} t h e a b =
+    let rest : List ℕ = lines (n - (i + 1)) (entriesFrom list (i + 1)) in
+    let w : lines (n - i) (entriesFrom list i) ≡ line entry ++ rest = lines-from list n i h ∙ ap (λ (x : Entry). line x ++ rest) (sym e) in
+    let x : length (lines (n - i) (entriesFrom list i)) ≡ length (line entry) + length rest = ap length w ∙ length-append (line entry) rest in
     record {
       inside = omega (arith, h);
       reach = omega (arith, t .reach, b);
       long = a .long ∙ t .long;
       ends = omega (arith, t .ends, a .ends, x);
       holds =
-          ap (λ (l : List ℕ). l ++ lines (n - (i + 1)) (drop (2 * (i + 1)) list)) (a .holds)
-          ∙ (append-assoc (take at out) (line (getD list (2 * i) 0) (getD list (2 * i + 1) 0)) (lines (n - (i + 1)) (drop (2 * (i + 1)) list))
+          ap (λ (l : List ℕ). l ++ rest) (a .holds)
+          ∙ (append-assoc (take at out) (line entry) rest
           ∙ (ap (λ (l : List ℕ). take at out ++ l) (sym w) ∙ t .holds));
     }
 
@@ -154,9 +179,9 @@ pub line-end : (out₀ : List ℕ) (start : ℕ) (list : List ℕ) (n : ℕ) {ou
 unfolding lines
 line-end out₀ start list n {out} {at} {i} t h =
     let z : n - i ≡ 0 = omega (arith, h) in
-    let y : lines (n - i) (drop (2 * i) list) ≡ [] = rw z refl in
+    let y : lines (n - i) (entriesFrom list i) ≡ [] = rw z refl in
     record {
-      ends = sym (add-nothing at (lines (n - i) (drop (2 * i) list)) y) ∙ t .ends;
+      ends = sym (add-nothing at (lines (n - i) (entriesFrom list i)) y) ∙ t .ends;
       long = t .long;
       holds = sym (append-nil (take at out)) ∙ (ap (λ (l : List ℕ). take at out ++ l) (sym y) ∙ t .holds);
     }
@@ -164,9 +189,9 @@ line-end out₀ start list n {out} {at} {i} t h =
     add-nothing : (a : ℕ) (l : List ℕ) → l ≡ [] → a + length l ≡ a
     add-nothing a l e = rw e (omega arith)
 
--- the buffer has room for the next line, and the list has its numbers
+-- the buffer has room for the next line
 pub line-room : {out₀ : List ℕ} {start : ℕ} {list : List ℕ} {n : ℕ} {out : List ℕ} {at i : ℕ} → Lining out₀ start list n out at i → i < n
-    → (start + n * 55 ≤ length out₀) × (n * 2 ≤ length list) → at + 55 ≤ length out
+    → (start + n * 77 ≤ length out₀) × (n * entryCells ≤ length list) → at + 77 ≤ length out
 line-room t h l = omega (arith, t .reach, t .long, l .0)
 
 pub ruleset lining = (line-begin, line-turn, line-end, line-room)

@@ -2,9 +2,11 @@
 use Prim.Native.Nat.{ℕ, zero, suc, _+_, _/_, _%_}
 use mathlib.Core.Path.{_≡_}
 use mathlib.Core.List.{List, [], _∷_, _++_}
-use lib.ListN.{length, getD, take, drop}
+use lib.ListN.{length, take, drop}
 use lib.Dec.{ltb, eqb}
 use Rattle.bits.specs.Choice.{pick}
+use Rattle.list_rules.specs.declared.Entry.{Entry}
+use Rattle.list_rules.specs.Sounding.{entryCells, entryAt}
 use Rattle.list_rules.specs.Listing.{listTone, fitsNumbers}
 use Rattle.list.specs.Promise.{listAnswer, cellsAfter}
 use Rattle.list.specs.declared.Listed.{Listed}
@@ -43,14 +45,21 @@ number n behind = digits (places n) n ++ (behind ∷ [])
 
 -- ---- lines
 
--- an entry: note, scale, style, volume, microseconds
-unfoldable pub line : ℕ → ℕ → List ℕ
-line sound us = number (sound / 1024) 32 ++ (number (sound / 256 % 4) 32 ++ (number (sound / 16 % 16) 32 ++ (number (sound % 16) 32 ++ number us 10)))
+-- an entry: note, scale, style, volume, microseconds, and its origin, the header's position and the instruction's
+unfoldable pub line : Entry → List ℕ
+line e =
+    number (e .note) 32
+    ++ (number (e .scale) 32
+    ++ (number (e .style) 32
+    ++ (number (e .volume) 32
+    ++ (number (e .microseconds) 32
+    ++ (number (e .header) 32
+    ++ number (e .position) 10)))))
 
 -- the first n entries of a list
 unfoldable pub lines : ℕ → List ℕ → List ℕ
 lines zero l = []
-lines (suc n) l = line (getD l 0 0) (getD l 1 0) ++ lines n (drop 2 l)
+lines (suc n) l = line (entryAt l 0) ++ lines n (drop entryCells l)
 
 -- "none" for no return mark
 unfoldable pub markText : ℕ → List ℕ

@@ -2,10 +2,12 @@
 ghost use mathlib.Core.Path.{_≡_};
 ghost use Prim.Native.Nat.{_+_, _*_, _%_, _≤_};
 ghost use lib.ListN.{length};
+ghost use Rattle.list_rules.specs.Sounding.{entryCells};
 ghost use Rattle.list_text.specs.Text.{Added, digits, places as placesOf, number, line, lines, markText, opening, refusal, answerOf};
 use bits::BitPlace;
 use bits::OctetCount;
 use list::Listed;
+use list_rules::Entry;
 
 // ---- numbers
 
@@ -81,17 +83,19 @@ fn put_number(out: &mut [u8], at: OctetCount, n: u32, behind: u8) -> OctetCount
 
 // ---- lines
 
-// Puts a line for an entry behind the text.
-fn put_entry(out: &mut [u8], at: OctetCount, sound: u32, microseconds: u32) -> OctetCount
-    requires { ⌜ at .0 + 55 ≤ length (now out) ⌝ }
-    ensures { λ r. ⌜ Added (now (out .entry)) (at .0) (line sound microseconds) (now (out .exit)) (r .0) ⌝ }
-    ensures { λ r. ⌜ r .0 ≤ at .0 + 55 ⌝ }
+// Puts a line for an entry behind the text: seven numbers, of at most eleven octets each.
+fn put_entry(out: &mut [u8], at: OctetCount, entry: Entry) -> OctetCount
+    requires { ⌜ at .0 + 77 ≤ length (now out) ⌝ }
+    ensures { λ r. ⌜ Added (now (out .entry)) (at .0) (line entry) (now (out .exit)) (r .0) ⌝ }
+    ensures { λ r. ⌜ r .0 ≤ at .0 + 77 ⌝ }
 {
-    let at = put_number(out, at, sound / 1024, b' ');
-    let at = put_number(out, at, sound / 256 % 4, b' ');
-    let at = put_number(out, at, sound / 16 % 16, b' ');
-    let at = put_number(out, at, sound % 16, b' ');
-    put_number(out, at, microseconds, b'\n')
+    let at = put_number(out, at, entry.note, b' ');
+    let at = put_number(out, at, entry.scale, b' ');
+    let at = put_number(out, at, entry.style, b' ');
+    let at = put_number(out, at, entry.volume, b' ');
+    let at = put_number(out, at, entry.microseconds, b' ');
+    let at = put_number(out, at, entry.header, b' ');
+    put_number(out, at, entry.position, b'\n')
 }
 
 // Puts octets behind the text.
@@ -111,14 +115,14 @@ fn put_text(out: &mut [u8], at: OctetCount, src: &[u8]) -> OctetCount
 
 // Puts the lines for the first entries of a list behind the text.
 fn put_entries(out: &mut [u8], start: OctetCount, list: &[u32], entries: usize) -> OctetCount
-    requires { ⌜ (start .0 + entries * 55 ≤ length (now out)) × (entries * 2 ≤ length (now list)) ⌝ }
+    requires { ⌜ (start .0 + entries * 77 ≤ length (now out)) × (entries * entryCells ≤ length (now list)) ⌝ }
     ensures { λ r. ⌜ Added (now (out .entry)) (start .0) (lines entries (now (list .entry))) (now (out .exit)) (r .0) ⌝ }
     ensures { λ r. ⌜ r .0 ≤ length (now (out .exit)) ⌝ }
 {
     let mut at = start;
     let mut i = 0;
     while i < entries {
-        at = put_entry(out, at, list[2 * i], list[2 * i + 1]);
+        at = put_entry(out, at, list::entry_at(list, i));
         i += 1;
     }
     at
@@ -163,9 +167,10 @@ fn put_refusal(out: &mut [u8], number: u32, place: BitPlace) -> OctetCount
 
 // ---- the whole text
 
-// Makes a message's list and puts the answer into the buffer as text.
+// Makes a message's list and puts the answer into the buffer as text. An entry has three cells and a line of at most 77
+// octets, so 26 octets for each cell are enough.
 pub fn answer(msg: &[u8], list: &mut [u32], text: &mut [u8]) -> OctetCount
-    requires { ⌜ length (now list) * 28 + 64 ≤ length (now text) ⌝ }
+    requires { ⌜ length (now list) * 26 + 64 ≤ length (now text) ⌝ }
     ensures { λ r. ⌜ Added (now (text .entry)) 0 (answerOf (now (msg .entry)) (now (list .entry))) (now (text .exit)) (r .0) ⌝ }
     ensures { λ r. ⌜ r .0 ≤ length (now (text .exit)) ⌝ }
 {

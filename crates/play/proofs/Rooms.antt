@@ -14,5 +14,5 @@ pub still-long : (n : ℕ) {at end : ℕ} {text out : List ℕ} → Added (repli
 still-long n t = zeros-long n ∙ sym (t .long)
 
 -- the text of a list has room where the numbers say so
-pub text-room : (n k : ℕ) → n * 28 + 64 ≤ k → length (replicate {A = ℕ} n 0) * 28 + 64 ≤ length (replicate {A = ℕ} k 0)
+pub text-room : (n k : ℕ) → n * 26 + 64 ≤ k → length (replicate {A = ℕ} n 0) * 26 + 64 ≤ length (replicate {A = ℕ} k 0)
 text-room n k h = rw (length-replicate {A = ℕ} n 0, length-replicate {A = ℕ} k 0) h

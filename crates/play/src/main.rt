@@ -66,13 +66,13 @@ fn write_text(text: &[u8], n: OctetCount)
     }
 }
 
-// Prints the answer to a message, the first octets of a buffer. There is room for 4,096 entries of two numbers, and for 28
-// octets of text for each number.
+// Prints the answer to a message, the first octets of a buffer. There is room for 4,096 entries of three cells, and for 26
+// octets of text for each cell.
 fn show(buf: &[u8], n: OctetCount)
     requires { ⌜ n .0 ≤ length (now buf) ⌝ }
 {
-    let mut list = [0u32; 8192];
-    let mut text = [0u8; 229440];
+    let mut list = [0u32; 12288];
+    let mut text = [0u8; 319552];
     let end = list_text::answer(&buf[..n.0], &mut list, &mut text);
     write_text(&text, end);
 }

@@ -14,26 +14,8 @@ abbrev μ-loop : tie.MeasureT-loop
 loop-holds : tie.Need-loop-holds Inv-loop μ-loop
 loop-holds c = search (lining, needs)
 
-mul-put-entry : tie.Need-mul-put-entry Inv-loop μ-loop
-mul-put-entry c = search (lining, needs)
-
-mul-put-entry-2 : tie.Need-mul-put-entry-2 Inv-loop μ-loop
-mul-put-entry-2 c = search (lining, needs)
-
-shared-slice-read-put-entry : tie.Need-shared-slice-read-put-entry Inv-loop μ-loop
-shared-slice-read-put-entry c = search (lining, needs)
-
-mul-put-entry-3 : tie.Need-mul-put-entry-3 Inv-loop μ-loop
-mul-put-entry-3 c = search (lining, needs)
-
-add-put-entry : tie.Need-add-put-entry Inv-loop μ-loop
-add-put-entry c = search (lining, needs)
-
-mul-put-entry-4 : tie.Need-mul-put-entry-4 Inv-loop μ-loop
-mul-put-entry-4 c = search (lining, needs)
-
-shared-slice-read-put-entry-2 : tie.Need-shared-slice-read-put-entry-2 Inv-loop μ-loop
-shared-slice-read-put-entry-2 c = search (lining, needs)
+entry-at-requires : tie.Need-entry-at-requires Inv-loop μ-loop
+entry-at-requires c κs = search (lining, needs)
 
 put-entry-requires : tie.Need-put-entry-requires Inv-loop μ-loop
 put-entry-requires c κs = search (lining, needs)
@@ -60,13 +42,7 @@ put-entries-spec =
     Inv-loop
     μ-loop
     loop-holds
-    mul-put-entry
-    mul-put-entry-2
-    shared-slice-read-put-entry
-    mul-put-entry-3
-    add-put-entry
-    mul-put-entry-4
-    shared-slice-read-put-entry-2
+    entry-at-requires
     put-entry-requires
     add-i
     loop-less

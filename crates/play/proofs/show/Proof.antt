@@ -10,16 +10,16 @@ slice-aggregate-answer : tie.Need-slice-aggregate-answer
 slice-aggregate-answer c = sym (length-take-le _ _ (c .before .before .pre))
 
 slice-aggregate-answer-2 : tie.Need-slice-aggregate-answer-2
-slice-aggregate-answer-2 c = zeros-long 8192
+slice-aggregate-answer-2 c = zeros-long 12288
 
 slice-aggregate-answer-3 : tie.Need-slice-aggregate-answer-3
-slice-aggregate-answer-3 c = zeros-long 229440
+slice-aggregate-answer-3 c = zeros-long 319552
 
 answer-requires : tie.Need-answer-requires
-answer-requires c κs = text-room 8192 229440 (lit≤ tt)
+answer-requires c κs = text-room 12288 319552 (lit≤ tt)
 
 slice-aggregate-write-text : tie.Need-slice-aggregate-write-text
-slice-aggregate-write-text c = still-long 229440 (c .before .before .before .answer .ensures .0)
+slice-aggregate-write-text c = still-long 319552 (c .before .before .before .answer .ensures .0)
 
 write-text-requires : tie.Need-write-text-requires
 write-text-requires c κs = c .before .before .before .answer .ensures .1
