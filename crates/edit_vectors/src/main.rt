@@ -232,14 +232,14 @@ fn call(line: &[u8], hand: InHand, buf: &mut [u8], list: &mut [u32], blank: &mut
 fn message(
     line: &[u8],
     buf: &mut [u8; 4200],
-    list: &mut [u32; 6000],
-    blank: &mut [u32; 6000],
+    list: &mut [u32; 9000],
+    blank: &mut [u32; 9000],
 ) -> InHand
     requires { ⌜ 2 ≤ length (now line) ⌝ }
 {
     *buf = [119u8; 4200];
-    *list = [7u32; 6000];
-    *blank = [7u32; 6000];
+    *list = [7u32; 9000];
+    *blank = [7u32; 9000];
     let octets = vectors::word(line, 2);
     let cells = vectors::word(line, octets.next);
     InHand {
@@ -268,8 +268,8 @@ fn act(
     line: &[u8],
     hand: InHand,
     buf: &mut [u8; 4200],
-    list: &mut [u32; 6000],
-    blank: &mut [u32; 6000],
+    list: &mut [u32; 9000],
+    blank: &mut [u32; 9000],
 ) -> InHand {
     if line.len() < 2 {
         return hand;
@@ -294,8 +294,8 @@ fn act(
 // Does what each line of a text says.
 fn run(text: &[u8]) {
     let mut buf = [119u8; 4200];
-    let mut list = [7u32; 6000];
-    let mut blank = [7u32; 6000];
+    let mut list = [7u32; 9000];
+    let mut blank = [7u32; 9000];
     let mut hand = InHand {
         used: 0,
         octets: 0,

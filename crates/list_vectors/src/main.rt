@@ -4,13 +4,13 @@
 // The cases are lines of standard input, each a letter, a space and words with one space between:
 //
 //   # ..           a remark, passed over
-//   o HEX          puts a message in hand
-//   l ROOM NAME    lists the message in hand, with so many cells lent of a row of 64, which are all 7 ahead of the call
+//   o HEX          puts octets of a message behind those in hand
+//   l ROOM NAME    lists the message in hand, with so many cells lent of a row of 96, which are all 7 ahead of the call
 //
 // A call leaves nothing in hand.
 //
-// A line of output has the name, the room, the numbers of the answer, the cells of the list, and a digest of all 64 cells,
-// so that a change beyond the list shows.
+// A line of output has the name, the room, the numbers of the answer, the cells of the list, three an entry, and a digest of
+// all 96 cells, so that a change beyond the list shows.
 //
 //   NAME, ROOM: refusal place entries mark: cells: digest
 ghost use Prim.Native.Nat.{_≤_};
@@ -40,7 +40,7 @@ fn show_answer(answer: Listed) -> u32 {
 // Prints so many entries of a row, as far as there are, and the digest of the whole row.
 fn show_row(row: &[u32], entries: u32) {
     io::write_all(1, b":");
-    let end = 2 * entries as usize;
+    let end = list_rules::ENTRY_CELLS * entries as usize;
     if end <= row.len() {
         vectors::cells(&row[0..end]);
     }
@@ -80,12 +80,12 @@ fn list_case(line: &[u8], octets: &[u8], used: usize)
     io::write_all(1, b",");
     vectors::number(room.value);
     io::write_all(1, b":");
-    let mut row = [7u32; 64];
+    let mut row = [7u32; 96];
     lend(&octets[0..used], &mut row, room.value as usize);
 }
 
 // Does what a line says, and answers how many octets are then in hand.
-fn act(line: &[u8], used: usize, octets: &mut [u8; 64]) -> usize {
+fn act(line: &[u8], used: usize, octets: &mut [u8; 1024]) -> usize {
     if line.len() < 2 {
         return used;
     }
@@ -102,7 +102,7 @@ fn act(line: &[u8], used: usize, octets: &mut [u8; 64]) -> usize {
 
 // Does what each line of a text says.
 fn run(text: &[u8]) {
-    let mut octets = [0u8; 64];
+    let mut octets = [0u8; 1024];
     let mut used = 0;
     let mut at = 0;
     while at < text.len() {

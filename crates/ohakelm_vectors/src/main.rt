@@ -22,9 +22,10 @@
 //   o KIND WIDTH HEIGHT OCTETS NAME                         writes one of the image, the codes and the date in hand
 //
 // What is in hand stays until something else is put there; a letter alone puts none. Ahead of a call all octets lent are
-// 77, all cells 7, and each record is 101 to 105. A line of output has the name, the numbers of the answer, and each buffer
-// that was lent, whole. Of each call there is a case whose answer has no number twice, refusal and place aside, and one that
-// is refused where the call can refuse, so that two numbers cannot change places unseen.
+// 77, all cells 7, and each record is 101 to 107. A line of output has the name, the numbers of the answer, and each buffer
+// that was lent, whole; of more than 48 octets it has the digest. Of each call there is a case whose answer has no number
+// twice, refusal and place aside, and one that is refused where the call can refuse, so that two numbers cannot change
+// places unseen.
 ghost use Prim.Native.Nat.{_≤_};
 ghost use lib.ListN.{length};
 use bitmap_answers::BitmapAnswer;
@@ -89,6 +90,8 @@ fn show_entry(entry: Entry) {
     vectors::number(entry.style as u64);
     vectors::number(entry.volume as u64);
     vectors::number(entry.microseconds as u64);
+    vectors::number(entry.header as u64);
+    vectors::number(entry.position as u64);
 }
 
 // Prints what an edit answers.
@@ -173,6 +176,8 @@ fn both_forms(msg: &[u8], cells: &mut [u32]) {
         style: 103,
         volume: 104,
         microseconds: 105,
+        header: 106,
+        position: 107,
     };
     let records = fill_records(msg, cells, [blank; 4]);
     show_lent(cells);
@@ -219,7 +224,7 @@ fn edit(
 // The same of a message in its buffer, with so many octets and so many cells lent.
 fn lend_edit(
     which: u64,
-    msg: [u8; 64],
+    msg: [u8; 1024],
     used: usize,
     octets: usize,
     cells: usize,
@@ -229,7 +234,7 @@ fn lend_edit(
 ) {
     let mut buf = msg;
     let mut list = [7u32; 64];
-    if 64 < octets || 64 < cells {
+    if 1024 < octets || 64 < cells {
         return;
     }
     edit(
@@ -340,7 +345,7 @@ fn list_case(line: &[u8], msg: &[u8])
 }
 
 // Edits a message as a line says.
-fn edit_case(line: &[u8], msg: &[u8; 64], used: usize)
+fn edit_case(line: &[u8], msg: &[u8; 1024], used: usize)
     requires { ⌜ 2 ≤ length (now line) ⌝ }
 {
     let which = vectors::word(line, 2);
@@ -404,7 +409,7 @@ fn draw_case(line: &[u8], image: &[u8], mcc: &[u8], mnc: &[u8], date: &[u8])
 }
 
 // Makes the call on a tone that a line says.
-fn tone_call(line: &[u8], hand: InHand, octets: &[u8; 64], first: &[u8], cells: &[u32])
+fn tone_call(line: &[u8], hand: InHand, octets: &[u8; 1024], first: &[u8], cells: &[u32])
     requires { ⌜ 2 ≤ length (now line) ⌝ }
 {
     let letter = line[0];
@@ -437,7 +442,7 @@ fn tone_call(line: &[u8], hand: InHand, octets: &[u8; 64], first: &[u8], cells: 
 fn call(
     line: &[u8],
     hand: InHand,
-    octets: &[u8; 64],
+    octets: &[u8; 1024],
     first: &[u8],
     second: &[u8],
     third: &[u8],
@@ -472,7 +477,7 @@ fn call(
 fn put(
     line: &[u8],
     hand: InHand,
-    octets: &mut [u8; 64],
+    octets: &mut [u8; 1024],
     first: &mut [u8; 32],
     second: &mut [u8; 32],
     third: &mut [u8; 32],
@@ -483,7 +488,7 @@ fn put(
     let mut h = hand;
     let letter = line[0];
     if letter == b'a' {
-        *octets = [119u8; 64];
+        *octets = [119u8; 1024];
         h.octets = vectors::add_octets(line, 2, octets, 0);
         return h;
     }
@@ -507,7 +512,7 @@ fn put(
 fn act(
     line: &[u8],
     hand: InHand,
-    octets: &mut [u8; 64],
+    octets: &mut [u8; 1024],
     first: &mut [u8; 32],
     second: &mut [u8; 32],
     third: &mut [u8; 32],
@@ -533,7 +538,7 @@ fn act(
 
 // Does what each line of a text says.
 fn run(text: &[u8]) {
-    let mut octets = [119u8; 64];
+    let mut octets = [119u8; 1024];
     let mut first = [0u8; 32];
     let mut second = [0u8; 32];
     let mut third = [0u8; 32];
