@@ -18,10 +18,11 @@ use Rattle.tone.specs.Writing.{entryBits, tableBits, frontBits, songBits, endBi
 use Rattle.tone.specs.Reading.{readTone}
 use Rattle.tone.proofs.Rows.{tableBits-append}
 use Rattle.tone.proofs.Demand2.{written-is-accepted}
+use Rattle.tone.proofs.Positions.{sound-at}
 use Rattle.edit_change.specs.declared.Edit.{Edit}
 use Rattle.edit_change.specs.declared.Edit.the-variants.{Replace, Insert, Delete}
 use Rattle.edit_change.specs.Change.{carried, removed, bodyAfter, withBody, changed, isNew, carriesNew, inBody, isThere, empties, overfills, headerPlace, instructionPlace}
-use Rattle.edit_change.proofs.Bodies.{cells-append, fits, carried-instructions, changed-formed, sound-at, front-same}
+use Rattle.edit_change.proofs.Bodies.{cells-append, fits, carried-instructions, changed-formed, front-same}
 use Rattle.edit.specs.Editing.{bodyLength, editTone}
 
 -- ---- the bits ahead of the edited instruction

@@ -20,6 +20,7 @@ use Rattle.tone.specs.Tone.{Pattern, Tone, Front, frontOf, specifier, header, c
 use Rattle.tone.specs.Writing.{entryBits, tableBits, frontBits}
 use Rattle.tone.specs.Reading.{readTone}
 use Rattle.tone.proofs.Rows.{tableBits-append, header-small, header-wide}
+use Rattle.tone.proofs.Positions.{sound-at}
 use Rattle.tone_judge.specs.declared.Wish.{Wish}
 use Rattle.tone_judge.specs.declared.Cut.{Cut}
 use Rattle.tone_judge.specs.declared.Total.{Total}
@@ -33,7 +34,7 @@ use Rattle.tone_read.proofs.Told.{Told, told}
 use Rattle.edit_change.specs.declared.Edit.{Edit}
 use Rattle.edit_change.specs.Change.{carried, removed, bodyAfter, withBody, changed, carriesNew, inBody, empties, overfills, headerPlace}
 use Rattle.edit_change.specs.Answers.{Puts, groundOf}
-use Rattle.edit_change.proofs.Bodies.{Fits as FitsEdit, length-after, body-instructions, cells-append, changed-formed, front-same, sound-at}
+use Rattle.edit_change.proofs.Bodies.{Fits as FitsEdit, length-after, body-instructions, cells-append, changed-formed, front-same}
 use Rattle.edit_change.proofs.Grounds.{no-ground}
 use Rattle.edit_build.specs.declared.Piece.{Piece}
 use Rattle.edit.specs.declared.Outline.{Outline}

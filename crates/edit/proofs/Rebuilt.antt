@@ -12,12 +12,13 @@ use Rattle.tone.specs.Table.{kind, payload, width}
 use Rattle.tone.specs.Tone.{Pattern, Tone, frontOf, header, cells, patternAt, noneKnown, Sound}
 use Rattle.tone.specs.Writing.{entryBits, tableBits, frontBits, songBits}
 use Rattle.tone.proofs.Rows.{tableBits-append, header-small, header-wide}
+use Rattle.tone.proofs.Positions.{sound-at}
 use Rattle.tone_read.proofs.Told.{Told}
 use Rattle.edit_build.specs.Anew.{joined}
 use Rattle.edit_change.specs.declared.Edit.{Edit}
 use Rattle.edit_change.specs.Change.{carried, removed, bodyAfter, withBody, changed, headerPlace}
 use Rattle.edit_change.specs.Answers.{Puts}
-use Rattle.edit_change.proofs.Bodies.{cells-append, sound-at, front-same}
+use Rattle.edit_change.proofs.Bodies.{cells-append, front-same}
 
 -- ---- cutting a row of bits
 

@@ -94,11 +94,6 @@ sequence-set known (p ∷ ps) zero b h l some least most each =
     (s′, d′ .0, subst (λ (x : List Bool). Sequence x ps) (d .1 ∙ sym (d′ .1)) (h .2))
 sequence-set known (p ∷ ps) (suc k) b h l some least most each = (h .0, h .1, sequence-set (learn known (header p)) ps k b (h .2) (omega arith) some least most each)
 
-pub sound-at : (known : List Bool) (ps : List Pattern) (k : ℕ) → Sequence known ps → k < length ps → Sound (patternAt ps k)
-sound-at known [] k h l = let z : ⊥ = omega arith in absurd z
-sound-at known (p ∷ ps) zero h l = h .0
-sound-at known (p ∷ ps) (suc k) h l = sound-at (learn known (header p)) ps k (h .2) (omega arith)
-
 -- ---- the tone
 
 pub front-same : (ed : Edit) (k i : ℕ) (t : Tone) → frontOf (changed ed k i t) ≡ frontOf t

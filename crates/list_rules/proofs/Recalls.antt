@@ -1,5 +1,6 @@
 -- A recall is listed as a definition with the nearest earlier body of its id.
-use Prim.Native.Nat.{ℕ, _<_}
+use Prim.Native.Nat.{ℕ, zero, suc, _<_}
+use native.Mathlib.Omega.{arith}
 use mathlib.Core.Path.{_≡_, refl, sym, ap, _∙_}
 use mathlib.Core.Bool.{Bool, true, false}
 use mathlib.Core.List.{List, [], _∷_, _++_}
@@ -9,7 +10,7 @@ use lib.Dec.{eqb}
 use borrow.Author.Tests.{eqb-true, eqb-false}
 use Rattle.bits.specs.Choice.{pick}
 use Rattle.bits.proofs.Choice.{pick-elim}
-use Rattle.tone.specs.Tone.{Pattern, header, noneKnown, learn, Sound, Sequence}
+use Rattle.tone.specs.Tone.{Pattern, header, patternAt, noneKnown, learn, Sound, Sequence}
 use Rattle.tone.proofs.Rows.{header-small, pattern-header}
 use Rattle.list_rules.specs.Sounding.{atStart}
 use Rattle.list_rules.specs.Playing.{patternPlayed, play}
@@ -73,6 +74,55 @@ places-hold-nearest id h ps =
 pub later-replaces : (id : ℕ) (before : List Pattern) (p : Pattern) (between : List Pattern) → defines id p ≡ true → nearest id between ≡ unknown → nearest id (before ++ p ∷ between) ≡ known (p .body)
 later-replaces id [] p between h k = rw (k, h)
 later-replaces id (q ∷ before) p between h k = ap (λ (r : Remembered). orElse r (bodyFor id q)) (later-replaces id before p between h k)
+
+-- ---- the nearest definition by its position
+
+-- the pattern at position d is the last of some patterns that define an id
+pub record Nearest (id : ℕ) (ps : List Pattern) (d : ℕ) : Type 0 where
+  pub there : d < length ps
+  pub definition : defines id (patternAt ps d) ≡ true
+  pub last : (k : ℕ) → d < k → k < length ps → defines id (patternAt ps k) ≡ false
+
+neither : (a b : Remembered) → orElse a b ≡ unknown → (a ≡ unknown) × (b ≡ unknown)
+neither unknown b h = (refl, h)
+neither (known x) b h = let z : _≡_ {A = ℕ} 0 1 = cc in absurd (omega arith)
+
+undefined : (t : Bool) (b : List ℕ) → pick t (known b) unknown ≡ unknown → t ≡ false
+undefined true b h = let z : _≡_ {A = ℕ} 0 1 = cc in absurd (omega arith)
+undefined false b h = refl
+
+defined : (t : Bool) (a b : List ℕ) → pick t (known a) unknown ≡ known b → (t ≡ true) × (a ≡ b)
+defined true a b h = (refl, cc)
+defined false a b h = let z : _≡_ {A = ℕ} 0 1 = cc in absurd (omega arith)
+
+-- where there is no nearest body, none defines the id
+nearest-none : (id : ℕ) (ps : List Pattern) → nearest id ps ≡ unknown → (k : ℕ) → k < length ps → defines id (patternAt ps k) ≡ false
+nearest-none id [] h k l = absurd (omega arith)
+nearest-none id (p ∷ ps) h zero l = undefined (defines id p) (p .body) (neither (nearest id ps) (bodyFor id p) h .1)
+nearest-none id (p ∷ ps) h (suc k) l = nearest-none id ps (neither (nearest id ps) (bodyFor id p) h .0) k (omega arith)
+
+-- the nearest body is that of the nearest definition
+pub nearest-at : (id : ℕ) (ps : List Pattern) (b : List ℕ) → nearest id ps ≡ known b → (d : ℕ) × Nearest id ps d × (patternAt ps d .body ≡ b)
+nearest-at id [] b h = let z : _≡_ {A = ℕ} 0 1 = cc in absurd (omega arith)
+nearest-at id (p ∷ ps) b h = go (nearest id ps) refl (λ c e. nearest-at id ps c e) h
+  where
+    go : (a : Remembered) → nearest id ps ≡ a → ((c : List ℕ) → nearest id ps ≡ known c → (d : ℕ) × Nearest id ps d × (patternAt ps d .body ≡ c)) → orElse a (bodyFor id p) ≡ known b
+        → (d : ℕ) × Nearest id (p ∷ ps) d × (patternAt (p ∷ ps) d .body ≡ b)
+    go unknown none more e =
+        let w = defined (defines id p) (p .body) b e in
+        (0, record { there = omega arith; definition = w .0; last = behind (nearest-none id ps none) }, w .1)
+      where
+        behind : ((k : ℕ) → k < length ps → defines id (patternAt ps k) ≡ false) → (k : ℕ) → 0 < k → k < length (p ∷ ps) → defines id (patternAt (p ∷ ps) k) ≡ false
+        behind f zero l m = absurd (omega arith)
+        behind f (suc k) l m = f k (omega arith)
+    go (known c) some more e =
+        let w = more c some in
+        let n = w .1 in
+        (suc (w .0), record { there = omega (arith, n .there); definition = n .definition; last = behind (w .0) (n .last) }, w .2 ∙ cc)
+      where
+        behind : (d : ℕ) → ((k : ℕ) → d < k → k < length ps → defines id (patternAt ps k) ≡ false) → (k : ℕ) → suc d < k → k < length (p ∷ ps) → defines id (patternAt (p ∷ ps) k) ≡ false
+        behind d f zero l m = absurd (omega arith)
+        behind d f (suc k) l m = f k (omega arith) (omega arith)
 
 -- ---- a recall
 

@@ -1,11 +1,12 @@
--- The tone table by positions: a header stands behind all patterns ahead of it, and its instructions follow it in turn.
+-- A tone and its table by positions: a header stands behind all patterns ahead of it, and its instructions follow it in turn.
 use Prim.Native.Nat.{ℕ, zero, suc, _+_, _<_}
 use native.Mathlib.Omega.{arith}
 use mathlib.Core.Path.{_≡_, refl, ap, _∙_}
+use mathlib.Core.Bool.{Bool}
 use mathlib.Core.List.{List, [], _∷_, _++_}
 use lib.ListN.{length, getD, take, length-append, List·getD-append}
 use lib.Seq.{getD-append-add}
-use Rattle.tone.specs.Tone.{Pattern, header, cells, patternAt, headerCell}
+use Rattle.tone.specs.Tone.{Pattern, header, cells, patternAt, headerCell, learn, Sound, Sequence}
 
 -- behind one pattern more
 cell-behind : (p : Pattern) (ps : List Pattern) (k i j : ℕ) → headerCell (p ∷ ps) (suc k) + i ≡ j → getD (cells (p ∷ ps)) j 0 ≡ getD (cells ps) (headerCell ps k + i) 0
@@ -28,3 +29,8 @@ instruction-there (p ∷ ps) zero i h l =
     let e : 0 + (1 + i) ≡ suc i = omega arith in
     ap (λ (n : ℕ). getD (cells (p ∷ ps)) n 0) e ∙ List·getD-append (p .body) (cells ps) 0 i l
 instruction-there (p ∷ ps) (suc k) i h l = cell-behind p ps k (1 + i) (headerCell (p ∷ ps) (suc k) + (1 + i)) refl ∙ instruction-there ps k i (omega arith) l
+
+pub sound-at : (known : List Bool) (ps : List Pattern) (k : ℕ) → Sequence known ps → k < length ps → Sound (patternAt ps k)
+sound-at known [] k h l = let z : ⊥ = omega arith in absurd z
+sound-at known (p ∷ ps) zero h l = h .0
+sound-at known (p ∷ ps) (suc k) h l = sound-at (learn known (header p)) ps k (h .2) (omega arith)
