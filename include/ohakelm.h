@@ -108,8 +108,8 @@ extern "C" {
  * refusal or a rule is new or another; CHANGELOG.md says what a caller must
  * change then. The third is raised where none is. A header goes with an archive
  * of the same first two numbers. */
-#define OHAKELM_VERSION_STRING "0.7.0"
-#define OHAKELM_VERSION 700 /* first * 10000 + second * 100 + third */
+#define OHAKELM_VERSION_STRING "0.8.0"
+#define OHAKELM_VERSION 800 /* first * 10000 + second * 100 + third */
 
 /* Answers the OHAKELM_VERSION of the archive that is linked. */
 uint32_t ohakelm_version(void);
