@@ -289,11 +289,11 @@ fn endless_input_is_refused() {
     assert_eq!(String::from_utf8_lossy(&output.stdout), "refused 1 at 0\n");
 }
 
-/// The stack that the program is said to run with, in KiB. Its arrays take 388.1
+/// The stack that the program is said to run with, in KiB. Its arrays take 364.1
 /// and a row that it writes by takes 4. The system puts the program's words and
 /// up to 8 KiB of nothing ahead of it.
 #[cfg(target_arch = "x86_64")]
-const STACK: usize = 416;
+const STACK: usize = 392;
 
 /// The emulator has a stack of its own, so this is for x86-64 alone.
 #[cfg(target_arch = "x86_64")]
