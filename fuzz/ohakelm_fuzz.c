@@ -11,8 +11,9 @@
  *
  * Checks. Both must answer alike and leave the same octets. A refusal must
  * leave all as it was. What was read must write again, what an edit lists must
- * be the list of its octets, and a deletion must undo an insertion. An endless part
- * that sounds once and is then recalled for ever must go on as it did before.
+ * be the list of its octets, and a deletion must undo an insertion. The origin of
+ * an entry must lead through the table to the note listed. An endless part that
+ * sounds once and is then recalled for ever must go on as it did before.
  * A title that was read or written must have no refused character. An icon and a
  * logo that were written must read again. Buffers end at a page that cannot be
  * touched, and guard cells stand ahead of them, so a read or a write past the end
@@ -237,8 +238,8 @@ static size_t take_rest(struct input *in)
 /* ---- Calls */
 
 #define AMPLE_TABLE 7000  /* more than the entries of 4,096 octets */
-#define AMPLE_LIST 8192   /* cells */
 #define AMPLE_ROWS 4096
+#define AMPLE_LIST (OHAKELM_ENTRY_CELLS * AMPLE_ROWS) /* cells */
 
 /* No character is 0 to 31 or 127 to 159. One of two octets is one number. */
 static void check_title(const uint8_t *title, size_t octets, bool unicode)
@@ -356,6 +357,51 @@ static void fuzz_label(struct input *in)
     check_lent(&second);
 }
 
+/* An entry of a list, by its position. */
+static const uint32_t *entry_of(const uint32_t *list, size_t position)
+{
+    return list + OHAKELM_ENTRY_CELLS * position;
+}
+
+static bool same_entries(const uint32_t *one, const uint32_t *two, size_t entries)
+{
+    return memcmp(one, two, sizeof(uint32_t) * OHAKELM_ENTRY_CELLS * entries) == 0;
+}
+
+/* Finds for each header of a table the place of the one whose body it plays.
+ * Answers how many there are. */
+static size_t find_definitions(const uint32_t *table, size_t entries, size_t *definitions)
+{
+    size_t headers = 0, nearest[4] = {0};
+    for (size_t at = 0; at < entries; at += 1 + OHAKELM_HEADER_SPECIFIER(table[at])) {
+        size_t *known = &nearest[OHAKELM_HEADER_ID(table[at])];
+        if (OHAKELM_HEADER_SPECIFIER(table[at]) > 0)
+            *known = at;
+        definitions[headers++] = *known;
+    }
+    return headers;
+}
+
+/* Each origin leads through the table to the note listed. */
+static void check_origins(struct ohakelm_tone tone, const uint32_t *table, const uint32_t *list,
+                          size_t entries)
+{
+    size_t definitions[255];
+    size_t headers = find_definitions(table, tone.entries, definitions);
+    for (size_t i = 0; i < entries; i++) {
+        const uint32_t *entry = entry_of(list, i);
+        uint32_t header = OHAKELM_LISTED_HEADER(entry[2]);
+        uint32_t position = OHAKELM_LISTED_POSITION(entry[2]);
+        check(header < headers, "an origin names a header");
+        const uint32_t *played = table + definitions[header];
+        check(position < OHAKELM_HEADER_SPECIFIER(*played), "an origin names an instruction");
+        uint32_t instruction = played[1 + position];
+        check(OHAKELM_KIND(instruction) == OHAKELM_KIND_NOTE &&
+                  OHAKELM_NOTE_VALUE(instruction) == OHAKELM_LISTED_NOTE(entry[0]),
+              "an origin leads to the note listed");
+    }
+}
+
 /* The position of the first endless header in a table, or the table's end. */
 static size_t endless_header(const uint32_t *table, size_t entries)
 {
@@ -384,9 +430,20 @@ static size_t write_recalled(struct ohakelm_tone tone, const uint8_t *title, uin
 static bool nearly_alike(const uint32_t *one, const uint32_t *two, size_t entries)
 {
     for (size_t i = 0; i < entries; i++) {
-        const uint32_t *a = one + 2 * i, *b = two + 2 * i;
+        const uint32_t *a = entry_of(one, i), *b = entry_of(two, i);
         bool near = a[1] <= b[1] + 1 && b[1] <= a[1] + 1;
-        if (a[0] != b[0] || !near)
+        if (a[0] != b[0] || !near || a[2] != b[2])
+            return false;
+    }
+    return true;
+}
+
+/* Whether a pass is like another one, but for being sounded by the next header. */
+static bool sounded_by_next(const uint32_t *one, const uint32_t *two, size_t entries)
+{
+    for (size_t i = 0; i < entries; i++) {
+        const uint32_t *a = entry_of(one, i), *b = entry_of(two, i);
+        if (a[0] != b[0] || a[1] != b[1] || a[2] != b[2] + 256)
             return false;
     }
     return true;
@@ -395,12 +452,11 @@ static bool nearly_alike(const uint32_t *one, const uint32_t *two, size_t entrie
 /* An endless part that sounds once and is then recalled for ever makes one pass
  * more. Its first pass may begin with a fraction, and both of the recall's are what
  * is behind the mark: a third pass is like the second. */
-static void check_third_pass(const uint8_t *msg, size_t count, struct ohakelm_listed made,
-                             const uint32_t *list)
+static void check_third_pass(struct ohakelm_tone tone, const uint8_t *title, uint32_t *table,
+                             struct ohakelm_listed made, const uint32_t *list)
 {
-    static uint32_t table[AMPLE_TABLE], again[AMPLE_LIST + 2 * 255];
-    static uint8_t title[30], out[OHAKELM_LARGEST_TONE];
-    struct ohakelm_tone tone = ohakelm_read(msg, count, table, AMPLE_TABLE, title, sizeof title);
+    static uint32_t again[AMPLE_LIST + OHAKELM_ENTRY_CELLS * 255];
+    static uint8_t out[OHAKELM_LARGEST_TONE];
     size_t at = endless_header(table, tone.entries);
     bool returns = made.mark != OHAKELM_NO_MARK;
     if (at == tone.entries) {
@@ -413,14 +469,28 @@ static void check_third_pass(const uint8_t *msg, size_t count, struct ohakelm_li
     struct ohakelm_listed more = ohakelm_list(out, octets, again, sizeof again / 4);
     size_t pass = returns ? made.entries - made.mark : 0;
     size_t ahead = made.entries - 2 * pass;
-    const uint32_t *second = list + 2 * (ahead + pass), *behind = again + 2 * (ahead + pass);
+    const uint32_t *once = entry_of(again, ahead), *recalled = entry_of(again, ahead + pass);
+    const uint32_t *second = entry_of(list, ahead + pass);
     check(more.refusal == 0 && more.entries == made.entries + pass,
           "an endless part has two passes");
     check(!returns || more.mark == made.entries, "the mark is on the second of them");
-    check(memcmp(again, list, 8 * ahead) == 0, "what is ahead of them is the same");
-    check(nearly_alike(again + 2 * ahead, list + 2 * ahead, pass), "the first is heard first");
-    check(memcmp(behind, second, 8 * pass) == 0, "each pass for ever restarts");
-    check(memcmp(behind + 2 * pass, second, 8 * pass) == 0, "a third pass is like the second");
+    check(same_entries(again, list, ahead), "what is ahead of them is the same");
+    check(nearly_alike(once, entry_of(list, ahead), pass), "the first is heard first");
+    check(sounded_by_next(recalled, second, pass), "each pass for ever restarts");
+    check(sounded_by_next(entry_of(recalled, pass), second, pass),
+          "a third pass is like the second");
+}
+
+/* What holds of a list that was made, held against the table of its message. */
+static void check_list(const uint8_t *msg, size_t count, struct ohakelm_listed made,
+                       const uint32_t *list)
+{
+    static uint32_t table[AMPLE_TABLE];
+    static uint8_t title[OHAKELM_LARGEST_TITLE];
+    struct ohakelm_tone tone = ohakelm_read(msg, count, table, AMPLE_TABLE, title, sizeof title);
+    check(tone.refusal == 0, "what is listed is read");
+    check_origins(tone, table, list, made.entries);
+    check_third_pass(tone, title, table, made, list);
 }
 
 static void fuzz_list(struct input *in)
@@ -436,7 +506,21 @@ static void fuzz_list(struct input *in)
     if (made.refusal != 0)
         check_untouched(&second);
     else
-        check_third_pass(first.ours, count, made, words(second.ours));
+        check_list(first.ours, count, made, words(second.ours));
+}
+
+/* The two forms of a list agree. */
+static void check_forms(const struct ohakelm_entry *rows, const uint32_t *list, size_t entries)
+{
+    for (size_t i = 0; i < entries; i++) {
+        struct ohakelm_entry row = rows[i];
+        const uint32_t *entry = entry_of(list, i);
+        check(row.note * 1024 + row.scale * 256 + row.style * 16 + row.volume == entry[0] &&
+                  row.microseconds == entry[1],
+              "the two forms agree");
+        check(row.header * 256 + row.position == entry[2] && row.position < 256,
+              "their origins agree");
+    }
 }
 
 static void fuzz_rows(struct input *in)
@@ -460,13 +544,7 @@ static void fuzz_rows(struct input *in)
         check_untouched(&second);
         check_untouched(&third);
     }
-    for (size_t i = 0; i < made.entries; i++) {
-        struct ohakelm_entry row = rows[i];
-        const uint32_t *cells = words(second.ours) + 2 * i;
-        check(row.note * 1024 + row.scale * 256 + row.style * 16 + row.volume == cells[0] &&
-                  row.microseconds == cells[1],
-              "the two forms agree");
-    }
+    check_forms(rows, words(second.ours), made.entries);
 }
 
 /* The list that an edit gave is the list of the octets that it left. */
@@ -476,15 +554,16 @@ static void check_list_of(struct ohakelm_edited done)
     struct ohakelm_listed made = ohakelm_list(first.ours, done.length, list, AMPLE_LIST);
     check(made.refusal == 0 && made.entries == done.entries && made.mark == done.mark,
           "an edit's answer is that of its octets");
-    check(memcmp(list, second.ours, 8 * done.entries) == 0, "an edit's list is that of its octets");
-    check_third_pass(first.ours, done.length, made, list);
+    check(same_entries(list, words(second.ours), done.entries),
+          "an edit's list is that of its octets");
+    check_list(first.ours, done.length, made, list);
 }
 
 /* Deleting what was inserted brings the octets back. */
 static void check_undone(struct ohakelm_edited done, size_t used, size_t pattern,
                          size_t instruction)
 {
-    static uint32_t list[AMPLE_LIST + 2 * 15 * 255 * 255];
+    static uint32_t list[OHAKELM_LARGEST_LIST];
     struct ohakelm_edited back = ohakelm_delete(first.ours, first.octets, done.length, pattern,
                                                 instruction, list, sizeof list / 4);
     check(back.refusal == 0 && back.length == used, "a deletion undoes an insertion");

@@ -47,10 +47,19 @@
  * 159 are refused. Under UNICODE the 16 bits are judged as one number: 0009 is
  * refused, and 0900 is not.
  *
- * A LIST has two numbers an entry: note * 1024 + scale * 256 + style * 16 +
- * volume, and the duration in microseconds. To play it, go through the whole
- * list, and then for ever from the entry that `mark` names to the end. Where
- * `mark` is OHAKELM_NO_MARK, the tone ends with the list.
+ * A LIST has three numbers an entry: note * 1024 + scale * 256 + style * 16 +
+ * volume, the duration in microseconds, and the origin. To play it, go through
+ * the whole list, and then for ever from the entry that `mark` names to the
+ * end. Where `mark` is OHAKELM_NO_MARK, the tone ends with the list.
+ *
+ * AN ORIGIN says which instruction sounds: header * 256 + position. The header
+ * is the position in the message of the pattern that sounds. The position is
+ * the instruction's in the body played. Both are counted from 0; settings count
+ * like notes, and each pass begins at 0 again. Macros take an origin apart. The
+ * edits take both numbers as they are, as `pattern` and `instruction`, where
+ * the pattern has a body of its own. A recall plays the body of the nearest
+ * earlier pattern of its id that has one. Its entries have the recall's header,
+ * and an edit there is refused 12.
  *
  * DURATIONS do not drift. A quarter is a beat, 60,000,000 / beats microseconds,
  * which may be no whole number. Counted from the last restart, the boundaries
@@ -99,8 +108,8 @@ extern "C" {
  * refusal or a rule is new or another; CHANGELOG.md says what a caller must
  * change then. The third is raised where none is. A header goes with an archive
  * of the same first two numbers. */
-#define OHAKELM_VERSION_STRING "0.7.0"
-#define OHAKELM_VERSION 700 /* first * 10000 + second * 100 + third */
+#define OHAKELM_VERSION_STRING "0.8.0"
+#define OHAKELM_VERSION 800 /* first * 10000 + second * 100 + third */
 
 /* Answers the OHAKELM_VERSION of the archive that is linked. */
 uint32_t ohakelm_version(void);
@@ -174,13 +183,13 @@ static inline const char *ohakelm_words(uint32_t refusal)
 #define OHAKELM_LARGEST_TABLE 6482   /* table entries */
 #define OHAKELM_LARGEST_TONE 4096    /* octets of a tone message */
 #define OHAKELM_LARGEST_ROWS 975375  /* entries of a list, as records */
-#define OHAKELM_LARGEST_LIST 1950750 /* numbers of a list, two an entry */
+#define OHAKELM_LARGEST_LIST 2926125 /* numbers of a list, three an entry */
 #define OHAKELM_LARGEST_BITMAP 7909  /* octets */
 #define OHAKELM_LARGEST_ICON 7910
 #define OHAKELM_LARGEST_LOGO 7932
 
 /* The largest list is that of a part of 255 notes with 254 recalls, all with
- * loop 14, and takes 7.8 million octets; an endless part adds two passes only.
+ * loop 14, and takes 11.7 million octets; an endless part adds two passes only.
  * Where that is too much to lend, lend what a tone is to have: OHAKELM_NO_ROOM
  * then says that one has more. */
 
@@ -226,14 +235,21 @@ enum ohakelm_kind {
 #define OHAKELM_NOTE_DURATION(note) ((note) / 4u % 8u)
 #define OHAKELM_NOTE_SPECIFIER(note) ((note) % 4u)
 
+/* How many numbers of a list an entry takes. */
+#define OHAKELM_ENTRY_CELLS 3
+
 /* The first number of a list's entry taken apart. */
 #define OHAKELM_LISTED_NOTE(first) ((first) / 1024u)
 #define OHAKELM_LISTED_SCALE(first) ((first) / 256u % 4u)
 #define OHAKELM_LISTED_STYLE(first) ((first) / 16u % 16u)
 #define OHAKELM_LISTED_VOLUME(first) ((first) % 16u)
 
+/* The third one, the origin, taken apart. */
+#define OHAKELM_LISTED_HEADER(origin) ((origin) / 256u)
+#define OHAKELM_LISTED_POSITION(origin) ((origin) % 256u)
+
 /* A list that returns nowhere has this mark. Any other is the position of an
- * entry, counted from 0, whose first number is list[2 * mark]. */
+ * entry, counted from 0, which begins at list[OHAKELM_ENTRY_CELLS * mark]. */
 #define OHAKELM_NO_MARK 4294967295u
 
 /* ---- Answers */
@@ -310,6 +326,8 @@ struct ohakelm_entry {
     uint32_t style;
     uint32_t volume;
     uint32_t microseconds;
+    uint32_t header;   /* the position of the header that sounds */
+    uint32_t position; /* the instruction's in the body played */
 };
 
 /* ---- Tones */
@@ -339,11 +357,11 @@ struct ohakelm_label_stretch ohakelm_label(const uint8_t *title,
                                            const uint8_t *stand_in,
                                            size_t stand_in_len);
 
-/* Makes the playing list of a tone message. Fills the front of `list`, two
- * numbers an entry. `list_len` counts numbers and not entries: twelve have room
- * for six entries. An endless part needs room for both passes. Answers how many
- * entries there are and to which of them the list returns. Refuses 1 to 11 and
- * 21. */
+/* Makes the playing list of a tone message. Fills the front of `list`, three
+ * numbers an entry. `list_len` counts numbers and not entries: twelve, and also
+ * fourteen, have room for four entries. An endless part needs room for both
+ * passes. Answers how many entries there are and to which of them the list
+ * returns. Refuses 1 to 11 and 21. */
 struct ohakelm_listed ohakelm_list(const uint8_t *msg, size_t msg_len,
                                    uint32_t *list, size_t list_len);
 

@@ -138,3 +138,16 @@ pub const fn listed_style(first: u32) -> u32 {
 pub const fn listed_volume(first: u32) -> u32 {
     first % 16
 }
+
+// ---- The third number of a list's entry, its origin, taken apart.
+
+/// The position in the message of the header that sounds, counted from 0. For a
+/// recall it is the recall's own.
+pub const fn listed_header(origin: u32) -> u32 {
+    origin / 256
+}
+
+/// The instruction's position in the body played, counted from 0.
+pub const fn listed_position(origin: u32) -> u32 {
+    origin % 256
+}

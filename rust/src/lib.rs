@@ -7,15 +7,16 @@
 //!
 //! ```
 //! let message = [0x02, 0x4A, 0x3A, 0x80, 0x40, 0x00, 0x51, 0xC6, 0x90, 0x00];
-//! let mut list = [0; 2];
+//! let mut list = [0; ohakelm::ENTRY_CELLS];
 //! let playing = ohakelm::list(&message, &mut list)?;
 //! assert_eq!((playing.entries, playing.mark), (1, None));
-//! assert_eq!(list, [10 * 1024 + 1 * 256 + 0 * 16 + 7, 480_000]);
+//! assert_eq!(list, [10 * 1024 + 1 * 256 + 0 * 16 + 7, 480_000, 0 * 256 + 1]);
 //! # Ok::<(), ohakelm::Refusal>(())
 //! ```
 //!
 //! To play a list, go through all of it, and then for ever from the entry at its
-//! mark to the end. Without a mark the tone ends with the list.
+//! mark to the end. Without a mark the tone ends with the list. The last number of
+//! an entry says which instruction sounds, to light it on a screen or to edit it.
 //!
 //! A [`Refusal`] has a number, which [`Refusal::kind`] names, and a place. The
 //! constants `LARGEST_..` say what to lend at most. The module [`entry`] puts
@@ -24,7 +25,7 @@
 #![no_std]
 
 use ohakelm_answers::NO_MARK;
-pub use ohakelm_answers::{Entry, Label};
+pub use ohakelm_answers::{Entry, Label, ENTRY_CELLS};
 
 pub mod entry;
 pub mod numbers;
@@ -221,9 +222,16 @@ pub fn label_stretch(title: &[u8], unicode: bool, stand_in: &[u8]) -> Label {
     numbers::label(title, unicode, stand_in)
 }
 
-/// Makes the playing list of a tone message. Fills the front of `list`, two
-/// numbers an entry: note * 1024 + scale * 256 + style * 16 + volume, and the
-/// duration in microseconds.
+/// Makes the playing list of a tone message. Fills the front of `list`,
+/// [`ENTRY_CELLS`] numbers an entry: note * 1024 + scale * 256 + style * 16 +
+/// volume, the duration in microseconds, and the origin.
+///
+/// The origin says which instruction sounds: header * 256 + position. The header is
+/// the position in the message of the pattern that sounds, and the position is the
+/// instruction's in the body played, both counted from 0. Settings count like notes,
+/// and each pass begins at 0 again. [`edit`] takes both as they are, where the
+/// pattern has a body of its own. A recall plays that of the nearest earlier pattern
+/// of its id that has one, and an edit at the recall is refused 12.
 ///
 /// Durations do not drift. A quarter is a beat, 60,000,000 / beats microseconds,
 /// which may be no whole number. Counted from the last restart, the boundaries of
@@ -245,49 +253,54 @@ pub fn label_stretch(title: &[u8], unicode: bool, stand_in: &[u8]) -> Label {
 /// An endless part needs it for both passes.
 ///
 /// ```
-/// use ohakelm::{entry, Kind};
+/// use ohakelm::{entry, Kind, ENTRY_CELLS};
 /// let message = [0x02, 0x4A, 0x3A, 0x80, 0x40, 0x00, 0x51, 0xC6, 0x90, 0x00];
-/// let mut list = [0; 2];
+/// let mut list = [0; ENTRY_CELLS];
 /// let playing = ohakelm::list(&message, &mut list)?;
 /// assert_eq!((playing.entries, playing.mark), (1, None));
-/// assert_eq!((entry::listed_note(list[0]), list[1]), (10, 480_000));
+/// let [first, microseconds, origin] = list;
+/// assert_eq!((entry::listed_note(first), microseconds), (10, 480_000));
 ///
-/// // One number has no room for an entry.
-/// let refused = ohakelm::list(&message, &mut list[..1]);
+/// // The note is behind a tempo, in the only pattern.
+/// assert_eq!((entry::listed_header(origin), entry::listed_position(origin)), (0, 1));
+///
+/// // Two numbers have no room for an entry.
+/// let refused = ohakelm::list(&message, &mut list[..2]);
 /// assert_eq!(refused.map_err(|refusal| refusal.kind()), Err(Kind::NoRoom));
 ///
 /// // A note and then volume 2, for ever: only the first round is loud.
 /// let message = [0x02, 0x4A, 0x3A, 0x80, 0x41, 0xE0, 0x44, 0x51, 0x48, 0x00];
-/// let mut list = [0; 4];
+/// let mut list = [0; 2 * ENTRY_CELLS];
 /// let playing = ohakelm::list(&message, &mut list)?;
 /// assert_eq!((playing.entries, playing.mark), (2, Some(1)));
-/// assert_eq!((entry::listed_volume(list[0]), entry::listed_volume(list[2])), (7, 2));
+/// assert_eq!((entry::listed_volume(list[0]), entry::listed_volume(list[3])), (7, 2));
 ///
 /// // Two quarters at 63 beats, each of 952,380 20/21 microseconds.
 /// let message = [0x02, 0x4A, 0x3A, 0x80, 0x40, 0x00, 0x44, 0x50, 0x45, 0x00, 0x00];
 /// ohakelm::list(&message, &mut list)?;
-/// assert_eq!((list[1], list[3]), (952_380, 952_381));
+/// assert_eq!((list[1], list[4]), (952_380, 952_381));
 /// # Ok::<(), ohakelm::Refusal>(())
 /// ```
 pub fn list(message: &[u8], list: &mut [u32]) -> Result<Playing, Refusal> {
     playing(numbers::list(message, list))
 }
 
-/// Makes the playing list in both forms. Fills the front of `list`, two numbers
-/// an entry, and the front of `rows`, one record an entry.
+/// Makes the playing list in both forms. Fills the front of `list`,
+/// [`ENTRY_CELLS`] numbers an entry, and the front of `rows`, one record an entry.
 ///
 /// # Errors
 ///
 /// Refuses 1 to 10 and 21 as [`read`] does, then 11 where either has no room.
 ///
 /// ```
-/// use ohakelm::{Entry, Kind};
+/// use ohakelm::{Entry, Kind, ENTRY_CELLS};
 /// let message = [0x02, 0x4A, 0x3A, 0x80, 0x40, 0x00, 0x51, 0xC6, 0x90, 0x00];
-/// let (mut list, mut rows) = ([0; 2], [Entry::default(); 1]);
+/// let (mut list, mut rows) = ([0; ENTRY_CELLS], [Entry::default(); 1]);
 /// let playing = ohakelm::rows(&message, &mut list, &mut rows)?;
 /// assert_eq!(playing.entries, 1);
 /// assert_eq!((rows[0].note, rows[0].scale, rows[0].volume), (10, 1, 7));
 /// assert_eq!(rows[0].microseconds, 480_000);
+/// assert_eq!((rows[0].header, rows[0].position), (0, 1));
 ///
 /// let refused = ohakelm::rows(&message, &mut list, &mut []);
 /// assert_eq!(refused.map_err(|refusal| refusal.kind()), Err(Kind::NoRoom));
@@ -299,8 +312,8 @@ pub fn rows(message: &[u8], list: &mut [u32], rows: &mut [Entry]) -> Result<Play
 
 /// Changes one instruction of the message in the first `used` octets of the
 /// buffer, and makes the new message's list. `pattern` and `instruction` are
-/// positions from 0. Octets from the new length up to the old one become 0. The
-/// rest of the buffer is room to grow.
+/// positions from 0, such as the origin of a list's entry has them. Octets from the
+/// new length up to the old one become 0. The rest of the buffer is room to grow.
 ///
 /// # Errors
 ///
@@ -309,16 +322,24 @@ pub fn rows(message: &[u8], list: &mut [u32], rows: &mut [Entry]) -> Result<Play
 /// list has no room.
 ///
 /// ```
-/// use ohakelm::{entry, Edit, Kind};
+/// use ohakelm::{entry, Edit, Kind, ENTRY_CELLS};
 /// let mut buffer = [
 ///     0x02, 0x4A, 0x3A, 0x80, 0x40, 0x00, 0x51, 0xC6, 0x90, 0x00, 0x00,
 /// ];
-/// let mut list = [0; 2];
+/// let mut list = [0; ENTRY_CELLS];
 /// let scale = Edit::Insert(entry::scale(0));
 /// let edited = ohakelm::edit(&mut buffer, 10, 0, 1, scale, &mut list)?;
 /// assert_eq!((edited.length, edited.change), (11, 1));
 /// assert_eq!(buffer[6..], [0x71, 0xC8, 0x34, 0x80, 0x00]);
 /// assert_eq!(entry::listed_scale(list[0]), 0);
+///
+/// // The note that is listed becomes a pause.
+/// let (pattern, instruction) = (entry::listed_header(list[2]), entry::listed_position(list[2]));
+/// assert_eq!((pattern, instruction), (0, 2));
+/// let (pattern, instruction) = (pattern as usize, instruction as usize);
+/// let pause = Edit::Replace(entry::note(0, 2, 0));
+/// ohakelm::edit(&mut buffer, 11, pattern, instruction, pause, &mut list)?;
+/// assert_eq!(entry::listed_note(list[0]), 0);
 ///
 /// // There is one pattern, so the position 1 has none.
 /// let refused = ohakelm::edit(&mut buffer, 11, 1, 0, Edit::Delete, &mut list);

@@ -1,5 +1,7 @@
 //! What to lend at most. It is proved that with so much lent no call refuses 11.
 
+use crate::ENTRY_CELLS;
+
 /// Octets of a title: 15 characters of two.
 pub const LARGEST_TITLE: usize = 30;
 
@@ -13,10 +15,10 @@ pub const LARGEST_TONE: usize = 4096;
 /// recalls, all with loop 14.
 pub const LARGEST_ROWS: usize = 975_375;
 
-/// Numbers of a playing list, two an entry. They take 7.8 million octets. Where
-/// that is too much to lend, lend what a tone is to have:
+/// Numbers of a playing list, [`ENTRY_CELLS`] an entry. They take 11.7 million
+/// octets. Where that is too much to lend, lend what a tone is to have:
 /// [`Kind::NoRoom`](crate::Kind::NoRoom) then says that one has more.
-pub const LARGEST_LIST: usize = 2 * LARGEST_ROWS;
+pub const LARGEST_LIST: usize = ENTRY_CELLS * LARGEST_ROWS;
 
 /// Octets of a bitmap: four of header, and 255 rows of 31.
 pub const LARGEST_BITMAP: usize = 7909;

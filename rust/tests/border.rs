@@ -289,14 +289,14 @@ fn octets_may_lie_at_any_address() {
     let p2 = octets("02 4A 3A 80 40 00 71 C8 34 80 00");
     for rest in 0..16 {
         let mut buffer = Placed::new(rest, &p1);
-        let mut list = [0; 2];
+        let mut list = [0; 3];
         // SAFETY: the pointers and numbers are those of live buffers that are apart.
         let edited = unsafe {
-            raw::ohakelm_insert(buffer.lend(), 11, 10, 0, 1, 131_072, list.as_mut_ptr(), 2)
+            raw::ohakelm_insert(buffer.lend(), 11, 10, 0, 1, 131_072, list.as_mut_ptr(), 3)
         };
         assert_eq!((edited.refusal, edited.length), (0, 11), "rest {rest}");
         assert_eq!(buffer.octets(), p2, "rest {rest}");
-        assert_eq!(list, [10 * 1024 + 7, 480_000], "rest {rest}");
+        assert_eq!(list, [10 * 1024 + 7, 480_000, 2], "rest {rest}");
         assert!(buffer.cells[..buffer.start].iter().all(|&cell| cell == OLD));
     }
 }

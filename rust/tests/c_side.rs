@@ -53,7 +53,7 @@ fn the_header_and_the_archive_are_as_the_rules_say() {
 }
 
 /// Changes of the header that the sources must find, with the one that does.
-const WRONG_HEADERS: [(&str, &str, &str); 11] = [
+const WRONG_HEADERS: [(&str, &str, &str); 15] = [
     ("(id) * 4096u", "(id) * 2048u", "entries.c"),
     ("(note) * 32u", "note * 32u", "entries.c"),
     (
@@ -62,6 +62,8 @@ const WRONG_HEADERS: [(&str, &str, &str); 11] = [
         "entries.c",
     ),
     ("(first) / 16u % 16u", "(first) / 16u % 4u", "entries.c"),
+    ("(origin) / 256u", "(origin) / 256u % 16u", "entries.c"),
+    ("(origin) % 256u", "origin % 256u", "entries.c"),
     ("(header) / 256u % 16u", "(header) / 256u", "entries.c"),
     ("\"pattern count zero\"", "\"no pattern\"", "refusals.c"),
     ("ITEM(20, ", "ITEM(19, ", "refusals.c"),
@@ -76,7 +78,13 @@ const WRONG_HEADERS: [(&str, &str, &str); 11] = [
         "#define OHAKELM_VERSION 1",
         "constants.c",
     ),
+    (
+        "OHAKELM_ENTRY_CELLS 3",
+        "OHAKELM_ENTRY_CELLS 2",
+        "constants.c",
+    ),
     ("bool unicode;  ", "size_t unicode;  ", "calls.c"),
+    ("uint32_t microseconds;", "size_t microseconds;", "calls.c"),
 ];
 
 /// The sources themselves must be able to fail.
@@ -115,14 +123,14 @@ fn another_processor_or_system_is_an_error() {
 // ---- Installing
 
 /// P1 of the rules and its list, then P2 and its list. Scale 0 changes the note
-/// from scale 1 to scale 0 and nothing else.
+/// from scale 1 to scale 0, moves it one position on, and nothing else.
 const RING: &str = "\
 02 4A 3A 80 40 00 51 C6 90 00
 entries 1 return none
-10 1 0 7 480000
+10 1 0 7 480000 0 1
 02 4A 3A 80 40 00 71 C8 34 80 00
 entries 1 return none
-10 0 0 7 480000
+10 0 0 7 480000 0 2
 ";
 
 #[test]

@@ -7,14 +7,17 @@
 
 mod support;
 
+use std::collections::BTreeMap;
 use std::panic::{catch_unwind, AssertUnwindSafe};
 use std::time::Instant;
 
 use ohakelm::LARGEST_TABLE;
-use ohakelm_answers::{Bitmap, Edited, Entry, Label, Listed, Logo, Tone, Written, NO_MARK};
+use ohakelm_answers::{Bitmap, Edited, Entry, Label, Listed, Logo, Tone, Written};
+use ohakelm_answers::{ENTRY_CELLS, NO_MARK};
 use support::codecs::{Codec, Edit, LogoParts, Obvious, Spot, ALL};
 use support::compare::Comparison;
 use support::heard::{list_of, restarts, Event, EVENTS};
+use support::origins::{apart, Patterns};
 use support::rng::{cases_set, seed_from_clock, seed_set};
 use support::tones::LARGEST_TONE;
 
@@ -86,7 +89,8 @@ fn each_refusal_came_up(comparison: &Comparison) {
 #[derive(Clone, Copy, Debug)]
 enum Fault {
     TouchesCellOnRefusal,
-    ClearsOddLastCell,
+    ClearsFirstCellLeftOver,
+    ClearsSecondCellLeftOver,
     CountsOneEntryMore,
     MarksOneEntryLate,
     PlacesRestAtId,
@@ -119,13 +123,42 @@ enum Fault {
     MarksSilentPasses,
     JudgesRoomByOnePass,
     ListsOnePass,
+    JudgesRoomByTwoCells,
+    LeavesThirdCell,
+    LeavesHeaderInRow,
+    LeavesOriginInRow,
+    ListsOldPositions,
     /// Restarts the sums of durations at an event that does not, or the reverse.
     RestartsOtherwise(Event),
+    CountsOriginsOtherwise(Miscount),
 }
 
-const FAULTS: [Fault; 34] = [
+/// A wrong way to count a header or a position.
+#[derive(Clone, Copy, Debug)]
+enum Miscount {
+    DefinitionForRecall,
+    DefinitionsAlone,
+    HeadersFromOne,
+    PlaceInTable,
+    NotesAlone,
+    PositionsFromOne,
+    OnOverPasses,
+}
+
+const MISCOUNTS: [Miscount; 7] = [
+    Miscount::DefinitionForRecall,
+    Miscount::DefinitionsAlone,
+    Miscount::HeadersFromOne,
+    Miscount::PlaceInTable,
+    Miscount::NotesAlone,
+    Miscount::PositionsFromOne,
+    Miscount::OnOverPasses,
+];
+
+const FAULTS: [Fault; 40] = [
     Fault::TouchesCellOnRefusal,
-    Fault::ClearsOddLastCell,
+    Fault::ClearsFirstCellLeftOver,
+    Fault::ClearsSecondCellLeftOver,
     Fault::CountsOneEntryMore,
     Fault::MarksOneEntryLate,
     Fault::PlacesRestAtId,
@@ -158,13 +191,19 @@ const FAULTS: [Fault; 34] = [
     Fault::MarksSilentPasses,
     Fault::JudgesRoomByOnePass,
     Fault::ListsOnePass,
+    Fault::JudgesRoomByTwoCells,
+    Fault::LeavesThirdCell,
+    Fault::LeavesHeaderInRow,
+    Fault::LeavesOriginInRow,
+    Fault::ListsOldPositions,
 ];
 
 /// The comparison itself must be able to fail, at each of these faults.
 #[test]
 fn wrong_codecs_are_found() {
     let restarts = EVENTS.map(Fault::RestartsOtherwise);
-    for fault in FAULTS.into_iter().chain(restarts) {
+    let miscounts = MISCOUNTS.map(Fault::CountsOriginsOtherwise);
+    for fault in FAULTS.into_iter().chain(restarts).chain(miscounts) {
         let wrong: &'static dyn Codec = Box::leak(Box::new(Wrong(fault)));
         let found = catch_unwind(AssertUnwindSafe(|| {
             Comparison::new(&[&Obvious, wrong], 1).run(ENOUGH_FOR_ALL);
@@ -245,21 +284,106 @@ fn rows_with_room_for_one_pass(
     list: &mut [u32],
     rows: &mut [Entry],
 ) -> Option<Listed> {
-    let whole = (list.len() + 2 * 255, rows.len() + 255);
+    let whole = (list.len() + ENTRY_CELLS * 255, rows.len() + 255);
     let (mut cells, mut records) = (vec![0; whole.0], vec![Entry::default(); whole.1]);
     let answer = Obvious.rows(message, &mut cells, &mut records);
     // As many entries are ahead of the mark as there are with one pass.
     let ahead = answer.mark as usize;
-    if answer.refusal != 0 || list.len() < 2 * ahead || rows.len() < ahead {
+    if answer.refusal != 0 || list.len() < ENTRY_CELLS * ahead || rows.len() < ahead {
         return None;
     }
     let filled = (
-        list.len().min(2 * answer.entries),
+        list.len().min(ENTRY_CELLS * answer.entries),
         rows.len().min(answer.entries),
     );
     list[..filled.0].copy_from_slice(&cells[..filled.0]);
     rows[..filled.1].copy_from_slice(&records[..filled.1]);
     Some(answer)
+}
+
+/// A list that is made where there is room for two cells an entry. It ends where
+/// the room ends.
+fn list_with_room_for_two_cells(message: &[u8], list: &mut [u32]) -> Option<Listed> {
+    let mut whole = vec![0; ENTRY_CELLS * list.len()];
+    let answer = Obvious.list(message, &mut whole);
+    if answer.refusal != 0 || list.len() < 2 * answer.entries {
+        return None;
+    }
+    list.copy_from_slice(&whole[..list.len()]);
+    Some(answer)
+}
+
+/// Puts a fault into a list that was made, and into its answer.
+fn spoil_list(fault: Fault, message: &[u8], list: &mut [u32], answer: &mut Listed) {
+    let pass = entries_of_pass(answer.entries, answer.mark);
+    let filled = ENTRY_CELLS * answer.entries;
+    let left_over = list.len() - filled;
+    match fault {
+        Fault::MarksOneEntryLate if answer.mark != NO_MARK => answer.mark += 1,
+        Fault::ClearsFirstCellLeftOver if left_over == 1 => list[filled] = 0,
+        Fault::ClearsSecondCellLeftOver if left_over == 2 => list[filled + 1] = 0,
+        Fault::MarksFirstPass => answer.mark -= pass as u32,
+        Fault::CountsOnePass => answer.entries -= pass,
+        Fault::SetsBackForSecondPass => {
+            let second = filled - ENTRY_CELLS * pass;
+            list.copy_within(second - ENTRY_CELLS * pass..second, second);
+        }
+        Fault::RestartsOtherwise(event) => {
+            let wrong = |it| restarts(it) != (it == event);
+            let cells = list_of(&table_of(message), wrong);
+            list[..cells.len()].copy_from_slice(&cells);
+        }
+        Fault::CountsOriginsOtherwise(miscount) => {
+            count_origins(miscount, &table_of(message), &mut list[..filled]);
+        }
+        _ => {}
+    }
+}
+
+/// Counts the origins of a list the wrong way.
+fn count_origins(miscount: Miscount, table: &[u32], list: &mut [u32]) {
+    let patterns = Patterns::of(table);
+    // How often each origin came up so far.
+    let mut passes: BTreeMap<u32, usize> = BTreeMap::new();
+    for entry in list.chunks_mut(ENTRY_CELLS) {
+        let pass = passes.entry(entry[2]).or_default();
+        let (header, position) = counted(miscount, table, &patterns, entry[2], *pass);
+        *pass += 1;
+        entry[2] = (header * 256 + position) as u32;
+    }
+}
+
+/// The wrong header and position for an origin, in a pass that has so many ahead of
+/// it.
+fn counted(
+    miscount: Miscount,
+    table: &[u32],
+    patterns: &Patterns,
+    origin: u32,
+    pass: usize,
+) -> (usize, usize) {
+    let (header, position) = apart(origin);
+    let definition = patterns.definition(header);
+    let place = patterns.place(definition);
+    let ahead = &table[place + 1..][..position];
+    match miscount {
+        Miscount::DefinitionForRecall => (definition, position),
+        Miscount::DefinitionsAlone => {
+            let earlier = (0..header).filter(|&it| !patterns.is_recall(it));
+            (earlier.count(), position)
+        }
+        Miscount::HeadersFromOne => (header + 1, position),
+        Miscount::PlaceInTable => (patterns.place(header), position),
+        Miscount::NotesAlone => {
+            let notes = ahead.iter().filter(|&it| it / 65536 == 1);
+            (header, notes.count())
+        }
+        Miscount::PositionsFromOne => (header, position + 1),
+        Miscount::OnOverPasses => {
+            let count = (table[place] % 256) as usize;
+            (header, position + pass * count)
+        }
+    }
 }
 
 /// The obvious implementation with one fault.
@@ -339,41 +463,35 @@ impl Codec for Wrong {
     }
 
     fn list(&self, message: &[u8], list: &mut [u32]) -> Listed {
+        let old = list.to_vec();
         let mut answer = Obvious.list(message, list);
-        if answer.refusal == 0 {
-            let pass = entries_of_pass(answer.entries, answer.mark);
-            match self.0 {
-                Fault::MarksOneEntryLate if answer.mark != u32::MAX => answer.mark += 1,
-                Fault::ClearsOddLastCell if list.len() == 2 * answer.entries + 1 => {
-                    list[2 * answer.entries] = 0
-                }
-                Fault::MarksFirstPass => answer.mark -= pass as u32,
-                Fault::CountsOnePass => answer.entries -= pass,
-                Fault::SetsBackForSecondPass => {
-                    let second = 2 * (answer.entries - pass);
-                    list.copy_within(second - 2 * pass..second, second);
-                }
-                Fault::RestartsOtherwise(event) => {
-                    let wrong = |it| restarts(it) != (it == event);
-                    let cells = list_of(&table_of(message), wrong);
-                    list[..cells.len()].copy_from_slice(&cells);
-                }
-                _ => {}
+        match (self.0, answer.refusal) {
+            (Fault::JudgesRoomByTwoCells, 11) => {
+                return list_with_room_for_two_cells(message, list).unwrap_or(answer);
             }
+            (Fault::LeavesThirdCell, 0) if answer.entries > 0 => list[2] = old[2],
+            (fault, 0) => spoil_list(fault, message, list, &mut answer),
+            _ => {}
         }
         answer
     }
 
     fn rows(&self, message: &[u8], list: &mut [u32], rows: &mut [Entry]) -> Listed {
-        let last = rows.len().wrapping_sub(1);
-        let old = rows.last().copied();
+        let old = rows.to_vec();
         let mut answer = Obvious.rows(message, list, rows);
-        match (self.0, answer.refusal, old) {
-            (Fault::LeavesOneRow, _, Some(old)) => rows[last] = old,
-            (Fault::JudgesRoomByOnePass, 11, _) => {
+        // The last one that is lent, and the last one that is filled.
+        let lent = rows.len().checked_sub(1);
+        let filled = answer.entries.checked_sub(1);
+        match (self.0, answer.refusal, lent, filled) {
+            (Fault::LeavesOneRow, _, Some(last), _) => rows[last] = old[last],
+            (Fault::LeavesHeaderInRow, 0, _, Some(last)) => rows[last].header = old[last].header,
+            (Fault::LeavesOriginInRow, 0, _, Some(last)) => {
+                rows[last].position += rows[last].header * 256;
+            }
+            (Fault::JudgesRoomByOnePass, 11, ..) => {
                 return rows_with_room_for_one_pass(message, list, rows).unwrap_or(answer);
             }
-            (Fault::MarksSilentPasses, 0, _)
+            (Fault::MarksSilentPasses, 0, ..)
                 if answer.mark == NO_MARK && has_endless_part(message) =>
             {
                 answer.mark = answer.entries as u32;
@@ -401,8 +519,17 @@ impl Codec for Wrong {
                 let pass = entries_of_pass(answer.entries, answer.mark);
                 answer.entries -= pass;
                 answer.mark -= pass as u32;
-                let left = 2 * answer.entries..2 * (answer.entries + pass);
+                let end = ENTRY_CELLS * answer.entries;
+                let left = end..end + ENTRY_CELLS * pass;
                 list[left.clone()].copy_from_slice(&old_list[left]);
+            }
+            (Fault::ListsOldPositions, 0) if matches!(edit, Edit::Insert(_)) => {
+                let inserted = (spot.pattern * 256 + spot.instruction) as u32;
+                let filled = list[..ENTRY_CELLS * answer.entries].chunks_mut(ENTRY_CELLS);
+                let behind = |origin: u32| origin > inserted && origin / 256 == inserted / 256;
+                filled
+                    .filter(|entry| behind(entry[2]))
+                    .for_each(|entry| entry[2] -= 1);
             }
             _ => {}
         }

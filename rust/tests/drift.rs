@@ -5,9 +5,11 @@
 mod support;
 
 use ohakelm::entry::{header, note, scale, style, tempo, volume};
-use ohakelm_answers::{Entry, NO_MARK};
+use ohakelm_answers::{ENTRY_CELLS, NO_MARK};
 use support::codecs::{each, Codec, Edit, Spot};
 use support::heard::{heard, list_of, restarts, EVENTS};
+use support::lists::listed;
+use support::origins::Patterns;
 use support::rng::Rng;
 use support::tones::{self, Bounds};
 
@@ -62,25 +64,8 @@ fn at_90_beats() -> Vec<u32> {
     part(D, 0, &[BEATS_90])
 }
 
-/// A message's list and its mark. Both forms of it are made and agree.
-fn listed(codec: &dyn Codec, message: &[u8]) -> (Vec<u32>, u32) {
-    const ROOM: usize = 60_000;
-    let (mut list, mut again) = (vec![0; 2 * ROOM], vec![0; 2 * ROOM]);
-    let mut rows = vec![Entry::default(); ROOM];
-    let answer = codec.list(message, &mut list);
-    assert_eq!(answer.refusal, 0, "{answer:?}");
-    assert_eq!(codec.rows(message, &mut again, &mut rows), answer);
-    assert!(again == list, "both calls make the same numbers");
-    list.truncate(2 * answer.entries);
-    for (row, entry) in rows.iter().zip(list.chunks(2)) {
-        let first = row.note * 1024 + row.scale * 256 + row.style * 16 + row.volume;
-        assert_eq!([first, row.microseconds], entry);
-    }
-    (list, answer.mark)
-}
-
 fn durations(list: &[u32]) -> Vec<u32> {
-    list.chunks(2).map(|entry| entry[1]).collect()
+    list.chunks(ENTRY_CELLS).map(|entry| entry[1]).collect()
 }
 
 /// The durations and the mark of a table.
@@ -114,7 +99,7 @@ fn a_long_tone_does_not_drift() {
     let sheet: u128 = UNITS.iter().sum();
     each(|codec| {
         let list = listed(codec, &message).0;
-        assert_eq!(list.len(), 2 * 36_000);
+        assert_eq!(list.len(), ENTRY_CELLS * 36_000);
         let mut boundary = 0;
         for (position, duration) in durations(&list).into_iter().enumerate() {
             boundary += duration as u128;
@@ -140,7 +125,7 @@ fn the_longest_lists_do_not_drift() {
     let body: Vec<u32> = (0..255).map(|k| of_length(row_in_body(k))).collect();
     let sounding = [&part(A, 14, &body)[..], &[header(A, 14, 0); 253]].concat();
     each(|codec| {
-        let mut list = vec![0; 2 * 971_550];
+        let mut list = vec![0; ENTRY_CELLS * 971_550];
         for (code, &beats) in BEATS.iter().enumerate() {
             let table = [&part(D, 0, &[tempo(code as u32)])[..], &sounding].concat();
             assert_eq!(codec.list(&temporary(&table), &mut list).entries, 971_550);
@@ -343,7 +328,7 @@ fn passes_carry_the_fraction_on() {
 /// A table with one instruction put, replaced or taken.
 fn changed(table: &[u32], (pattern, instruction): (usize, usize), edit: Edit) -> Vec<u32> {
     let mut table = table.to_vec();
-    let at = header_at(&table, pattern);
+    let at = Patterns::of(&table).place(pattern);
     let spot = at + 1 + instruction;
     match edit {
         Edit::Replace(entry) => table[spot] = entry,
@@ -359,12 +344,6 @@ fn changed(table: &[u32], (pattern, instruction): (usize, usize), edit: Edit) ->
     table
 }
 
-fn header_at(table: &[u32], pattern: usize) -> usize {
-    let headers = table.iter().enumerate().filter(|(_, &entry)| entry < 65536);
-    let mut places = headers.map(|(place, _)| place);
-    places.nth(pattern).unwrap_or(table.len())
-}
-
 /// Edits a table's message. Answers the list that the edit fills.
 fn edited(codec: &dyn Codec, table: &[u32], at: (usize, usize), edit: Edit) -> Vec<u32> {
     let mut buffer = temporary(table);
@@ -374,12 +353,12 @@ fn edited(codec: &dyn Codec, table: &[u32], at: (usize, usize), edit: Edit) -> V
         instruction: at.1,
     };
     buffer.extend([0; 2]);
-    let mut list = vec![0; 20_000];
+    let mut list = vec![0; ENTRY_CELLS * 10_000];
     let answer = codec.edit(&mut buffer, spot, edit, &mut list);
     assert_eq!(answer.refusal, 0, "{edit:?} at {spot:?} of {table:?}");
     let after = temporary(&changed(table, at, edit));
     assert_eq!(buffer[..answer.length], after);
-    list.truncate(2 * answer.entries);
+    list.truncate(ENTRY_CELLS * answer.entries);
     list
 }
 

@@ -4,9 +4,10 @@
 mod support;
 
 use ohakelm::entry::{header, note, scale, style, tempo, volume};
-use ohakelm_answers::{Edited, Entry, Listed, NO_MARK};
+use ohakelm_answers::{Edited, Entry, Listed, ENTRY_CELLS, NO_MARK};
 use support::codecs::{each, Codec, Edit, Spot};
 use support::heard::{restarts, Event, Player};
+use support::largest::origin_in_longest;
 use support::octets;
 use support::rng::Rng;
 use support::tones::{self, Bounds};
@@ -24,26 +25,34 @@ const NOTE_C: u32 = note(1, 2, 0);
 const NOTE_D: u32 = note(3, 2, 0);
 const PAUSE: u32 = note(0, 2, 0);
 
+/// An entry of a list.
+type Numbers = [u32; ENTRY_CELLS];
+
 /// They are listed so at volume 7, which is that of the start, with scale 1 and
 /// natural style: note * 1,024 + 256 + 7. The first one behind a restart is rounded
-/// down.
-const C: [u32; 2] = [1287, 952_380];
-const D: [u32; 2] = [3335, 952_380];
+/// down. It is the first instruction of the first pattern.
+const C: Numbers = [1287, 952_380, 0];
+const D: Numbers = [3335, 952_380, 0];
 
 /// The same at another volume.
-fn at(volume: u32, entry: [u32; 2]) -> [u32; 2] {
-    [entry[0] - 7 + volume, entry[1]]
+fn at(volume: u32, [first, microseconds, origin]: Numbers) -> Numbers {
+    [first - 7 + volume, microseconds, origin]
 }
 
 /// The same as the second quarter since a restart, or one of the next 19: with it
 /// the sum of so many 20/21 comes to one more.
-fn later(entry: [u32; 2]) -> [u32; 2] {
-    [entry[0], entry[1] + 1]
+fn later([first, microseconds, origin]: Numbers) -> Numbers {
+    [first, microseconds + 1, origin]
+}
+
+/// The same, sounded by another header or from another position in the body.
+fn from(header: u32, position: u32, [first, microseconds, _]: Numbers) -> Numbers {
+    [first, microseconds, header * 256 + position]
 }
 
 /// The note C as one of many quarters, so many of them behind the restart. 21
 /// quarters are 20 seconds, and then it all begins again.
-fn c_behind(quarters: usize) -> [u32; 2] {
+fn c_behind(quarters: usize) -> Numbers {
     match quarters % 21 {
         0 => C,
         _ => later(C),
@@ -64,6 +73,8 @@ const OLD_ROW: Entry = Entry {
     style: 99,
     volume: 99,
     microseconds: 99,
+    header: 99,
+    position: 99,
 };
 
 fn temporary(table: &[u32]) -> Vec<u8> {
@@ -79,7 +90,7 @@ fn with_header(id: u32, loops: u32, body: &[u32]) -> Vec<u32> {
 
 /// A message's list in both forms. With less room than it takes, both are refused
 /// and nothing changes.
-fn assert_list(codec: &dyn Codec, message: &[u8], entries: &[[u32; 2]], mark: u32) {
+fn assert_list(codec: &dyn Codec, message: &[u8], entries: &[Numbers], mark: u32) {
     let cells = entries.concat();
     let answer = Listed {
         refusal: 0,
@@ -87,7 +98,7 @@ fn assert_list(codec: &dyn Codec, message: &[u8], entries: &[[u32; 2]], mark: u3
         entries: entries.len(),
         mark,
     };
-    for room in 0..cells.len() + 3 {
+    for room in 0..=cells.len() + ENTRY_CELLS {
         let mut list = vec![OLD; room];
         let made = codec.list(message, &mut list);
         assert_made(made, answer, &list, &cells);
@@ -95,7 +106,7 @@ fn assert_list(codec: &dyn Codec, message: &[u8], entries: &[[u32; 2]], mark: u3
     for room in 0..entries.len() + 2 {
         assert_rows(codec, message, answer, entries, (cells.len(), room));
     }
-    for room in cells.len().saturating_sub(2)..cells.len() + 3 {
+    for room in cells.len().saturating_sub(ENTRY_CELLS)..=cells.len() + ENTRY_CELLS {
         assert_rows(codec, message, answer, entries, (room, entries.len()));
     }
 }
@@ -122,28 +133,31 @@ fn assert_rows(
     codec: &dyn Codec,
     message: &[u8],
     answer: Listed,
-    entries: &[[u32; 2]],
+    entries: &[Numbers],
     (numbers, records): (usize, usize),
 ) {
     let (mut list, mut rows) = (vec![OLD; numbers], vec![OLD_ROW; records]);
     let made = codec.rows(message, &mut list, &mut rows);
-    let has_room = numbers >= 2 * entries.len() && records >= entries.len();
+    let has_room = numbers >= ENTRY_CELLS * entries.len() && records >= entries.len();
     let listed = if has_room { entries } else { &[] };
+    let cells = listed.concat();
     assert_eq!(made, if has_room { answer } else { no_room() });
-    assert_eq!(list[..2 * listed.len()], listed.concat());
-    assert!(list[2 * listed.len()..].iter().all(|&cell| cell == OLD));
+    assert_eq!(list[..cells.len()], cells);
+    assert!(list[cells.len()..].iter().all(|&cell| cell == OLD));
     let expected: Vec<Entry> = listed.iter().map(|&entry| row(entry)).collect();
     assert_eq!(rows[..listed.len()], expected);
     assert!(rows[listed.len()..].iter().all(|&row| row == OLD_ROW));
 }
 
-fn row([first, microseconds]: [u32; 2]) -> Entry {
+fn row([first, microseconds, origin]: Numbers) -> Entry {
     Entry {
         note: first / 1024,
         scale: first / 256 % 4,
         style: first / 16 % 16,
         volume: first % 16,
         microseconds,
+        header: origin / 256,
+        position: origin % 256,
     }
 }
 
@@ -154,7 +168,7 @@ fn assert_edit(
     messages: [&[u8]; 2],
     (pattern, instruction): (usize, usize),
     edit: Edit,
-    entries: &[[u32; 2]],
+    entries: &[Numbers],
     mark: u32,
 ) {
     let ([before, after], cells) = (messages, entries.concat());
@@ -169,7 +183,7 @@ fn assert_edit(
     let mut left = after.to_vec();
     left.resize(used.max(after.len()), 0);
     left.resize(lent.len(), OLD_OCTET);
-    for room in 0..cells.len() + 3 {
+    for room in 0..=cells.len() + ENTRY_CELLS {
         let (mut buffer, mut list) = (lent.clone(), vec![OLD; room]);
         let done = codec.edit(&mut buffer, spot, edit, &mut list);
         let answer = Edited {
@@ -218,16 +232,16 @@ fn each_setting_at_the_end_of_an_endless_part() {
             let message = temporary(&[header(A, FOR_EVER, 2), NOTE_C, setting]);
             assert_list(codec, &message, &[C, second], 1);
         };
-        ends_with(scale(0), [1024 + 7, 952_380]);
-        ends_with(scale(3), [1024 + 3 * 256 + 7, 952_380]);
-        ends_with(style(1), [1024 + 256 + 16 + 7, 952_380]);
-        ends_with(style(2), [1024 + 256 + 2 * 16 + 7, 952_380]);
+        ends_with(scale(0), [1024 + 7, 952_380, 0]);
+        ends_with(scale(3), [1024 + 3 * 256 + 7, 952_380, 0]);
+        ends_with(style(1), [1024 + 256 + 16 + 7, 952_380, 0]);
+        ends_with(style(2), [1024 + 256 + 2 * 16 + 7, 952_380, 0]);
         // A quarter at 25, 125 and 900 beats a minute.
-        ends_with(tempo(0), [1287, 2_400_000]);
-        ends_with(tempo(14), [1287, 480_000]);
-        ends_with(tempo(31), [1287, 66_666]);
-        ends_with(volume(0), [1280, 952_380]);
-        ends_with(volume(15), [1295, 952_380]);
+        ends_with(tempo(0), [1287, 2_400_000, 0]);
+        ends_with(tempo(14), [1287, 480_000, 0]);
+        ends_with(tempo(31), [1287, 66_666, 0]);
+        ends_with(volume(0), [1280, 952_380, 0]);
+        ends_with(volume(15), [1295, 952_380, 0]);
         // What is set already changes nothing.
         for setting in [scale(1), style(0), tempo(8), volume(7)] {
             ends_with(setting, C);
@@ -241,8 +255,8 @@ fn all_settings_at_the_end_of_an_endless_part() {
         let settings = [scale(2), style(1), tempo(14), volume(3)];
         let table = [&[header(A, FOR_EVER, 6), NOTE_C, NOTE_D][..], &settings].concat();
         let second = 2 * 256 + 16 + 3;
-        let passes = [[1024 + second, 480_000], [3 * 1024 + second, 480_000]];
-        let list = [C, later(D), passes[0], passes[1]];
+        let passes = [[1024 + second, 480_000, 0], [3 * 1024 + second, 480_000, 1]];
+        let list = [C, from(0, 1, later(D)), passes[0], passes[1]];
         assert_list(codec, &temporary(&table), &list, 2);
     });
 }
@@ -253,9 +267,10 @@ fn all_settings_at_the_end_of_an_endless_part() {
 fn settings_elsewhere_in_an_endless_part() {
     each(|codec| {
         let message = temporary(&[header(A, FOR_EVER, 2), volume(2), NOTE_C]);
-        assert_list(codec, &message, &[at(2, C), at(2, C)], 1);
+        let c = from(0, 1, at(2, C));
+        assert_list(codec, &message, &[c, c], 1);
         let message = temporary(&[header(A, FOR_EVER, 3), NOTE_C, volume(9), NOTE_D]);
-        let d = later(at(9, D));
+        let d = from(0, 2, later(at(9, D)));
         assert_list(codec, &message, &[C, d, at(9, C), d], 2);
         let table = [header(A, FOR_EVER, 4), NOTE_C, volume(9), NOTE_D, volume(2)];
         let list = [C, d, at(2, C), d];
@@ -272,11 +287,11 @@ fn an_endless_part_alone() {
     each(|codec| {
         let message = temporary(&[header(A, FOR_EVER, 1), NOTE_C]);
         assert_list(codec, &message, &[C, C], 1);
-        let d = later(D);
+        let (d, again) = (from(0, 1, later(D)), from(0, 2, later(D)));
         let message = temporary(&[header(A, FOR_EVER, 2), NOTE_C, NOTE_D]);
         assert_list(codec, &message, &[C, d, C, d], 2);
         let message = temporary(&[header(A, FOR_EVER, 3), NOTE_C, NOTE_D, NOTE_D]);
-        assert_list(codec, &message, &[C, d, d, C, d, d], 3);
+        assert_list(codec, &message, &[C, d, again, C, d, again], 3);
     });
 }
 
@@ -285,12 +300,14 @@ fn an_endless_part_alone() {
 fn an_endless_part_behind_others() {
     each(|codec| {
         let message = temporary(&[header(A, 0, 1), NOTE_C, header(B, FOR_EVER, 1), NOTE_D]);
-        assert_list(codec, &message, &[C, D, D], 2);
+        let d = from(1, 0, D);
+        assert_list(codec, &message, &[C, d, d], 2);
         // The part ahead sounds twice and ends with volume 9.
         let ahead = [header(A, 1, 2), NOTE_C, volume(9)];
         let endless = [header(B, FOR_EVER, 3), NOTE_D, NOTE_C, volume(2)];
         let heard = [C, later(at(9, C))];
-        let both = [at(9, D), later(at(9, C)), at(2, D), later(at(2, C))];
+        let (d, c) = (from(1, 0, D), from(1, 1, later(C)));
+        let both = [at(9, d), at(9, c), at(2, d), at(2, c)];
         let message = temporary(&[&ahead[..], &endless].concat());
         assert_list(codec, &message, &[&heard[..], &both].concat(), 4);
         // The part ahead has no entry.
@@ -305,20 +322,21 @@ fn an_endless_part_behind_others() {
 fn an_endless_recall() {
     each(|codec| {
         let message = temporary(&[header(A, 0, 1), NOTE_C, header(A, FOR_EVER, 0)]);
-        assert_list(codec, &message, &[C, C, C], 2);
+        let c = from(1, 0, C);
+        assert_list(codec, &message, &[C, c, c], 2);
         let table = [header(A, 0, 2), NOTE_C, volume(2), header(A, FOR_EVER, 0)];
-        assert_list(codec, &temporary(&table), &[C, at(2, C), at(2, C)], 2);
+        assert_list(codec, &temporary(&table), &[C, at(2, c), at(2, c)], 2);
         // B sets another volume between the two.
         let part = [header(A, 0, 2), NOTE_C, volume(2)];
         let between = [header(B, 0, 2), NOTE_D, volume(9)];
         let recall = [header(A, FOR_EVER, 0)];
         let message = temporary(&[&part[..], &between, &recall].concat());
-        let list = [C, later(at(2, D)), at(9, C), at(2, C)];
-        assert_list(codec, &message, &list, 3);
+        let (d, c) = (from(1, 0, later(at(2, D))), from(2, 0, C));
+        assert_list(codec, &message, &[C, d, at(9, c), at(2, c)], 3);
         // The nearest definition is recalled.
         let again = [header(A, 2, 1), NOTE_D];
         let message = temporary(&[&part[..], &again, &recall].concat());
-        let (d, first) = (later(at(2, D)), at(2, D));
+        let first = from(2, 0, at(2, D));
         assert_list(codec, &message, &[C, d, d, d, first, first], 5);
     });
 }
@@ -341,7 +359,8 @@ fn nothing_is_listed_behind_an_endless_part() {
             // It is not what the endless recall plays.
             let recalled = [header(A, 0, 1), NOTE_C, header(A, FOR_EVER, 0)];
             let message = temporary(&[&recalled[..], behind].concat());
-            assert_list(codec, &message, &[C, C, C], 2);
+            let c = from(1, 0, C);
+            assert_list(codec, &message, &[C, c, c], 2);
         }
     });
 }
@@ -390,7 +409,8 @@ fn a_silent_endless_part_has_no_mark() {
             NOTE_C,
             header(B, FOR_EVER, 0),
         ];
-        assert_list(codec, &temporary(&table), &[at(9, C)], NO_MARK);
+        let c = from(1, 0, at(9, C));
+        assert_list(codec, &temporary(&table), &[c], NO_MARK);
         // An endless part that sounds, behind it, is not heard.
         let table = [
             header(B, FOR_EVER, 1),
@@ -407,7 +427,7 @@ fn a_silent_endless_part_has_no_mark() {
 fn a_pause_for_ever_has_a_mark() {
     each(|codec| {
         let message = temporary(&[header(A, FOR_EVER, 1), PAUSE]);
-        let pause = [256 + 7, 952_380];
+        let pause = [256 + 7, 952_380, 0];
         assert_list(codec, &message, &[pause, pause], 1);
     });
 }
@@ -427,7 +447,7 @@ fn the_longest_endless_list() {
     let (entries, mark) = (971_550 + 510, 971_550 + 255);
     assert!(entries < ohakelm::LARGEST_ROWS);
     each(|codec| {
-        let (mut list, mut rows) = (vec![OLD; 2 * entries], vec![OLD_ROW; entries]);
+        let (mut list, mut rows) = (vec![OLD; ENTRY_CELLS * entries], vec![OLD_ROW; entries]);
         assert_eq!(codec.list(&message, &mut list[1..]), no_room());
         assert_eq!(codec.rows(&message, &mut list, &mut rows[1..]), no_room());
         assert!(list.iter().all(|&cell| cell == OLD));
@@ -438,17 +458,21 @@ fn the_longest_endless_list() {
             entries,
             mark,
         };
-        // Two restarts, one ahead of each of the last two passes.
-        let expected: Vec<[u32; 2]> = (0..971_550)
-            .chain(0..255)
-            .chain(0..255)
-            .map(c_behind)
+        // Two restarts, one ahead of each of the last two passes. These are header
+        // 254's, behind 15 passes of each other one.
+        let behind = (0..971_550).chain(0..255).chain(0..255);
+        let expected: Vec<Numbers> = behind
+            .enumerate()
+            .map(|(entry, quarters)| {
+                let [first, microseconds, _] = c_behind(quarters);
+                [first, microseconds, origin_in_longest(entry)]
+            })
             .collect();
         assert_eq!(codec.list(&message, &mut list), answer);
-        assert!(list.chunks(2).eq(&expected));
+        assert!(list.chunks(ENTRY_CELLS).eq(&expected));
         list.fill(OLD);
         assert_eq!(codec.rows(&message, &mut list, &mut rows), answer);
-        assert!(list.chunks(2).eq(&expected));
+        assert!(list.chunks(ENTRY_CELLS).eq(&expected));
         let records = expected.iter().map(|&entry| row(entry));
         assert!(rows.iter().copied().eq(records));
     });
@@ -459,7 +483,9 @@ fn the_longest_endless_list() {
 #[test]
 fn room_counts_both_passes() {
     let message = temporary(&with_header(A, FOR_EVER, &[NOTE_C; 255]));
-    let entries: Vec<[u32; 2]> = (0..255).chain(0..255).map(c_behind).collect();
+    let pass = (0..255).map(|note| from(0, note as u32, c_behind(note)));
+    let entries: Vec<Numbers> = pass.clone().chain(pass).collect();
+    let cells = ENTRY_CELLS * 510;
     each(|codec| {
         let answer = Listed {
             refusal: 0,
@@ -467,15 +493,15 @@ fn room_counts_both_passes() {
             entries: 510,
             mark: 255,
         };
-        for room in [2 * 255, 2 * 509, 2 * 510 - 1, 2 * 510] {
+        for room in [cells / 2, cells - ENTRY_CELLS, cells - 1, cells] {
             let mut list = vec![OLD; room];
             let made = codec.list(&message, &mut list);
             assert_made(made, answer, &list, &entries.concat());
         }
-        for room in [(2 * 255, 255), (2 * 510, 255), (2 * 255, 510)] {
+        for room in [(cells / 2, 255), (cells, 255), (cells / 2, 510)] {
             assert_rows(codec, &message, answer, &entries, room);
         }
-        for room in [(2 * 510, 509), (2 * 510 - 1, 510), (2 * 510, 510)] {
+        for room in [(cells, 509), (cells - 1, 510), (cells, 510)] {
             assert_rows(codec, &message, answer, &entries, room);
         }
     });
@@ -490,7 +516,8 @@ fn edits_of_the_chime() {
         let chime = &octets(CHIME)[..];
         // 001 0011 010 00 behind the volume.
         let longer = octets("02 4A 3A 80 41 E0 64 51 48 9A 00 00");
-        let list = [C, later(at(2, D)), at(2, C), later(at(2, D))];
+        let d = from(0, 2, later(at(2, D)));
+        let list = [C, d, at(2, C), d];
         let insert = Edit::Insert(NOTE_D);
         assert_edit(codec, [chime, &longer], (0, 2), insert, &list, 2);
         // Without the volume.
@@ -514,7 +541,7 @@ fn edits_count_both_passes_for_room() {
             pattern: 0,
             instruction: 2,
         };
-        for (room, refusal) in [(0, 11), (4, 11), (6, 11), (7, 11), (8, 0), (9, 0)] {
+        for (room, refusal) in [(0, 11), (6, 11), (9, 11), (11, 11), (12, 0), (13, 0)] {
             let mut buffer = [&chime[..], &[OLD_OCTET; 2]].concat();
             let (lent, mut list) = (buffer.clone(), vec![OLD; room]);
             let done = codec.edit(&mut buffer, spot, Edit::Insert(NOTE_D), &mut list);
@@ -553,21 +580,16 @@ fn edits_of_a_body_that_is_recalled_for_ever() {
     each(|codec| {
         let before = &recalled(&[NOTE_C, volume(2)])[..];
         let longer = &recalled(&[NOTE_C, volume(2), NOTE_D])[..];
-        let (c, d) = (at(2, C), later(at(2, D)));
+        let d = later(at(2, D));
+        let (own, c, d) = (from(0, 2, d), from(1, 0, at(2, C)), from(1, 2, d));
+        let list = [C, own, c, d, c, d];
         let insert = Edit::Insert(NOTE_D);
-        assert_edit(
-            codec,
-            [before, longer],
-            (0, 2),
-            insert,
-            &[C, d, c, d, c, d],
-            4,
-        );
+        assert_edit(codec, [before, longer], (0, 2), insert, &list, 4);
         let delete = Edit::Delete;
         assert_edit(codec, [longer, before], (0, 2), delete, &[C, c, c], 2);
         let other = &recalled(&[NOTE_C, tempo(14)])[..];
         let replace = Edit::Replace(tempo(14));
-        let fast = [1287, 480_000];
+        let fast = [1287, 480_000, 256];
         assert_edit(codec, [before, other], (0, 1), replace, &[C, fast, fast], 2);
         let silent = &recalled(&[volume(2)])[..];
         assert_edit(codec, [before, silent], (0, 0), delete, &[], NO_MARK);
@@ -586,19 +608,20 @@ fn edits_ahead_of_an_endless_part_and_behind_it() {
     };
     each(|codec| {
         let before = &around(&[NOTE_D], &[NOTE_D])[..];
-        let c = at(2, C);
+        let c = from(1, 0, C);
         // Two passes of the part ahead.
         let ahead = &around(&[NOTE_C, NOTE_D], &[NOTE_D])[..];
         let insert = Edit::Insert(NOTE_C);
-        let list = [C, later(D), later(C), later(D), C, c];
+        let d = from(0, 1, later(D));
+        let list = [C, d, later(C), d, c, at(2, c)];
         assert_edit(codec, [before, ahead], (0, 0), insert, &list, 5);
         let louder = &around(&[NOTE_D, volume(9)], &[NOTE_D])[..];
-        let list = [D, later(at(9, D)), at(9, C), c];
+        let list = [D, later(at(9, D)), at(9, c), at(2, c)];
         let insert = Edit::Insert(volume(9));
         assert_edit(codec, [before, louder], (0, 1), insert, &list, 3);
         let behind = &around(&[NOTE_D], &[NOTE_C, NOTE_D])[..];
         let insert = Edit::Insert(NOTE_C);
-        let list = [D, later(D), C, c];
+        let list = [D, later(D), c, at(2, c)];
         assert_edit(codec, [before, behind], (2, 0), insert, &list, 3);
     });
 }
@@ -610,17 +633,17 @@ fn edits_ahead_of_an_endless_part_and_behind_it() {
 fn heard(list: &[u32], mark: u32, rounds: usize) -> Vec<u32> {
     let round: &[u32] = match mark {
         NO_MARK => &[],
-        mark => &list[2 * mark as usize..],
+        mark => &list[ENTRY_CELLS * mark as usize..],
     };
     [list, &round.repeat(rounds)].concat()
 }
 
 /// A message's list and its mark.
 fn listed(codec: &dyn Codec, message: &[u8]) -> (Vec<u32>, u32) {
-    let mut list = vec![OLD; 20_000];
+    let mut list = vec![OLD; ENTRY_CELLS * 10_000];
     let answer = codec.list(message, &mut list);
     assert_eq!(answer.refusal, 0);
-    list.truncate(2 * answer.entries);
+    list.truncate(ENTRY_CELLS * answer.entries);
     (list, answer.mark)
 }
 
@@ -645,13 +668,13 @@ fn rounds_from_the_mark_are_more_passes() {
             };
             let (list, mark) = listed(codec, &temporary(&[part, behind].concat()));
             let mut player = Player::at_start(restarts);
-            player.pass(&first);
+            player.pass(0, &first);
             player.meet(Event::FirstEndlessPass);
-            player.pass(endless);
+            player.pass(1, endless);
             for rounds in 0..5 {
                 // What holds of the second pass holds of each later one.
                 player.meet(Event::SecondEndlessPass);
-                player.pass(endless);
+                player.pass(1, endless);
                 let passes = player.cells();
                 assert_eq!(heard(&list, mark, rounds), passes, "{first:?} {endless:?}");
             }
@@ -688,8 +711,16 @@ fn spelled_out(table: &[u32], at: usize, passes: usize) -> Vec<u32> {
     spelled
 }
 
+/// A list with the positions of its origins and without their headers.
+fn without_headers(mut list: Vec<u32>) -> Vec<u32> {
+    for entry in list.chunks_mut(ENTRY_CELLS) {
+        entry[2] %= 256;
+    }
+    list
+}
+
 /// Any tone with an endless part is heard as if its passes were spelled out, each
-/// behind its tempo set once more.
+/// behind its tempo set once more. Only the headers are others.
 #[test]
 fn rounds_from_the_mark_are_as_if_spelled_out() {
     each(|codec| {
@@ -707,7 +738,8 @@ fn rounds_from_the_mark_are_as_if_spelled_out() {
                 let message = temporary(&spelled_out(&table, at, rounds + 2));
                 let (passes, none) = listed(codec, &message);
                 assert_eq!(none, NO_MARK);
-                assert_eq!(heard(&list, mark, rounds), passes, "{table:?}");
+                let heard = without_headers(heard(&list, mark, rounds));
+                assert_eq!(heard, without_headers(passes), "{table:?}");
             }
         }
     });
@@ -747,7 +779,8 @@ fn random_tones_have_each_kind_of_endless_part() {
 
 /// Whether the two passes at the end of a list are unlike.
 fn passes_differ(answer: &Listed, list: &[u32]) -> bool {
-    let (second, end) = (2 * answer.mark as usize, 2 * answer.entries);
+    let second = ENTRY_CELLS * answer.mark as usize;
+    let end = ENTRY_CELLS * answer.entries;
     let first = second - (end - second);
     list[first..second] != list[second..end]
 }

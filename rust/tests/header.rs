@@ -60,15 +60,50 @@ fn the_rooms_are_those_of_the_header() {
     assert_eq!(rooms.collect::<Vec<_>>(), package);
 }
 
-/// The proofs are about the numbers of this file.
+/// The files of the numbers that the proofs are about.
+const PROVED: [&str; 2] = [
+    "crates/list_rules/specs/Sounding.antt",
+    "crates/ohakelm/specs/Room.antt",
+];
+
+/// The names that these files give to numbers, in their order.
+fn proved() -> Vec<(String, usize)> {
+    let mut known = Vec::new();
+    for line in PROVED.map(text).concat().lines() {
+        let Some((name, value)) = line.split_once(" = ") else {
+            continue;
+        };
+        if let Some(number) = product(value, &known) {
+            known.push((name.to_string(), number));
+        }
+    }
+    known
+}
+
+/// A product of numbers and of names that are known. Other definitions have none.
+fn product(words: &str, known: &[(String, usize)]) -> Option<usize> {
+    let named = |word: &str| known.iter().find(|it| it.0 == word).map(|it| it.1);
+    let factors = words.split(" * ");
+    factors
+        .map(|word| word.parse().ok().or_else(|| named(word)))
+        .product()
+}
+
 #[test]
 fn the_rooms_are_those_of_the_proof() {
-    let proved = text("crates/ohakelm/specs/Room.antt");
-    let lines = proved.lines().filter_map(|line| line.split_once(" = "));
-    let rooms = lines.filter(|(name, _)| name.ends_with("Room"));
-    let rooms = rooms.map(|(name, value)| (name, number(value)));
+    let proved = proved();
+    let rooms = proved.iter().filter(|(name, _)| name.ends_with("Room"));
+    let rooms = rooms.map(|(name, room)| (&name[..], *room));
     let package = ROOMS.map(|(_, name, room)| (name, room));
     assert_eq!(rooms.collect::<Vec<_>>(), package);
+}
+
+#[test]
+fn an_entry_takes_three_cells() {
+    assert_eq!(ohakelm::ENTRY_CELLS, 3, "package");
+    assert_eq!(number(&value("OHAKELM_ENTRY_CELLS")), 3, "header");
+    let cells = proved().into_iter().find(|it| it.0 == "entryCells");
+    assert_eq!(cells.map(|it| it.1), Some(3), "proof");
 }
 
 #[test]
@@ -173,7 +208,7 @@ fn first_of_changes() -> String {
 
 /// What the header's macros are to make, what the functions make, and what is
 /// right by the rules.
-const ENTRIES: [(&str, u32, u32); 24] = [
+const ENTRIES: [(&str, u32, u32); 26] = [
     ("HEADER(3, 14, 255)", entry::header(3, 14, 255), 16_127),
     ("NOTE(12, 5, 3)", entry::note(12, 5, 3), 65_943),
     ("SCALE(3)", entry::scale(3), 131_075),
@@ -203,6 +238,13 @@ const ENTRIES: [(&str, u32, u32); 24] = [
     ("LISTED_SCALE(10535)", entry::listed_scale(10_535), 1),
     ("LISTED_STYLE(10535)", entry::listed_style(10_535), 2),
     ("LISTED_VOLUME(10535)", entry::listed_volume(10_535), 7),
+    // 254 * 256 + 253.
+    ("LISTED_HEADER(65277)", entry::listed_header(65_277), 254),
+    (
+        "LISTED_POSITION(65277)",
+        entry::listed_position(65_277),
+        253,
+    ),
 ];
 
 #[test]

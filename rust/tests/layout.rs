@@ -69,7 +69,7 @@ fn package() -> [Layout; 8] {
         layout!(Bitmap: refusal place width height black start length),
         layout!(Logo: refusal place width height black start length
             mcc_start mcc_length mnc_start mnc_length date_start date_length),
-        layout!(Entry: note scale style volume microseconds),
+        layout!(Entry: note scale style volume microseconds header position),
     ]
 }
 

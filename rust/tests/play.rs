@@ -13,7 +13,7 @@ use std::process::{Child, Command, Output, Stdio};
 use std::thread::sleep;
 use std::time::{Duration, Instant};
 
-use ohakelm_answers::NO_MARK;
+use ohakelm_answers::{ENTRY_CELLS, NO_MARK};
 use support::inputs;
 use support::octets;
 use support::rng::{seed_set, Rng};
@@ -66,7 +66,7 @@ fn given(command: &mut Command, message: &[u8], piece: usize, pause: Duration) -
 
 /// The text that a message should give.
 fn expected(message: &[u8]) -> String {
-    let mut list = vec![0; 2 * ROOM];
+    let mut list = vec![0; ENTRY_CELLS * ROOM];
     let answer = ohakelm_reference::list(message, &mut list);
     if answer.refusal != 0 {
         return format!("refused {} at {}\n", answer.refusal, answer.place);
@@ -76,13 +76,16 @@ fn expected(message: &[u8]) -> String {
         mark => mark.to_string(),
     };
     let mut text = format!("entries {} return {mark}\n", answer.entries);
-    for entry in list[..2 * answer.entries].chunks(2) {
-        let (first, microseconds) = (entry[0], entry[1]);
-        let (note, scale) = (first / 1024, first / 256 % 4);
-        let (style, volume) = (first / 16 % 16, first % 16);
-        text += &format!("{note} {scale} {style} {volume} {microseconds}\n");
-    }
+    let entries = list.chunks(ENTRY_CELLS).take(answer.entries);
+    text.extend(entries.map(|entry| line(entry[0], entry[1], entry[2])));
     text
+}
+
+fn line(first: u32, microseconds: u32, origin: u32) -> String {
+    let (note, scale) = (first / 1024, first / 256 % 4);
+    let (style, volume) = (first / 16 % 16, first % 16);
+    let (header, position) = (origin / 256, origin % 256);
+    format!("{note} {scale} {style} {volume} {microseconds} {header} {position}\n")
 }
 
 fn assert_plays(message: &[u8], piece: usize, pause: Duration) {
@@ -101,7 +104,7 @@ fn the_sample_prints_as_the_rules_say() {
     let message = octets("02 4A 3A 80 40 00 51 C6 90 00");
     let output = play(&message, usize::MAX, Duration::ZERO);
     let printed = String::from_utf8_lossy(&output.stdout);
-    assert_eq!(printed, "entries 1 return none\n10 1 0 7 480000\n");
+    assert_eq!(printed, "entries 1 return none\n10 1 0 7 480000 0 1\n");
     let output = play(&message[..9], usize::MAX, Duration::ZERO);
     let printed = String::from_utf8_lossy(&output.stdout);
     assert_eq!(printed, "refused 2 at 72\n");
@@ -117,7 +120,7 @@ fn a_title_with_a_tab_prints_its_refusal() {
     let message = octets("02 4A 3A 49 04 80 04 00 02 45 00 00");
     let output = play(&message, usize::MAX, Duration::ZERO);
     let printed = String::from_utf8_lossy(&output.stdout);
-    assert_eq!(printed, "entries 1 return none\n1 1 0 7 952380\n");
+    assert_eq!(printed, "entries 1 return none\n1 1 0 7 952380 0 0\n");
 }
 
 /// A part for ever: the note C, a quarter, and then volume 2. The first round has
@@ -127,7 +130,7 @@ fn a_chime_prints_two_rounds_and_returns_to_the_second() {
     let message = octets("02 4A 3A 80 41 E0 44 51 48 00");
     let output = play(&message, usize::MAX, Duration::ZERO);
     let printed = String::from_utf8_lossy(&output.stdout);
-    let rounds = "entries 2 return 1\n1 1 0 7 952380\n1 1 0 2 952380\n";
+    let rounds = "entries 2 return 1\n1 1 0 7 952380 0 0\n1 1 0 2 952380 0 0\n";
     assert_eq!(printed, rounds);
     // The same with scale 0 for the note: two rounds of nothing.
     let message = octets("02 4A 3A 80 41 E0 48 A4 00");
@@ -144,16 +147,27 @@ fn durations_print_as_differences_of_exact_sums() {
     let message = tones::written(2, false, &[], &[4, tempo + 31, short, short, short]);
     let output = play(&message, usize::MAX, Duration::ZERO);
     let printed = String::from_utf8_lossy(&output.stdout);
-    let three = "entries 3 return none\n1 1 0 7 5555\n1 1 0 7 5556\n1 1 0 7 5555\n";
-    assert_eq!(printed, three);
+    // They are behind the tempo.
+    let three = "1 1 0 7 5555 0 1\n1 1 0 7 5556 0 2\n1 1 0 7 5555 0 3\n";
+    assert_eq!(printed, format!("entries 3 return none\n{three}"));
     let table = [1, tempo + 11, 4096 + 15 * 256 + 1, short];
     let message = tones::written(2, false, &[], &table);
     let output = play(&message, usize::MAX, Duration::ZERO);
     let printed = String::from_utf8_lossy(&output.stdout);
-    assert_eq!(
-        printed,
-        "entries 2 return 1\n1 1 0 7 55555\n1 1 0 7 55555\n"
-    );
+    let rounds = "1 1 0 7 55555 1 0\n1 1 0 7 55555 1 0\n";
+    assert_eq!(printed, format!("entries 2 return 1\n{rounds}"));
+}
+
+/// A scale and the note C, the note D, and a recall of the first part: the last
+/// two numbers of a line are the header that sounds and the position in its body.
+#[test]
+fn origins_print_at_the_end_of_a_line() {
+    let (c, d, scale) = (65536 + 32 + 8, 65536 + 3 * 32 + 8, 2 * 65536 + 2);
+    let message = tones::written(2, false, &[], &[2, scale, c, 4096 + 1, d, 0]);
+    let output = play(&message, usize::MAX, Duration::ZERO);
+    let printed = String::from_utf8_lossy(&output.stdout);
+    let three = "1 2 0 7 952380 0 1\n3 2 0 7 952381 1 0\n1 2 0 7 952381 2 1\n";
+    assert_eq!(printed, format!("entries 3 return none\n{three}"));
 }
 
 #[test]
@@ -275,16 +289,16 @@ fn endless_input_is_refused() {
     assert_eq!(String::from_utf8_lossy(&output.stdout), "refused 1 at 0\n");
 }
 
-/// The stack that the program is said to run with, in KiB. Its arrays take 260.1
+/// The stack that the program is said to run with, in KiB. Its arrays take 364.1
 /// and a row that it writes by takes 4. The system puts the program's words and
 /// up to 8 KiB of nothing ahead of it.
 #[cfg(target_arch = "x86_64")]
-const STACK: usize = 288;
+const STACK: usize = 392;
 
 /// The emulator has a stack of its own, so this is for x86-64 alone.
 #[cfg(target_arch = "x86_64")]
 #[test]
-fn it_runs_with_288_kib_of_stack() {
+fn it_runs_with_the_stack_that_is_said() {
     let longest = tone_of_entries(ROOM);
     for message in [&longest[..], &longest[1..], &[2; LARGEST_TONE + 1]] {
         let printed = printed_within(STACK, message);

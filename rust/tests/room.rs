@@ -8,9 +8,12 @@ use ohakelm::{
     LARGEST_BITMAP, LARGEST_ICON, LARGEST_LIST, LARGEST_LOGO, LARGEST_ROWS, LARGEST_TABLE,
     LARGEST_TITLE, LARGEST_TONE,
 };
-use ohakelm_answers::{Edited, Listed, Tone, Written, NO_MARK};
+use ohakelm_answers::{Edited, Listed, Tone, Written, ENTRY_CELLS, NO_MARK};
 use support::codecs::{each, Edit, LogoParts, Spot};
-use support::largest::{behind, fullest, longest, parts, temporary, IMAGE, NOTE_C};
+use support::largest::{
+    behind, fullest, longest, origin_in_longest, parts, temporary, IMAGE, NOTE_C,
+};
+use support::origins::apart;
 use support::tones::written;
 
 /// What lies in a lent cell before a call, and in a lent octet.
@@ -135,8 +138,25 @@ fn quarter(ahead: usize) -> u32 {
 
 /// Whether each entry is the note C with the settings at the start.
 fn is_full(list: &[u32]) -> bool {
-    let mut entries = list.chunks(2).enumerate();
-    entries.all(|(position, numbers)| numbers == [1024 + 256 + 7, quarter(position)])
+    let mut entries = list.chunks(ENTRY_CELLS).enumerate();
+    entries.all(|(position, numbers)| {
+        let origin = origin_in_longest(position);
+        numbers == [1024 + 256 + 7, quarter(position), origin]
+    })
+}
+
+/// The same entry as a record.
+fn row(position: usize) -> Entry {
+    let (header, in_body) = apart(origin_in_longest(position));
+    Entry {
+        note: 1,
+        scale: 1,
+        style: 0,
+        volume: 7,
+        microseconds: quarter(position),
+        header: header as u32,
+        position: in_body as u32,
+    }
 }
 
 fn is_old(list: &[u32]) -> bool {
@@ -145,7 +165,7 @@ fn is_old(list: &[u32]) -> bool {
 
 #[test]
 fn the_largest_list_is_made() {
-    assert_eq!(LARGEST_LIST, 1_950_750);
+    assert_eq!(LARGEST_LIST, 2_926_125);
     let message = longest();
     each(|codec| {
         let mut list = vec![OLD; LARGEST_LIST];
@@ -170,13 +190,6 @@ fn the_largest_rows_are_made() {
         assert_eq!(answer, refused_list());
         assert!(is_old(&list) && rows.iter().all(|row| *row == old));
         assert_eq!(codec.rows(&message, &mut list, &mut rows), LISTED);
-        let row = |position| Entry {
-            note: 1,
-            scale: 1,
-            style: 0,
-            volume: 7,
-            microseconds: quarter(position),
-        };
         let expected = (0..LARGEST_ROWS).map(row);
         assert!(is_full(&list) && rows.iter().copied().eq(expected));
     });

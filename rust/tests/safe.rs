@@ -1,6 +1,6 @@
 //! The safe functions of the package, as a caller uses them.
 
-use ohakelm::{Edit, Edited, Entry, Kind, Playing, Refusal, Tone};
+use ohakelm::{Edit, Edited, Entry, Kind, Playing, Refusal, Tone, ENTRY_CELLS};
 
 const P1: [u8; 10] = [0x02, 0x4A, 0x3A, 0x80, 0x40, 0x00, 0x51, 0xC6, 0x90, 0x00];
 
@@ -58,7 +58,7 @@ fn a_title_with_a_tab_is_refused() {
         refusal.to_string(),
         "refused 21 at 38: a title character 0 to 31 or 127 to 159"
     );
-    let (mut list, mut rows) = ([0; 2], [Entry::default(); 1]);
+    let (mut list, mut rows) = ([0; ENTRY_CELLS], [Entry::default(); 1]);
     let read = ohakelm::read(&message, &mut [0; 2], &mut [0; 2]);
     assert_eq!(read, Err(refusal));
     assert_eq!(ohakelm::list(&message, &mut list), Err(refusal));
@@ -78,11 +78,12 @@ fn both_forms_of_the_list() {
         entries: 1,
         mark: None,
     };
-    let (mut list, mut rows) = ([0; 2], [Entry::default(); 1]);
+    let (mut list, mut rows) = ([0; ENTRY_CELLS], [Entry::default(); 1]);
     assert_eq!(ohakelm::list(&P1, &mut list), Ok(one));
     assert_eq!(ohakelm::rows(&P1, &mut list, &mut rows), Ok(one));
-    assert_eq!(list, [10503, 480_000]);
+    assert_eq!(list, [10503, 480_000, 1]);
     assert_eq!((rows[0].note, rows[0].microseconds), (10, 480_000));
+    assert_eq!((rows[0].header, rows[0].position), (0, 1));
     // The same part for ever has two passes and returns to the second.
     let mut endless = P1;
     endless[4] |= 1;
@@ -92,12 +93,12 @@ fn both_forms_of_the_list() {
         mark: Some(1),
     };
     assert_eq!(number(ohakelm::list(&endless, &mut list)), 11);
-    let mut list = [0; 4];
+    let mut list = [0; 2 * ENTRY_CELLS];
     assert_eq!(ohakelm::list(&endless, &mut list), Ok(two));
     assert_eq!(number(ohakelm::rows(&endless, &mut list, &mut rows)), 11);
     let mut rows = [Entry::default(); 2];
     assert_eq!(ohakelm::rows(&endless, &mut list, &mut rows), Ok(two));
-    assert_eq!(list, [10503, 480_000, 10503, 480_000]);
+    assert_eq!(list, [10503, 480_000, 1, 10503, 480_000, 1]);
     assert_eq!(rows[0], rows[1]);
 }
 
@@ -107,14 +108,14 @@ fn both_forms_of_the_list() {
 fn a_chime_changes_after_its_first_round() {
     let mut buffer = [0; 10];
     buffer.copy_from_slice(&[0x02, 0x4A, 0x3A, 0x80, 0x41, 0xE0, 0x44, 0x51, 0x48, 0x00]);
-    let mut list = [0; 4];
+    let mut list = [0; 2 * ENTRY_CELLS];
     let playing = ohakelm::list(&buffer, &mut list);
     let two = Playing {
         entries: 2,
         mark: Some(1),
     };
     assert_eq!(playing, Ok(two));
-    assert_eq!(list, [1287, 952_380, 1282, 952_380]);
+    assert_eq!(list, [1287, 952_380, 0, 1282, 952_380, 0]);
     // Without the volume both rounds are alike.
     let done = ohakelm::edit(&mut buffer, 10, 0, 1, Edit::Delete, &mut list);
     let expected = Edited {
@@ -124,7 +125,7 @@ fn a_chime_changes_after_its_first_round() {
         change: -1,
     };
     assert_eq!(done, Ok(expected));
-    assert_eq!(list, [1287, 952_380, 1287, 952_380]);
+    assert_eq!(list, [1287, 952_380, 0, 1287, 952_380, 0]);
     // With a scale for the note nothing is heard.
     let done = ohakelm::edit(&mut buffer, 9, 0, 0, Edit::Replace(131_072), &mut list);
     assert_eq!(done.map(|done| (done.entries, done.mark)), Ok((0, None)));
@@ -134,7 +135,7 @@ fn a_chime_changes_after_its_first_round() {
 fn edits_change_the_buffer_and_the_list() {
     let mut buffer = [0; 12];
     buffer[..10].copy_from_slice(&P1);
-    let mut list = [0; 4];
+    let mut list = [0; 2 * ENTRY_CELLS];
     let done = ohakelm::edit(&mut buffer, 10, 0, 1, Edit::Insert(131_072), &mut list);
     let expected = Edited {
         length: 11,
@@ -144,6 +145,7 @@ fn edits_change_the_buffer_and_the_list() {
     };
     assert_eq!(done, Ok(expected));
     assert_eq!(buffer[6..], [0x71, 0xC8, 0x34, 0x80, 0, 0]);
+    assert_eq!(list, [10247, 480_000, 2, 0, 0, 0]);
     let done = ohakelm::edit(&mut buffer, 11, 0, 1, Edit::Replace(65864), &mut list);
     assert_eq!(done.map(|done| (done.entries, done.change)), Ok((2, 1)));
     let done = ohakelm::edit(&mut buffer, 12, 0, 2, Edit::Delete, &mut list);

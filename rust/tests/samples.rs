@@ -3,8 +3,10 @@
 
 mod support;
 
-use ohakelm_answers::{Bitmap, Edited, Entry, Label, Listed, Tone, Written, NO_MARK};
+use ohakelm_answers::{Bitmap, Edited, Entry, Label, Listed, Tone, Written};
+use ohakelm_answers::{ENTRY_CELLS, NO_MARK};
 use support::codecs::{each, Codec, Edit, Spot};
+use support::largest::origin_in_longest;
 use support::octets;
 use support::tones::{written, LARGEST_TONE};
 
@@ -49,10 +51,11 @@ fn refused_read(codec: &dyn Codec, message: &[u8]) -> (u32, usize) {
 }
 
 fn listed(codec: &dyn Codec, message: &[u8]) -> (Listed, Vec<u32>) {
-    let mut list = vec![7; 2000];
+    let mut list = vec![7; 3000];
     let answer = codec.list(message, &mut list);
-    assert!(list[2 * answer.entries..].iter().all(|&cell| cell == 7));
-    list.truncate(2 * answer.entries);
+    let filled = ENTRY_CELLS * answer.entries;
+    assert!(list[filled..].iter().all(|&cell| cell == 7));
+    list.truncate(filled);
     (answer, list)
 }
 
@@ -99,8 +102,9 @@ fn edited_in(
         instruction,
     };
     let answer = codec.edit(&mut buffer, spot, edit, &mut list);
-    assert!(list[2 * answer.entries..].iter().all(|&cell| cell == 7));
-    list.truncate(2 * answer.entries);
+    let filled = ENTRY_CELLS * answer.entries;
+    assert!(list[filled..].iter().all(|&cell| cell == 7));
+    list.truncate(filled);
     if answer.refusal != 0 {
         assert_eq!(buffer, before);
         let expected = Edited {
@@ -154,7 +158,8 @@ fn p1_is_read_written_and_listed() {
         assert_eq!(answer, expected);
         assert_eq!((&out[..10], out[10]), (&message[..], 7));
 
-        let list = vec![10 * 1024 + 256 + 7, 480_000];
+        // The note is behind the tempo.
+        let list = vec![10 * 1024 + 256 + 7, 480_000, 1];
         assert_eq!(listed(codec, &message), (accepted_list(1, NO_MARK), list));
     });
 }
@@ -162,16 +167,18 @@ fn p1_is_read_written_and_listed() {
 #[test]
 fn p1_is_listed_in_rows() {
     each(|codec| {
-        let (mut list, mut rows) = ([7; 3], [Entry::default(); 2]);
+        let (mut list, mut rows) = ([7; 4], [Entry::default(); 2]);
         let answer = codec.rows(&octets(P1), &mut list, &mut rows);
         assert_eq!(answer, accepted_list(1, NO_MARK));
-        assert_eq!(list, [10 * 1024 + 256 + 7, 480_000, 7]);
+        assert_eq!(list, [10 * 1024 + 256 + 7, 480_000, 1, 7]);
         let row = Entry {
             note: 10,
             scale: 1,
             style: 0,
             volume: 7,
             microseconds: 480_000,
+            header: 0,
+            position: 1,
         };
         assert_eq!(rows, [row, Entry::default()]);
     });
@@ -191,7 +198,7 @@ fn p2_inserts_a_scale() {
         };
         assert_eq!(answer, expected);
         assert_eq!((&buffer[..11], buffer[11]), (&octets(P2)[..], 0xEE));
-        assert_eq!(list, [10 * 1024 + 7, 480_000]);
+        assert_eq!(list, [10 * 1024 + 7, 480_000, 2]);
     });
 }
 
@@ -213,7 +220,7 @@ fn p3_deletes_the_tempo() {
             (&buffer[..9], &buffer[9..]),
             (&octets(P3)[..], &[0, 0xEE, 0xEE][..])
         );
-        assert_eq!(list, [10 * 1024 + 256 + 7, 952_380]);
+        assert_eq!(list, [10 * 1024 + 256 + 7, 952_380, 0]);
     });
 }
 
@@ -452,13 +459,13 @@ fn room_is_judged_last_and_to_the_cell() {
             let answer = codec.read(&message, &mut vec![0; table], &mut vec![0; title]);
             assert_eq!((answer.refusal, answer.place), (refusal, 0));
         }
-        for (list, rows, refusal) in [(2, 1, 0), (1, 1, 11), (2, 0, 11), (3, 2, 0)] {
+        for (list, rows, refusal) in [(3, 1, 0), (2, 1, 11), (3, 0, 11), (4, 2, 0)] {
             let mut rows = vec![Entry::default(); rows];
             let answer = codec.rows(&message, &mut vec![0; list], &mut rows);
             assert_eq!((answer.refusal, answer.place), (refusal, 0));
         }
-        assert_eq!(codec.list(&message, &mut [0; 1]).refusal, 11);
-        assert_eq!(codec.list(&message, &mut [0; 2]).refusal, 0);
+        assert_eq!(codec.list(&message, &mut [0; 2]).refusal, 11);
+        assert_eq!(codec.list(&message, &mut [0; 3]).refusal, 0);
         // The fault in the message comes first.
         assert_eq!(codec.list(&message[..12], &mut []).refusal, 2);
     });
@@ -473,9 +480,10 @@ fn a_loop_value_is_one_less_than_the_soundings() {
             let message = temporary(&[repeats * 256 + 1, NOTE_C]);
             let (answer, list) = listed(codec, &message);
             assert_eq!(answer, accepted_list(soundings, NO_MARK));
-            let entry = |position| [sounding(1, 7), quarter_behind(position)];
-            let entries: Vec<[u32; 2]> = (0..soundings).map(entry).collect();
-            assert_eq!(list, entries.concat());
+            // Each pass sounds the same instruction.
+            let entry = |position| [sounding(1, 7), quarter_behind(position), 0];
+            let entries: Vec<u32> = (0..soundings).flat_map(entry).collect();
+            assert_eq!(list, entries);
         }
     });
 }
@@ -488,8 +496,9 @@ fn settings_carry_on() {
         let (answer, list) = listed(codec, &message);
         assert_eq!(answer, accepted_list(3, NO_MARK));
         let [first, later] = [sounding(1, 7), sounding(1, 9)];
-        // What rounding left over carries on as well.
-        assert_eq!(list, [first, 952_380, later, 952_381, later, 952_381]);
+        // What rounding left over carries on as well. The recall is header 1.
+        let twice = [first, 952_380, 0, later, 952_381, 0];
+        assert_eq!(list, [&twice[..], &[later, 952_381, 256]].concat());
     });
 }
 
@@ -498,7 +507,7 @@ fn a_recall_takes_the_nearest_body() {
     each(|codec| {
         let message = temporary(&[1, NOTE_C, 0, 1, NOTE_D, 0]);
         let list = listed(codec, &message).1;
-        let notes: Vec<u32> = list.chunks(2).map(|entry| entry[0]).collect();
+        let notes: Vec<u32> = list.chunks(ENTRY_CELLS).map(|entry| entry[0]).collect();
         let [c, d] = [sounding(1, 7), sounding(3, 7)];
         assert_eq!(notes, [c, c, d, d]);
     });
@@ -538,16 +547,22 @@ fn the_longest_list_is_made() {
     let message = temporary(&table);
     let entries = 255 * 15 * 255;
     each(|codec| {
-        let mut list = vec![7; 2 * entries + 1];
+        let filled = ENTRY_CELLS * entries;
+        let mut list = vec![7; filled + 1];
         let mut rows = vec![Entry::default(); entries + 1];
-        assert_eq!(codec.list(&message, &mut list[1..2 * entries]).refusal, 11);
+        assert_eq!(codec.list(&message, &mut list[1..filled]).refusal, 11);
         let answer = codec.rows(&message, &mut list, &mut rows);
         assert_eq!(answer, accepted_list(975_375, NO_MARK));
-        let mut all = list[..2 * entries].chunks(2).enumerate();
-        assert!(all.all(|(position, entry)| entry == [sounding(1, 7), quarter_behind(position)]));
-        assert_eq!((list[2 * entries], rows[entries]), (7, Entry::default()));
+        let mut all = list[..filled].chunks(ENTRY_CELLS).enumerate();
+        assert!(all.all(|(position, entry)| entry == of_longest(position)));
+        assert_eq!((list[filled], rows[entries]), (7, Entry::default()));
         assert!(rows[..entries].iter().all(|row| row.volume == 7));
     });
+}
+
+fn of_longest(position: usize) -> [u32; ENTRY_CELLS] {
+    let microseconds = quarter_behind(position);
+    [sounding(1, 7), microseconds, origin_in_longest(position)]
 }
 
 /// Each duration code with each specifier at tempo code 14, 125 beats: a unit
@@ -568,7 +583,7 @@ fn every_length_of_a_note() {
                 let note = 65536 + (duration * 4 + specifier) as u32;
                 let message = temporary(&[2, 4 * 65536 + 14, note]);
                 let list = listed(codec, &message).1;
-                assert_eq!(list, [sounding(0, 7), units * 5000]);
+                assert_eq!(list, [sounding(0, 7), units * 5000, 1]);
             }
         }
     });
@@ -740,7 +755,7 @@ fn edits_refuse_for_want_of_room() {
             instruction: 1,
         };
         let mut buffer = [&message[..], &[0; 4]].concat();
-        let answer = codec.edit(&mut buffer, spot, edit, &mut [0; 3]);
+        let answer = codec.edit(&mut buffer, spot, edit, &mut [0; 5]);
         assert_eq!((answer.refusal, answer.place), (11, 0));
         assert_eq!(buffer[..used], message);
     });

@@ -6,7 +6,7 @@
 
 mod support;
 
-use ohakelm_answers::{Edited, Entry, Listed, Tone, Written};
+use ohakelm_answers::{Edited, Entry, Listed, Tone, Written, ENTRY_CELLS};
 use support::codecs::{each, Codec, Edit, Spot};
 use support::octets;
 use support::tones::{octets_of, written, LARGEST_TONE};
@@ -51,7 +51,7 @@ fn assert_refused(codec: &dyn Codec, message: &[u8], refusal: u32, place: usize)
         note: 99,
         ..Entry::default()
     };
-    let (mut list, mut rows) = ([OLD as u32; 60], [old_row; 30]);
+    let (mut list, mut rows) = ([OLD as u32; ENTRY_CELLS * 30], [old_row; 30]);
     let refused = Listed {
         refusal,
         place,
@@ -71,7 +71,7 @@ fn assert_refused(codec: &dyn Codec, message: &[u8], refusal: u32, place: usize)
         let answer = codec.edit(&mut buffer, first_of(message), edit, &mut list);
         assert_eq!((answer, buffer), (refused, before.clone()), "{edit:?}");
     }
-    assert_eq!(list, [OLD as u32; 60]);
+    assert_eq!(list, [OLD as u32; ENTRY_CELLS * 30]);
 }
 
 /// The first instruction of the first pattern.
@@ -90,7 +90,7 @@ fn assert_taken(codec: &dyn Codec, message: &[u8], title: &[u8], notes: usize) {
     let answer = codec.read(message, &mut table, &mut lent);
     assert_eq!((answer.refusal, answer.entries), (0, 1 + notes));
     assert_eq!(lent[..title.len()], *title);
-    let (mut list, mut rows) = ([0; 60], [Entry::default(); 30]);
+    let (mut list, mut rows) = ([0; ENTRY_CELLS * 30], [Entry::default(); 30]);
     let answer = codec.list(message, &mut list);
     assert_eq!((answer.refusal, answer.entries), (0, notes));
     let answer = codec.rows(message, &mut list, &mut rows);

@@ -10,6 +10,10 @@
 /// The mark of a list that has no place to return to.
 pub const NO_MARK: u32 = u32::MAX;
 
+/// How many cells of a playing list an entry takes: note and settings in one
+/// number, the microseconds and the origin, which is header * 256 + position.
+pub const ENTRY_CELLS: usize = 3;
+
 /// What reading a tone answers.
 #[repr(C)]
 #[derive(Clone, Copy, Debug, Default, PartialEq, Eq)]
@@ -120,6 +124,11 @@ pub struct Entry {
     /// The difference of two boundaries, each the exact sum since the last restart
     /// rounded down.
     pub microseconds: u32,
+    /// The position in the message of the header that sounds, counted from 0. For a
+    /// recall it is the recall's own.
+    pub header: u32,
+    /// The instruction's position in the body played, counted from 0.
+    pub position: u32,
 }
 
 #[cfg(test)]
@@ -147,6 +156,9 @@ mod tests {
         assert_eq!(offset_of!(Logo, mcc_start), 48);
         assert_eq!(offset_of!(Logo, mnc_start), 64);
         assert_eq!(offset_of!(Logo, date_length), 88);
-        assert_eq!(size_of::<Entry>(), 20);
+        assert_eq!(size_of::<Entry>(), 28);
+        assert_eq!(offset_of!(Entry, microseconds), 16);
+        assert_eq!(offset_of!(Entry, header), 20);
+        assert_eq!(offset_of!(Entry, position), 24);
     }
 }

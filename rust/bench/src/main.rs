@@ -10,7 +10,7 @@ mod tones;
 
 use measure::{compare, once_each, repeated, Batch, Row};
 use ohakelm::numbers as proved;
-use ohakelm_answers::{Entry, Listed};
+use ohakelm_answers::{Entry, Listed, ENTRY_CELLS};
 use tones::{Tone, BASIC};
 
 /// An insertion of one note may lengthen a message by two octets.
@@ -87,7 +87,7 @@ fn list(tone: &Tone) -> Row {
 }
 
 fn list_of(message: &[u8], name: &str) -> Row {
-    let cells = vec![0; 2 * entries(message)];
+    let cells = vec![0; ENTRY_CELLS * entries(message)];
     compare(
         name,
         repeated(message.len()),
@@ -99,7 +99,7 @@ fn list_of(message: &[u8], name: &str) -> Row {
 
 fn rows_of(message: &[u8], what: &str) -> Row {
     let count = entries(message);
-    let buffers = (vec![0; 2 * count], vec![Entry::default(); count]);
+    let buffers = (vec![0; ENTRY_CELLS * count], vec![Entry::default(); count]);
     compare(
         &format!("{what}, {} octets", message.len()),
         repeated(message.len()),
@@ -110,8 +110,11 @@ fn rows_of(message: &[u8], what: &str) -> Row {
 }
 
 fn entries(message: &[u8]) -> usize {
-    let mut scratch = vec![0; 100_000];
-    ohakelm_fast::list(message, &mut scratch).entries
+    // The tone of recalls has 38,250.
+    let mut scratch = vec![0; ENTRY_CELLS * 50_000];
+    let listed = ohakelm_fast::list(message, &mut scratch);
+    assert_eq!(listed.refusal, 0);
+    listed.entries
 }
 
 /// The three edits in the middle of the message.
@@ -121,7 +124,8 @@ fn edits(tone: &Tone) -> [Row; 3] {
     let mut buffer = tone.message.clone();
     buffer.extend([0; 2]);
     // An edit of a part that is recalled may lengthen the list by a few.
-    let buffers = (buffer, vec![0; 2 * entries(&tone.message) + 64]);
+    let cells = ENTRY_CELLS * (entries(&tone.message) + 32);
+    let buffers = (buffer, vec![0; cells]);
     let batch = once_each(used);
     let insert = compare(
         &name("insert a note", tone),
@@ -186,7 +190,7 @@ fn long_list(message: &[u8], name: &str, plain: impl Fn(&[u8], &mut [u32]) -> Li
     compare(
         name,
         batch,
-        &vec![0; 2 * entries(message)],
+        &vec![0; ENTRY_CELLS * entries(message)],
         |cells| proved::list(message, cells),
         |cells| plain(message, cells),
     )

@@ -1,7 +1,7 @@
 //! Edits in place: the bits behind the instruction are moved, and the list is
 //! made from the new message.
 
-use ohakelm_answers::Edited;
+use ohakelm_answers::{Edited, ENTRY_CELLS};
 
 use crate::codes::{entry_width, width, LARGEST_TONE, NOTE};
 use crate::judge::{
@@ -183,7 +183,7 @@ fn edit(
     if length > buffer.len() {
         return Err(refusal(11, 0));
     }
-    let Some(list) = list.get_mut(..2 * count.entries) else {
+    let Some(list) = list.get_mut(..ENTRY_CELLS * count.entries) else {
         return Err(refusal(11, 0));
     };
     apply(buffer, &found, &step, end);

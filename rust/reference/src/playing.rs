@@ -15,7 +15,7 @@ const BEATS: [u32; 32] = [
 /// The loop value of a part that sounds for ever.
 const ENDLESS: u32 = 15;
 
-/// Makes the list, two numbers an entry.
+/// Makes the list, three numbers an entry.
 pub fn list(message: &[u8], list: &mut [u32]) -> Listed {
     answer(list_into(message, list))
 }
@@ -93,14 +93,14 @@ impl Playing {
             volume: 7,
             fraction: 0,
         };
-        for (position, pattern) in tone.patterns.iter().enumerate() {
-            let body = body_of(pattern, &tone.patterns[..position]);
+        for (header, pattern) in tone.patterns.iter().enumerate() {
+            let body = body_of(pattern, &tone.patterns[..header]);
             if pattern.repeats == ENDLESS {
-                playing.sound_endlessly(body, &mut state);
+                playing.sound_endlessly(header, body, &mut state);
                 break;
             }
             for _ in 0..=pattern.repeats {
-                playing.sound(body, &mut state);
+                playing.sound(header, body, &mut state);
             }
         }
         playing
@@ -109,26 +109,30 @@ impl Playing {
     /// Adds two passes and marks where the second one begins. The first one starts
     /// with whatever was set ahead of it. Each pass leaves the same settings, and
     /// each starts without a fraction, so all later ones are like the second.
-    fn sound_endlessly(&mut self, body: &[Instruction], state: &mut State) {
+    fn sound_endlessly(&mut self, header: usize, body: &[Instruction], state: &mut State) {
         state.fraction = 0;
-        self.sound(body, state);
+        self.sound(header, body, state);
         let second = self.entries.len();
         state.fraction = 0;
-        self.sound(body, state);
+        self.sound(header, body, state);
         if self.entries.len() > second {
             self.return_to = Some(second);
         }
     }
 
-    /// Adds one pass of a body.
-    fn sound(&mut self, body: &[Instruction], state: &mut State) {
-        for &instruction in body {
+    /// Adds one pass of a body. The header is the one that sounds, so for a recall
+    /// the recall and not the definition.
+    fn sound(&mut self, header: usize, body: &[Instruction], state: &mut State) {
+        for (position, &instruction) in body.iter().enumerate() {
             match instruction {
                 Instruction::Note {
                     note,
                     duration,
                     specifier,
-                } => self.add(note, units(duration, specifier), state),
+                } => {
+                    let units = units(duration, specifier);
+                    self.add(header, position, note, units, state);
+                }
                 Instruction::Scale(code) => state.scale = code,
                 Instruction::Style(code) => state.style = code,
                 Instruction::Tempo(code) => {
@@ -142,7 +146,7 @@ impl Playing {
     }
 
     /// Adds the entry of a note or a pause.
-    fn add(&mut self, note: u32, units: u32, state: &mut State) {
+    fn add(&mut self, header: usize, position: usize, note: u32, units: u32, state: &mut State) {
         let beats = BEATS[state.tempo as usize];
         let (microseconds, fraction) = lasting(state.fraction, units, beats);
         state.fraction = fraction;
@@ -152,15 +156,18 @@ impl Playing {
             style: state.style,
             volume: state.volume,
             microseconds,
+            header: header as u32,
+            position: position as u32,
         });
     }
 
-    /// The list in the two-number form.
+    /// The list in the form of three numbers.
     pub fn cells(&self) -> Vec<u32> {
         let mut cells = Vec::new();
         for entry in &self.entries {
             cells.push(entry.note * 1024 + entry.scale * 256 + entry.style * 16 + entry.volume);
             cells.push(entry.microseconds);
+            cells.push(entry.header * 256 + entry.position);
         }
         cells
     }

@@ -6,7 +6,7 @@ static const uint8_t sample[10] = {0x02, 0x4A, 0x3A, 0x80, 0x40, 0x00, 0x51, 0xC
 
 static void check_tones(void)
 {
-    uint32_t table[3] = {0}, list[2] = {0};
+    uint32_t table[3] = {0}, list[OHAKELM_ENTRY_CELLS] = {0};
     uint8_t out[10] = {0};
     struct ohakelm_tone tone = ohakelm_read(sample, 10, table, 3, NULL, 0);
     CHECK(tone.refusal == OHAKELM_ACCEPTED && tone.place == 0 && tone.song == OHAKELM_TEMPORARY);
@@ -16,9 +16,9 @@ static void check_tones(void)
     CHECK(tone.refusal == OHAKELM_CUT_SHORT && tone.place == 72 && tone.entries == 0);
     struct ohakelm_written done = ohakelm_write(2, false, NULL, 0, table, 3, out, 10);
     CHECK(done.refusal == OHAKELM_ACCEPTED && done.octets == 10 && memcmp(out, sample, 10) == 0);
-    struct ohakelm_listed made = ohakelm_list(sample, 10, list, 2);
+    struct ohakelm_listed made = ohakelm_list(sample, 10, list, OHAKELM_ENTRY_CELLS);
     CHECK(made.refusal == OHAKELM_ACCEPTED && made.entries == 1 && made.mark == OHAKELM_NO_MARK);
-    CHECK(list[0] == 10503 && list[1] == 480000);
+    CHECK(list[0] == 10503 && list[1] == 480000 && list[2] == 1);
 }
 
 /* A basic song with one part of a quarter note. Its title is a tab, a space if
@@ -28,13 +28,13 @@ static void check_titles(void)
     static const uint8_t tab[1] = {'\t'}, note[2] = {'N', 'o'};
     static const uint32_t table[2] = {OHAKELM_HEADER(0, 0, 1), OHAKELM_NOTE(1, 2, 0)};
     uint8_t msg[11] = {0x02, 0x4A, 0x3A, 0x44, 0x24, 0x04, 0x00, 0x02, 0x45, 0x00, 0x00};
-    uint32_t cells[2] = {0}, list[2] = {0};
+    uint32_t cells[2] = {0}, list[3] = {0};
     uint8_t title[1] = {0}, out[11] = {0};
     struct ohakelm_tone tone = ohakelm_read(msg, 11, cells, 2, title, 1);
     CHECK(tone.refusal == OHAKELM_CHARACTER && tone.place == 30 && tone.characters == 0);
-    struct ohakelm_listed made = ohakelm_list(msg, 11, list, 2);
+    struct ohakelm_listed made = ohakelm_list(msg, 11, list, 3);
     CHECK(made.refusal == OHAKELM_CHARACTER && made.place == 30 && made.entries == 0);
-    struct ohakelm_edited edited = ohakelm_delete(msg, 11, 11, 9, 9, list, 2);
+    struct ohakelm_edited edited = ohakelm_delete(msg, 11, 11, 9, 9, list, 3);
     CHECK(edited.refusal == OHAKELM_CHARACTER && edited.place == 30 && edited.length == 0);
     struct ohakelm_written done = ohakelm_write(1, false, tab, 1, table, 2, out, 11);
     CHECK(done.refusal == OHAKELM_CHARACTER && done.place == 0 && done.octets == 0);
@@ -47,13 +47,39 @@ static void check_titles(void)
 
 static void check_rows(void)
 {
-    uint32_t list[2] = {0};
-    struct ohakelm_entry row = {0, 0, 0, 0, 0};
-    struct ohakelm_listed made = ohakelm_rows(sample, 10, list, 2, &row, 1);
+    uint32_t list[3] = {0};
+    struct ohakelm_entry row = {9, 9, 9, 9, 9, 9, 9};
+    struct ohakelm_listed made = ohakelm_rows(sample, 10, list, 3, &row, 1);
     CHECK(made.refusal == OHAKELM_ACCEPTED && made.entries == 1 && made.mark == OHAKELM_NO_MARK);
-    CHECK(list[0] == 10503 && list[1] == 480000);
+    CHECK(list[0] == 10503 && list[1] == 480000 && list[2] == 1);
     CHECK(row.note == 10 && row.scale == 1 && row.style == 0 && row.volume == 7);
-    CHECK(row.microseconds == 480000);
+    CHECK(row.microseconds == 480000 && row.header == 0 && row.position == 1);
+}
+
+/* The note C behind volume 2, and a recall of it. Its entries lead to the note. An
+ * edit at the first makes D of both, and one at the recall is refused. */
+static void check_origins(void)
+{
+    static const uint32_t table[4] = {OHAKELM_HEADER(0, 0, 2), OHAKELM_VOLUME(2),
+                                      OHAKELM_NOTE(1, 2, 0), OHAKELM_HEADER(0, 0, 0)};
+    uint8_t buf[20] = {0};
+    uint32_t list[8] = {9, 9, 9, 9, 9, 9, 9, 9};
+    struct ohakelm_entry rows[2];
+    size_t used = ohakelm_write(2, false, NULL, 0, table, 4, buf, 20).octets;
+    CHECK(ohakelm_list(buf, used, list, 5).refusal == OHAKELM_NO_ROOM && list[0] == 9);
+    struct ohakelm_listed made = ohakelm_rows(buf, used, list, 8, rows, 2);
+    CHECK(made.refusal == OHAKELM_ACCEPTED && made.entries == 2 && list[6] == 9 && list[7] == 9);
+    CHECK(list[2] == 1 && rows[0].header == 0 && rows[0].position == 1);
+    CHECK(list[5] == 257 && rows[1].header == 1 && rows[1].position == 1);
+    CHECK(OHAKELM_LISTED_HEADER(list[5]) == 1 && OHAKELM_LISTED_POSITION(list[5]) == 1);
+    CHECK(OHAKELM_NOTE_VALUE(table[1 + rows[0].position]) == OHAKELM_LISTED_NOTE(list[0]));
+    struct ohakelm_edited done = ohakelm_replace(buf, 20, used, rows[0].header, rows[0].position,
+                                                 OHAKELM_NOTE(3, 2, 0), list, 6);
+    CHECK(done.refusal == OHAKELM_ACCEPTED && done.entries == 2);
+    CHECK(OHAKELM_LISTED_NOTE(list[0]) == 3 && OHAKELM_LISTED_NOTE(list[3]) == 3);
+    CHECK(list[2] == 1 && list[5] == 257);
+    done = ohakelm_delete(buf, 20, used, rows[1].header, rows[1].position, list, 6);
+    CHECK(done.refusal == OHAKELM_NOT_THERE && done.place == 0);
 }
 
 /* A part for ever: the note C, a quarter, and then volume 2. Its first round has
@@ -62,22 +88,23 @@ static void check_rows(void)
 static void check_endless(void)
 {
     uint8_t buf[11] = {0x02, 0x4A, 0x3A, 0x80, 0x41, 0xE0, 0x44, 0x51, 0x48, 0x00, 0x00};
-    uint32_t list[8] = {0};
-    struct ohakelm_entry rows[2] = {{0, 0, 0, 0, 0}, {0, 0, 0, 0, 0}};
-    struct ohakelm_listed made = ohakelm_list(buf, 10, list, 3);
+    uint32_t list[12] = {0};
+    struct ohakelm_entry rows[2];
+    struct ohakelm_listed made = ohakelm_list(buf, 10, list, 5);
     CHECK(made.refusal == OHAKELM_NO_ROOM && made.entries == 0 && made.mark == 0);
-    made = ohakelm_list(buf, 10, list, 4);
+    made = ohakelm_list(buf, 10, list, 6);
     CHECK(made.refusal == OHAKELM_ACCEPTED && made.entries == 2 && made.mark == 1);
-    CHECK(OHAKELM_LISTED_VOLUME(list[0]) == 7 && list[1] == 952380);
-    CHECK(OHAKELM_LISTED_VOLUME(list[2]) == 2 && list[3] == 952380);
-    made = ohakelm_rows(buf, 10, list, 4, rows, 2);
+    CHECK(OHAKELM_LISTED_VOLUME(list[0]) == 7 && list[1] == 952380 && list[2] == 0);
+    CHECK(OHAKELM_LISTED_VOLUME(list[3]) == 2 && list[4] == 952380 && list[5] == 0);
+    made = ohakelm_rows(buf, 10, list, 6, rows, 2);
     CHECK(made.refusal == OHAKELM_ACCEPTED && made.entries == 2 && made.mark == 1);
     CHECK(rows[0].volume == 7 && rows[1].volume == 2 && rows[1].note == 1);
     struct ohakelm_edited done =
-        ohakelm_replace(buf, 11, 10, 0, 1, OHAKELM_NOTE(3, 0, 0), list, 8);
+        ohakelm_replace(buf, 11, 10, 0, 1, OHAKELM_NOTE(3, 0, 0), list, 12);
     CHECK(done.refusal == OHAKELM_ACCEPTED && done.entries == 4 && done.mark == 2);
-    CHECK(OHAKELM_LISTED_NOTE(list[6]) == 3 && list[5] + list[7] == 4761904);
-    CHECK(list[1] == 952380 && list[3] == 3809524 && list[5] == 952380);
+    CHECK(OHAKELM_LISTED_NOTE(list[9]) == 3 && list[7] + list[10] == 4761904);
+    CHECK(list[1] == 952380 && list[4] == 3809524 && list[7] == 952380);
+    CHECK(list[2] == 0 && list[5] == 1 && list[8] == 0 && list[11] == 1);
 }
 
 static void check_label(void)
@@ -95,22 +122,23 @@ static void check_edits(void)
     static const uint8_t inserted[5] = {0x71, 0xC8, 0x34, 0x80, 0x00};
     static const uint8_t shortened[3] = {0x26, 0x90, 0x00};
     uint8_t buf[11];
-    uint32_t list[2] = {0};
+    uint32_t list[3] = {0};
     memcpy(buf, sample, 10);
     struct ohakelm_edited done =
-        ohakelm_insert(buf, 11, 10, 0, 1, OHAKELM_SCALE(0), list, 2);
+        ohakelm_insert(buf, 11, 10, 0, 1, OHAKELM_SCALE(0), list, 3);
     CHECK(done.refusal == OHAKELM_ACCEPTED && done.length == 11 && done.change == 1);
     CHECK(memcmp(buf + 6, inserted, 5) == 0 && list[0] == 10247 && list[1] == 480000);
-    done = ohakelm_replace(buf, 11, 11, 0, 1, OHAKELM_SCALE(1), list, 2);
+    CHECK(list[2] == 2);
+    done = ohakelm_replace(buf, 11, 11, 0, 1, OHAKELM_SCALE(1), list, 3);
     CHECK(done.refusal == OHAKELM_ACCEPTED && done.length == 11 && done.change == 0);
     CHECK(done.entries == 1 && done.mark == OHAKELM_NO_MARK && list[0] == 10503);
-    done = ohakelm_delete(buf, 11, 11, 0, 1, list, 2);
+    done = ohakelm_delete(buf, 11, 11, 0, 1, list, 3);
     CHECK(done.refusal == OHAKELM_ACCEPTED && done.length == 10 && done.change == -1);
-    CHECK(memcmp(buf, sample, 10) == 0 && buf[10] == 0);
-    done = ohakelm_delete(buf, 11, 10, 0, 0, list, 2);
+    CHECK(memcmp(buf, sample, 10) == 0 && buf[10] == 0 && list[2] == 1);
+    done = ohakelm_delete(buf, 11, 10, 0, 0, list, 3);
     CHECK(done.refusal == OHAKELM_ACCEPTED && done.length == 9 && done.change == -1);
-    CHECK(memcmp(buf + 6, shortened, 3) == 0 && list[1] == 952380);
-    done = ohakelm_delete(buf, 11, 9, 0, 0, list, 2);
+    CHECK(memcmp(buf + 6, shortened, 3) == 0 && list[1] == 952380 && list[2] == 0);
+    done = ohakelm_delete(buf, 11, 9, 0, 0, list, 3);
     CHECK(done.refusal == OHAKELM_ONLY_ONE && done.place == 0 && done.length == 0);
 }
 
@@ -156,6 +184,7 @@ int main(void)
     check_tones();
     check_titles();
     check_rows();
+    check_origins();
     check_endless();
     check_label();
     check_edits();

@@ -24,6 +24,9 @@ SAME(listed_note, OHAKELM_LISTED_NOTE(10503), 10);
 SAME(listed_scale, OHAKELM_LISTED_SCALE(10503), 1);
 SAME(listed_style, OHAKELM_LISTED_STYLE(10503), 0);
 SAME(listed_volume, OHAKELM_LISTED_VOLUME(10503), 7);
+SAME(listed_header, OHAKELM_LISTED_HEADER(65277), 254);
+SAME(listed_position, OHAKELM_LISTED_POSITION(65277), 253);
+SAME(entry_cells, OHAKELM_ENTRY_CELLS, 3);
 SAME(no_mark, OHAKELM_NO_MARK, 4294967295u);
 
 SAME(basic, OHAKELM_BASIC, 1);
@@ -43,7 +46,7 @@ SAME(largest_tone, OHAKELM_LARGEST_TONE, 4096);
 SAME(largest_table, OHAKELM_LARGEST_TABLE, 26 + (4096 * 8 - 34 - 8 - 26 * 17) / 5);
 /* 255 patterns sound 15 times, with 255 notes each. */
 SAME(largest_rows, OHAKELM_LARGEST_ROWS, 255 * 15 * 255);
-SAME(largest_list, OHAKELM_LARGEST_LIST, 2 * 255 * 15 * 255);
+SAME(largest_list, OHAKELM_LARGEST_LIST, OHAKELM_ENTRY_CELLS * 255 * 15 * 255);
 /* Four octets of header, and 255 rows of 248 pixels. */
 SAME(largest_bitmap, OHAKELM_LARGEST_BITMAP, 4 + 248 / 8 * 255);
 SAME(largest_icon, OHAKELM_LARGEST_ICON, 1 + 4 + 248 / 8 * 255);

@@ -23,12 +23,15 @@ static_assert(OHAKELM_LISTED_NOTE(10503) == 10, "A");
 static_assert(OHAKELM_LISTED_SCALE(10503) == 1, "scale 1");
 static_assert(OHAKELM_LISTED_STYLE(10503) == 0, "natural");
 static_assert(OHAKELM_LISTED_VOLUME(10503) == 7, "volume 7");
+static_assert(OHAKELM_LISTED_HEADER(65277) == 254, "the last header");
+static_assert(OHAKELM_LISTED_POSITION(65277) == 253, "the last position but one");
+static_assert(OHAKELM_ENTRY_CELLS == 3, "three numbers an entry");
 static_assert(OHAKELM_NO_MARK == 4294967295, "no mark");
 static_assert(OHAKELM_BASIC == 1 && OHAKELM_TEMPORARY == 2, "songs");
 static_assert(OHAKELM_KIND_HEADER == 0 && OHAKELM_KIND_NOTE == 1, "kinds");
 static_assert(OHAKELM_KIND_SCALE == 2 && OHAKELM_KIND_STYLE == 3, "kinds");
 static_assert(OHAKELM_KIND_TEMPO == 4 && OHAKELM_KIND_VOLUME == 5, "kinds");
-static_assert(OHAKELM_LARGEST_ROWS * 2 == OHAKELM_LARGEST_LIST, "two numbers an entry");
+static_assert(OHAKELM_LARGEST_ROWS * OHAKELM_ENTRY_CELLS == OHAKELM_LARGEST_LIST, "a list");
 static_assert(OHAKELM_STACK_OTHERS < OHAKELM_STACK_TONES, "the stack of bitmaps");
 static_assert(OHAKELM_STACK_TONES < OHAKELM_STACK_EDITS, "the stack of tones");
 
@@ -37,6 +40,7 @@ static_assert(std::is_same<decltype(OHAKELM_HEADER(0, 0, 2)), uint32_t>::value, 
 static_assert(std::is_same<decltype(OHAKELM_NOTE(10, 2, 0)), uint32_t>::value, "a note");
 static_assert(std::is_same<decltype(OHAKELM_SCALE(0)), uint32_t>::value, "a scale");
 static_assert(std::is_same<decltype(OHAKELM_KIND(0)), uint32_t>::value, "a kind");
+static_assert(std::is_same<decltype(OHAKELM_LISTED_HEADER(0)), uint32_t>::value, "an origin");
 
 constexpr std::array<uint32_t, 3> table{OHAKELM_HEADER(0, 0, 2), OHAKELM_TEMPO(14),
                                         OHAKELM_NOTE(10, 2, 0)};

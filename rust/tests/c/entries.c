@@ -3,7 +3,7 @@
  * The expected numbers are counted and not multiplied. A header is id * 4096 +
  * loop * 256 + specifier, a loop is below 16 and a specifier below 256. So all
  * headers, the specifier running fastest, are the numbers from 0 in turn. The
- * notes are so from 65536 on, and the list's first numbers from 0 on. */
+ * notes are so from 65536 on, and the list's first and third numbers from 0 on. */
 #include "check.h"
 
 /* Counts a code on. Whether it begins anew, and the next one is to count. */
@@ -78,6 +78,18 @@ static void check_listed(void)
     CHECK(note == 0 && scale == 0 && style == 0 && volume == 0);
 }
 
+static void check_origins(void)
+{
+    uint32_t header = 0, position = 0;
+    for (uint32_t origin = 0; origin < 65536; origin++) {
+        CHECK(OHAKELM_LISTED_HEADER(origin) == header);
+        CHECK(OHAKELM_LISTED_POSITION(origin) == position);
+        if (turns(&position, 256))
+            turns(&header, 256);
+    }
+    CHECK(header == 0 && position == 0);
+}
+
 /* Sums as codes, and entries in sums: the macros keep them together. */
 static void check_within_sums(void)
 {
@@ -102,6 +114,8 @@ static void check_within_sums(void)
     CHECK(100 / OHAKELM_LISTED_SCALE(one + 10502) == 100);
     CHECK(100 / OHAKELM_LISTED_STYLE(one + 10534) == 50);
     CHECK(100 / OHAKELM_LISTED_VOLUME(one + 10502) == 14);
+    CHECK(100 / OHAKELM_LISTED_HEADER(ten + 502) == 50);
+    CHECK(100 / OHAKELM_LISTED_POSITION(ten + 250) == 25);
 }
 
 int main(void)
@@ -110,6 +124,7 @@ int main(void)
     check_notes();
     check_settings();
     check_listed();
+    check_origins();
     check_within_sums();
     return failed;
 }

@@ -1,5 +1,7 @@
 //! Random cases of every export, with many buffers of nothing among them.
 
+use ohakelm::ENTRY_CELLS;
+
 use super::calls::{Call, Case, Room};
 use super::codecs::{Edit, Spot};
 use super::inputs;
@@ -86,7 +88,7 @@ fn label(rng: &mut Rng) -> Case {
 
 fn list(rng: &mut Rng) -> Case {
     let message = message(rng);
-    let room = rng.pick(&[0, 0, 2, 41, 2000]);
+    let room = list_room(rng);
     Case {
         call: Call::List,
         inputs: vec![input(rng, &message)],
@@ -96,6 +98,13 @@ fn list(rng: &mut Rng) -> Case {
             ..Room::default()
         },
     }
+}
+
+/// None, for one entry, for some with cells left over, or for many.
+fn list_room(rng: &mut Rng) -> usize {
+    let entries = rng.pick(&[0, 0, 1, 20, 1000]);
+    let left_over = if entries == 20 { 2 } else { 0 };
+    ENTRY_CELLS * entries + left_over
 }
 
 fn rows(rng: &mut Rng) -> Case {
@@ -118,7 +127,7 @@ fn edit(rng: &mut Rng, edit: Edit) -> Case {
         0 => 0,
         _ => message.len() + rng.pick(&[0, 2, 3]),
     };
-    let list = rng.pick(&[0, 0, 2, 41, 2000]);
+    let list = list_room(rng);
     Case {
         call: Call::Edit(spot, edit),
         inputs: vec![],

@@ -4,13 +4,16 @@
 use std::collections::BTreeMap;
 use std::fmt::Debug;
 
-use ohakelm_answers::{Bitmap, Edited, Entry, Label, Listed, Tone, Written};
+use ohakelm::{LARGEST_LIST, LARGEST_TITLE};
+use ohakelm_answers::{Bitmap, Edited, Entry, Label, Listed, Tone, Written, ENTRY_CELLS};
 
 use super::codecs::{Codec, Edit, Spot};
 use super::hex;
 use super::inputs;
 use super::largest;
 use super::lent::{lent_message, lent_octets, lent_rows, lent_words, Lent};
+use super::lists::cells_of;
+use super::origins::{apart, Patterns};
 use super::rng::Rng;
 use super::tones::{self, Bounds, Made};
 
@@ -26,9 +29,6 @@ pub struct Comparison {
     scratch: Vec<u32>,
 }
 
-/// Room for any list that the random tones make.
-const SCRATCH: usize = 2 * 255 * 15 * 255;
-
 impl Comparison {
     pub fn new(codecs: &[&'static dyn Codec], seed: u64) -> Comparison {
         Comparison {
@@ -37,7 +37,7 @@ impl Comparison {
             seed,
             cases: 0,
             tally: BTreeMap::new(),
-            scratch: vec![0; SCRATCH],
+            scratch: vec![0; LARGEST_LIST],
         }
     }
 
@@ -240,7 +240,7 @@ impl Comparison {
     }
 
     fn random_case(&mut self) {
-        match self.rng.below(80) {
+        match self.rng.below(83) {
             0..=5 => self.read_sound_tone(),
             6..=19 => self.read_any(),
             20..=25 => self.list_any(),
@@ -255,7 +255,8 @@ impl Comparison {
             64..=67 => self.icon_write_any(),
             68..=69 => self.logo_read_sound(),
             70..=74 => self.logo_read_any(),
-            _ => self.logo_write_any(),
+            75..=79 => self.logo_write_any(),
+            _ => self.edit_at_origin(),
         }
     }
 
@@ -299,23 +300,45 @@ impl Comparison {
 
     fn list_any(&mut self) {
         let message = inputs::message(&mut self.rng);
-        let needed = 2 * self.entries_of(&message);
+        let needed = ENTRY_CELLS * self.entries_of(&message);
         let room = self.room(needed);
-        self.list(&message, room);
+        let (answer, list) = self.list(&message, room);
+        if answer.refusal == 0 {
+            self.origins_lead_to_notes(&message, &list[..needed]);
+        }
+    }
+
+    /// Each entry's origin leads through the table to the note that is listed.
+    fn origins_lead_to_notes(&mut self, message: &[u8], list: &[u32]) {
+        let table = self.table_of(message);
+        let patterns = Patterns::of(&table);
+        let all = list.chunks(ENTRY_CELLS).all(|entry| {
+            let instruction = patterns.leads_to(entry[2]).map(|place| table[place]);
+            // Of kind 1, with the note listed.
+            instruction.is_some_and(|it| it / 65536 == 1 && note_of(it) == entry[0] / 1024)
+        });
+        let inputs = || format!("message {}", hex(message));
+        self.expect(all, "list", "an origin leads to the note listed", inputs);
+    }
+
+    /// The table of a message that is sound.
+    fn table_of(&mut self, message: &[u8]) -> Vec<u32> {
+        // At most an entry for each five bits.
+        let mut read = self.read(message, 2 * message.len(), LARGEST_TITLE);
+        read.table.truncate(read.answer.entries);
+        read.table
     }
 
     fn rows_any(&mut self) {
         let message = inputs::message(&mut self.rng);
         let entries = self.entries_of(&message);
-        let list_room = self.room(2 * entries);
+        let list_room = self.room(ENTRY_CELLS * entries);
         let rows_room = self.room(entries);
         let (answer, list, rows) = self.rows(&message, list_room, rows_room);
-        let packed = rows[..answer.entries].iter().enumerate().all(|(i, row)| {
-            let first = row.note * 1024 + row.scale * 256 + row.style * 16 + row.volume;
-            (first, row.microseconds) == (list[2 * i], list[2 * i + 1])
-        });
+        let packed: Vec<u32> = rows[..answer.entries].iter().flat_map(cells_of).collect();
+        let agree = packed == list[..packed.len()];
         let inputs = || format!("message {}", hex(&message));
-        self.expect(packed, "rows", "the two forms agree", inputs);
+        self.expect(agree, "rows", "the two forms agree", inputs);
     }
 
     fn write_any(&mut self) {
@@ -358,8 +381,7 @@ impl Comparison {
             self.rng.within(5, 60)
         };
         for _ in 0..edits {
-            let read = self.read(&message, 2 * message.len(), 30);
-            let counts = tones::counts(&read.table[..read.answer.entries]);
+            let counts = tones::counts(&self.table_of(&message));
             let spot = self.spot_in(&message, &counts);
             let edit = self.random_edit();
             let (answer, octets, cells) = self.edit_with_some_room(&message, spot, edit);
@@ -372,12 +394,50 @@ impl Comparison {
 
     /// The list that an edit gave is the list of the octets that it left.
     fn list_is(&mut self, message: &[u8], edited: &Edited, cells: &[u32]) {
-        let (answer, list) = self.list(message, 2 * edited.entries);
+        let (answer, list) = self.list(message, ENTRY_CELLS * edited.entries);
         let same = answer.refusal == 0
             && (answer.entries, answer.mark) == (edited.entries, edited.mark)
-            && list == cells[..2 * edited.entries];
+            && list == cells[..ENTRY_CELLS * edited.entries];
         let inputs = || format!("message {}", hex(message));
         self.expect(same, "edit", "the list is that of the new octets", inputs);
+    }
+
+    /// An edit at the origin of some entry.
+    fn edit_at_origin(&mut self) {
+        let message = self.tone_to_edit().message;
+        let room = ENTRY_CELLS * self.entries_of(&message);
+        let (listed, list) = self.list(&message, room);
+        if listed.entries > 0 {
+            let entry = self.rng.below(listed.entries);
+            let origin = list[ENTRY_CELLS * entry + 2];
+            self.replace_at_origin(&message, listed.mark, &list, origin);
+        }
+    }
+
+    /// Another note takes the place of the one that sounds. At a recall that is
+    /// refused. Else just the entries that play the note change: those of each pass,
+    /// and those of recalls.
+    fn replace_at_origin(&mut self, message: &[u8], mark: u32, list: &[u32], origin: u32) {
+        let table = self.table_of(message);
+        let patterns = Patterns::of(&table);
+        let note = patterns.leads_to(origin);
+        let other = note.map_or(0, |place| another_note(table[place]));
+        let (pattern, instruction) = apart(origin);
+        let spot = Spot {
+            used: message.len(),
+            pattern,
+            instruction,
+        };
+        let edit = Edit::Replace(other);
+        let (answer, _, new) = self.edit(message, message.len(), spot, edit, list.len());
+        let right = if patterns.is_recall(pattern) {
+            answer.refusal == 12
+        } else {
+            let expected = with_note(list, other, |it| patterns.leads_to(it) == note);
+            (answer.refusal, answer.mark) == (0, mark) && new == expected
+        };
+        let inputs = || format!("{edit:?} at {spot:?}, message {}", hex(message));
+        self.expect(right, "edit", "an origin is where to edit", inputs);
     }
 
     fn edit_with_some_room(
@@ -396,7 +456,7 @@ impl Comparison {
             3 => longer + self.rng.below(4200),
             _ => longer + self.rng.below(20),
         };
-        let list_room = self.room(2 * needed.entries);
+        let list_room = self.room(ENTRY_CELLS * needed.entries);
         self.edit(message, buffer_room, spot, edit, list_room)
     }
 
@@ -579,6 +639,30 @@ pub struct Read {
     pub answer: Tone,
     pub table: Vec<u32>,
     pub title: Vec<u8>,
+}
+
+/// The note that an instruction of kind 1 sounds.
+fn note_of(instruction: u32) -> u32 {
+    instruction % 65536 / 32
+}
+
+/// The next note, as long as this one. Behind H comes the pause.
+fn another_note(instruction: u32) -> u32 {
+    match note_of(instruction) {
+        12 => instruction - 12 * 32,
+        _ => instruction + 32,
+    }
+}
+
+/// A list in which some entries, told by their origins, sound another note.
+fn with_note(list: &[u32], instruction: u32, plays_it: impl Fn(u32) -> bool) -> Vec<u32> {
+    let mut list = list.to_vec();
+    for entry in list.chunks_mut(ENTRY_CELLS) {
+        if plays_it(entry[2]) {
+            entry[0] = note_of(instruction) * 1024 + entry[0] % 1024;
+        }
+    }
+    list
 }
 
 pub fn edit_name(edit: Edit) -> &'static str {

@@ -1,7 +1,7 @@
 //! What is heard of a table, worked out by exact sums.
 //!
-//! It knows the rules of settings, passes and restarts. It knows nothing of
-//! messages, and nothing of fractions: a boundary is the sum of all that sounds
+//! It knows the rules of settings, passes, restarts and origins. It knows nothing
+//! of messages, and nothing of fractions: a boundary is the sum of all that sounds
 //! since the last restart. Where the sums restart is a parameter, so that a wrong
 //! rule can be heard too.
 
@@ -70,6 +70,8 @@ const _: () = {
 pub struct Sound {
     /// The first number of its entry.
     pub first: u32,
+    /// The third one.
+    pub origin: u32,
     pub units: u128,
     pub beats: u128,
     /// Whether the sums restart at it.
@@ -113,6 +115,7 @@ impl<R: Fn(Event) -> bool> Player<R> {
     pub fn table(&mut self, table: &[u32]) {
         let mut bodies: [&[u32]; 4] = [&[]; 4];
         let mut rest = table;
+        let mut position = 0;
         while let [header, behind @ ..] = rest {
             let (id, loops) = ((header / 4096 % 4) as usize, header / 256 % 16);
             let (own, behind) = behind.split_at((header % 256) as usize);
@@ -122,12 +125,13 @@ impl<R: Fn(Event) -> bool> Player<R> {
                 self.meet(Event::Pattern);
                 bodies[id] = own;
             }
-            self.passes(bodies[id], loops);
+            self.passes(position, bodies[id], loops);
             rest = if loops == 15 { &[] } else { behind };
+            position += 1;
         }
     }
 
-    fn passes(&mut self, body: &[u32], loops: u32) {
+    fn passes(&mut self, header: u32, body: &[u32], loops: u32) {
         let passes = if loops == 15 { 2 } else { loops + 1 };
         for pass in 0..passes {
             self.meet(match (loops, pass) {
@@ -135,17 +139,18 @@ impl<R: Fn(Event) -> bool> Player<R> {
                 (15, _) => Event::SecondEndlessPass,
                 _ => Event::Pass,
             });
-            self.pass(body);
+            self.pass(header, body);
         }
     }
 
-    pub fn pass(&mut self, body: &[u32]) {
-        for &entry in body {
-            self.instruction(entry / 65536, entry % 65536);
+    /// Plays a body once. The header that sounds it is known by its position.
+    pub fn pass(&mut self, header: u32, body: &[u32]) {
+        for (origin, &entry) in (header * 256..).zip(body) {
+            self.instruction(origin, entry / 65536, entry % 65536);
         }
     }
 
-    fn instruction(&mut self, kind: u32, payload: u32) {
+    fn instruction(&mut self, origin: u32, kind: u32, payload: u32) {
         match kind {
             1 if payload < 32 => self.meet(Event::Pause),
             1 => self.meet(Event::Note),
@@ -156,7 +161,7 @@ impl<R: Fn(Event) -> bool> Player<R> {
             _ => self.meet(Event::Volume),
         }
         match kind {
-            1 => self.sound(payload),
+            1 => self.sound(origin, payload),
             2 => self.scale = payload,
             3 => self.style = payload,
             4 => self.tempo = payload,
@@ -164,11 +169,12 @@ impl<R: Fn(Event) -> bool> Player<R> {
         }
     }
 
-    fn sound(&mut self, payload: u32) {
+    fn sound(&mut self, origin: u32, payload: u32) {
         let (note, duration, specifier) = (payload / 32, payload / 4 % 8, payload % 4);
         let full: u128 = [384, 576, 672, 256][specifier as usize];
         self.sounds.push(Sound {
             first: note * 1024 + self.scale * 256 + self.style * 16 + self.volume,
+            origin,
             units: full >> duration,
             beats: BEATS[self.tempo as usize],
             anew: self.anew,
@@ -176,7 +182,7 @@ impl<R: Fn(Event) -> bool> Player<R> {
         self.anew = false;
     }
 
-    /// The list, two numbers an entry. Each duration is the difference of two
+    /// The list, three numbers an entry. Each duration is the difference of two
     /// boundaries, and each boundary is rounded down from its exact sum.
     pub fn cells(&self) -> Vec<u32> {
         let mut cells = Vec::new();
@@ -187,7 +193,8 @@ impl<R: Fn(Event) -> bool> Player<R> {
             }
             let before = sum / PARTS;
             sum += sound.units * 625_000 * (PARTS / sound.beats);
-            cells.extend([sound.first, (sum / PARTS - before) as u32]);
+            let microseconds = (sum / PARTS - before) as u32;
+            cells.extend([sound.first, microseconds, sound.origin]);
         }
         cells
     }

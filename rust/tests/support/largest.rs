@@ -41,6 +41,13 @@ pub fn longest() -> Vec<u8> {
     temporary(&table)
 }
 
+/// The origin of an entry of that list, by its position. A header sounds 15 passes,
+/// and a pass has 255 entries.
+pub fn origin_in_longest(position: usize) -> u32 {
+    let (header, in_body) = (position / (15 * 255), position % 255);
+    (header * 256 + in_body) as u32
+}
+
 /// 255 rows of 31 octets.
 pub const IMAGE: [u8; 31 * 255] = [0x81; 31 * 255];
 

@@ -71,6 +71,8 @@ pub fn lent_rows(rng: &mut Rng, length: usize) -> Lent<Entry> {
         style: rng.word(),
         volume: rng.word(),
         microseconds: rng.word(),
+        header: rng.word(),
+        position: rng.word(),
     })
 }
 

@@ -16,8 +16,10 @@ pub mod inputs;
 pub mod kinds;
 pub mod largest;
 pub mod lent;
+pub mod lists;
 pub mod logos;
 pub mod measured;
+pub mod origins;
 pub mod rng;
 pub mod tones;
 
