@@ -7,3 +7,4 @@ pub mod Exactly
 pub mod Order
 pub mod Unique
 pub mod Calls
+pub mod Origins

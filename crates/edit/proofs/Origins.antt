@@ -46,3 +46,32 @@ module _ (t : Tone) (front : List Entry) (r : Entry) (rest : List Entry) (h : pl
   recall-takes-none recall ed new =
       let n = length (patternAt (t .patterns) (r .header) .body) in
       rw (new, lt-ltb (r .header) (length (t .patterns)) (origin-header t front r rest h), lt-leb 1 n (omega (arith, eqb-true n 0 recall))) refl
+
+  -- ---- an accepted edit
+
+  -- demand 3 at the origin of an entry of the old list: it leads to the note listed; this note stands in the old message where the edit is; every
+  -- bit ahead of it is unchanged but for its part's length; and of its body what the edit says is changed
+  pub record EditsWhatSounds (ed : Edit) (old new : List Bool) : Type 0 where
+    pub leads : LeadsTo (t .patterns) front r (r .header)
+    pub standsThere : (more : List Bool) × (drop (instructionPlace t (r .header) (r .position)) old ≡ entryBits (tableCell (t .patterns) (r .header) (r .position)) ++ more)
+    pub bitsAhead : Ahead (r .header) (r .position) t old new
+    pub body : patternAt (changed ed (r .header) (r .position) t .patterns) (r .header) .body ≡ bodyAfter ed (r .position) (patternAt (t .patterns) (r .header) .body)
+
+  pub edits-what-sounds : (buf : List ℕ) (used : ℕ) (ed : Edit) (list buf′ list′ : List ℕ) (a : Answer) → EditPromise buf used ed (r .header) (r .position) list buf′ list′ a
+      → Accepting a → readTone (take used buf) ≡ accepted t → EditsWhatSounds ed (bitsOf (take used buf)) (bitsOf (take (newLength a) buf′))
+  edits-what-sounds buf used ed list buf′ list′ a p accepts q =
+      let k = r .header in
+      let i = r .position in
+      let n = length (patternAt (t .patterns) k .body) in
+      let grounds = edit-conditions buf used ed k i list buf′ list′ a p accepts t q .grounds in
+      let own : isRecall (patternAt (t .patterns) k) ≡ false = ne-eqb n 0 (λ e. omega (arith, grounds .noRecall, e)) in
+      let inside = origin-inside t front r rest h own in
+      let bits = edit-bits-ahead buf used ed k i list buf′ list′ a p accepts t q in
+      let stands = bits .standsThere inside in
+      let cell = instruction-there (t .patterns) k i (grounds .pattern) inside in
+      record {
+        leads = origin-leads t front r rest h own;
+        standsThere = (stands .0, stands .1 ∙ ap (λ (e : ℕ). entryBits e ++ stands .0) (sym cell));
+        bitsAhead = bits;
+        body = ap (λ x. x .body) (pattern-after ed k i t (grounds .pattern));
+      }

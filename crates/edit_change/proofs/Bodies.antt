@@ -10,6 +10,7 @@ use lib.Dec.{ltb}
 use borrow.Author.Tests.{ltb-true, leb-true, eqb-false, ne-eqb}
 use Rattle.tone.specs.Table.{kind, payload, width, allowed, isInstruction, Instruction}
 use Rattle.tone.specs.Tone.{Pattern, Tone, frontOf, specifier, partOf, header, cells, patternAt, recallable, learn, noneKnown, Instructions, Sound, Sequence, Formed}
+use Rattle.tone.proofs.Positions.{sound-at}
 use Rattle.tone.proofs.Rows.{is-instruction}
 use Rattle.bits.proofs.Choice.{both}
 use Rattle.edit_change.specs.declared.Edit.{Edit}

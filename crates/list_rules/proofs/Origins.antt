@@ -242,9 +242,9 @@ module _ (ps : List Pattern) (front : List Entry) (r : Entry) (rest : List Entry
   up-to : upTo ps (r .header) (found .there .passed) (r .position) ≡ ahead (play atStart noBodies 0 (found .before) .entries) (ahead (done .entries) (pass (begun loop (done .after)) (heard .played)))
   unfolding loop done
   up-to = λ j.
-    let before = before-is j in
-    let times = passes (pattern-is j .loop) (found .there .passed) (stateAfter atStart noBodies before) (body-is j) in
-    ahead (play atStart noBodies 0 before .entries) (ahead (times .entries) (pass (begun (pattern-is j .loop) (times .after)) (played-is j)))
+      let before = before-is j in
+      let times = passes (pattern-is j .loop) (found .there .passed) (stateAfter atStart noBodies before) (body-is j) in
+      ahead (play atStart noBodies 0 before .entries) (ahead (times .entries) (pass (begun (pattern-is j .loop) (times .after)) (played-is j)))
 
   pub comes-of : ComesOf ps front r
   unfolding loop body done heard
@@ -296,9 +296,9 @@ own-body : (bodies : List Remembered) (p : Pattern) → isRecall p ≡ false →
 unfolding bodyOf
 own-body bodies p h = rw h refl
 
-bounded-there : (front : List Entry) {r : Entry} {rest : List Entry} → AllBounded (front ++ r ∷ rest) → Bounded r
-bounded-there [] b = b .0
-bounded-there (x ∷ front) b = bounded-there front (b .1)
+bounded-there : (front : List Entry) (r : Entry) (rest : List Entry) → AllBounded (front ++ r ∷ rest) → Bounded r
+bounded-there [] r rest b = b .0
+bounded-there (x ∷ front) r rest b = bounded-there front r rest (b .1)
 
 module _ (t : Tone) (front : List Entry) (r : Entry) (rest : List Entry) (h : playingList t .entries ≡ front ++ r ∷ rest) where
   abbrev ps : List Pattern
@@ -312,9 +312,17 @@ module _ (t : Tone) (front : List Entry) (r : Entry) (rest : List Entry) (h : pl
   pub origin-header : r .header < length (t .patterns)
   origin-header = comes .header
 
-  -- of a definition: its origin leads to the very note listed
-  pub origin-leads : isRecall (patternAt (t .patterns) (r .header)) ≡ false → LeadsTo (t .patterns) front r (r .header)
-  origin-leads own = leads ps front r (r .header) comes (comes .header) (own-body (bodiesAfter noBodies (take (r .header) ps)) (patternAt ps (r .header)) own)
+  module _ (own : isRecall (patternAt (t .patterns) (r .header)) ≡ false) where
+    body-own : bodyPlayed ps (r .header) ≡ patternAt ps (r .header) .body
+    body-own = own-body (bodiesAfter noBodies (take (r .header) ps)) (patternAt ps (r .header)) own
+
+    -- of a definition: its position is one of the header's own instructions
+    pub origin-inside : r .position < length (patternAt (t .patterns) (r .header) .body)
+    origin-inside = subst (λ (b : List ℕ). r .position < length b) body-own (comes .position)
+
+    -- and leads to the very note listed
+    pub origin-leads : LeadsTo (t .patterns) front r (r .header)
+    origin-leads = leads ps front r (r .header) comes (comes .header) body-own
 
   -- of a recall: the same through the nearest earlier definition of its id, the header's position being the recall's own
   pub recall-leads : Formed t → isRecall (patternAt (t .patterns) (r .header)) ≡ true
@@ -339,4 +347,4 @@ module _ (t : Tone) (front : List Entry) (r : Entry) (rest : List Entry) (h : pl
 
   -- it is below 255 × 256 + 255
   pub origin-below : Formed t → origin r < 255 * 256 + 255
-  origin-below f = origin-most r (bounded-there front (subst AllBounded h (list-bounded t f)))
+  origin-below f = origin-most r (bounded-there front r rest (subst AllBounded h (list-bounded t f)))

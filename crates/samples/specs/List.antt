@@ -86,7 +86,7 @@ pub record Lists : Type 0 where
   -- and through passes: the second pass begins with the volume that the first ended with
   pub carriedOn : cellsOf (part 0 1 (c ∷ 327689 ∷ []) ∷ []) ≡ 1287 ∷ 952380 ∷ 0 ∷ 1289 ∷ 952381 ∷ 0 ∷ []
   -- each instruction sets its own: scale 2, style 1, tempo 14, volume 0, between notes
-  pub each : cellsOf (part 0 0 (131074 ∷ c ∷ 196609 ∷ c ∷ 262158 ∷ c ∷ 327680 ∷ c ∷ []) ∷ []) 
+  pub each : cellsOf (part 0 0 (131074 ∷ c ∷ 196609 ∷ c ∷ 262158 ∷ c ∷ 327680 ∷ c ∷ []) ∷ [])
       ≡ 1543 ∷ 952380 ∷ 1 ∷ 1559 ∷ 952381 ∷ 3 ∷ 1559 ∷ 480000 ∷ 5 ∷ 1552 ∷ 480000 ∷ 7 ∷ []
   -- three cells an entry and one row: exact, and one too few
   pub room : listTone message (fitsNumbers 3) ≡ accepted (oneNote 480000 1)
