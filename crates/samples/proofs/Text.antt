@@ -5,7 +5,7 @@ use Rattle.tone.specs.Table as table
 use Rattle.tone.specs.Tone as tone
 use Rattle.tone.specs.Reading as reading
 use Rattle.list_rules.specs.Duration.{beats, units, microseconds, leftOver}
-use Rattle.list_rules.specs.Sounding.{applied, fractionAfter, sounded}
+use Rattle.list_rules.specs.Sounding.{applied, fractionAfter, sounded, unpacked}
 use Rattle.list_rules.specs.Playing.{step, patternPlayed, playingList}
 use Rattle.list_count.specs.Bodies.{passesOf, bodyOf, remember}
 use Rattle.list_rules.specs.Listing.{listTone}
@@ -13,7 +13,7 @@ use Rattle.list_text.specs.Text.{digits, places, number, line, lines, markText,
 use Rattle.samples.specs.Text.{Texts}
 
 pub texts : Texts
-unfolding field bitsN table.width table.allowed tone.allowedCharacter reading.element reading.filled reading.whetherUnicode reading.soundPart reading.parts reading.command reading.character reading.text reading.title reading.counted reading.titled reading.typed reading.front reading.headerDue reading.instructionDue reading.bodyDue reading.patternsDue reading.ending reading.rest reading.wholeTone reading.readTone beats units microseconds leftOver applied fractionAfter sounded step passesOf bodyOf remember patternPlayed playingList listTone digits places number line lines markText opening refusal
+unfolding field bitsN table.width table.allowed tone.allowedCharacter reading.element reading.filled reading.whetherUnicode reading.soundPart reading.parts reading.command reading.character reading.text reading.title reading.counted reading.titled reading.typed reading.front reading.headerDue reading.instructionDue reading.bodyDue reading.patternsDue reading.ending reading.rest reading.wholeTone reading.readTone beats units microseconds leftOver applied fractionAfter sounded unpacked step passesOf bodyOf remember patternPlayed playingList listTone digits places number line lines markText opening refusal
 texts = record {
   p1 = refl;
   p1Roomy = refl;
