@@ -98,9 +98,9 @@ module _ (w : Walk) (from : BitPlace) (value : ℕ) (r : Ready w) where
 
 -- the next header is due
 pub begins-header : (w : Walk) → Ready w × (w .header < 255)
-    → Headed w (record { settings = w .settings; fraction = w .fraction; header = w .header + 1; position = 0; base = w .base; beats = w .beats; inverse = w .inverse; at = w .at; cells = w .cells })
+    → Headed w (record { settings = w .settings; fraction = w .fraction; header = w .header + 1; position = w .position; base = w .base; beats = w .beats; inverse = w .inverse; at = w .at; cells = w .cells })
 begins-header w k = let r = k .0 in record {
-  ready = record { range = r .range; headers = omega (arith, k .1); positions = lit≤ tt; based = r .based; beating = r .beating; timed = r .timed };
+  ready = record { range = r .range; headers = omega (arith, k .1); positions = r .positions; based = r .based; beating = r .beating; timed = r .timed };
   state = refl;
   place = refl;
   cells = refl;

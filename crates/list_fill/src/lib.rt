@@ -91,7 +91,6 @@ impl Walk {
     {
         let mut walk = self;
         walk.header = self.header + 1;
-        walk.position = 0;
         walk
     }
 

@@ -61,7 +61,7 @@ patternPlayed s bodies p = passes (p .loop) (passesOf (p .loop)) s (bodyOf bodie
 
 -- the state at the next header
 abbrev pub nextHeader : State → State
-nextHeader s = record { settings = s .settings; fraction = s .fraction; header = s .header + 1; position = 0 }
+nextHeader s = record { settings = s .settings; fraction = s .fraction; header = s .header + 1; position = s .position }
 
 -- the patterns from one on, with n entries listed: listing stops with a loop 15
 abbrev pub play : State → List Remembered → ℕ → List Pattern → Listing
