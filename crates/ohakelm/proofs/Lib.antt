@@ -1,3 +1,4 @@
 pub mod Exits
 pub mod Unique
 pub mod Room
+pub mod Origins

@@ -22,7 +22,15 @@ header-there (p ∷ ps) (suc k) h =
     let e : headerCell ps k + 0 ≡ headerCell ps k = omega arith in
     cell-behind p ps k 0 (headerCell (p ∷ ps) (suc k)) (omega arith) ∙ ap (λ (n : ℕ). getD (cells ps) n 0) e ∙ header-there ps k (omega arith)
 
--- its instruction at position i is the cell 1 + i behind it
+-- all of its instructions stand in the table
+pub cell-inside : (ps : List Pattern) (k i : ℕ) → k < length ps → i < length (patternAt ps k .body) → headerCell ps k + (1 + i) < length (cells ps)
+cell-inside [] k i h l = absurd (omega arith)
+cell-inside (p ∷ ps) zero i h l = omega (arith, length-append (p .body) (cells ps))
+cell-inside (p ∷ ps) (suc k) i h l =
+    let more = cell-inside ps k i (omega arith) l in
+    omega (arith, length-append (p .body) (cells ps), length-append (p .body) (cells (take k ps)))
+
+-- the instruction at position i is the cell 1 + i behind the header's
 pub instruction-there : (ps : List Pattern) (k i : ℕ) → k < length ps → i < length (patternAt ps k .body) → getD (cells ps) (headerCell ps k + (1 + i)) 0 ≡ getD (patternAt ps k .body) i 0
 instruction-there [] k i h l = absurd (omega arith)
 instruction-there (p ∷ ps) zero i h l =
