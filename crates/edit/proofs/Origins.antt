@@ -1,12 +1,11 @@
 -- An edit at an entry's origin: it edits the instruction that sounds there.
-use Prim.Native.Nat.{ℕ, suc, _+_, _≤_, _<_}
+use Prim.Native.Nat.{ℕ, _+_, _<_}
 use native.Mathlib.Omega.{arith}
 use mathlib.Core.Path.{_≡_, refl, sym, ap, _∙_}
 use mathlib.Core.Bool.{Bool, true, false}
 use mathlib.Core.List.{List, _∷_, _++_}
 use lib.ListN.{length, take, drop}
-use lib.Dec.{eqb}
-use borrow.Author.Tests.{eqb-true, eqb-false, ne-eqb, lt-ltb, le-leb, lt-leb}
+use borrow.Author.Tests.{eqb-true, ne-eqb, lt-ltb, le-leb, lt-leb}
 use Rattle.bits.specs.Bits.{bitsOf}
 use Rattle.bits.specs.Outcome.{accepted, refused}
 use Rattle.tone.specs.Tone.{Tone, patternAt}

@@ -6,7 +6,7 @@ use native.Mathlib.Numerals.{add-one, add-two}
 use mathlib.Core.Path.{_≡_, refl, sym, ap, ap₂, _∙_}
 use mathlib.Core.List.{List, [], _∷_}
 use lib.ListN.{length, set, length-set}
-use lib.Seq.{sets, length-sets}
+use lib.Seq.{sets}
 use lib.Pow.{shr-shr}
 use lib.Dec.{leb, lit≤}
 use borrow.Author.Tests.{eq-eqb, ne-eqb, leb-true}

@@ -10,13 +10,13 @@ use lib.Dec.{eqb, leb}
 use borrow.Author.Tests.{eqb-true, eqb-false, leb-true}
 use Rattle.bits.proofs.Choice.{pick-elim, both}
 use Rattle.tone.specs.Table.{kind, payload, width, allowed, noteOf, durationOf, specifierOf, Instruction}
-use Rattle.tone.specs.Tone.{Pattern, Tone, Formed, header, learn, Instructions, Sound, Sequence, noneKnown}
+use Rattle.tone.specs.Tone.{Pattern, Tone, Formed, header, learn, Instructions, Sequence, noneKnown}
 use Rattle.list_rules.specs.declared.Settings.{Settings}
 use Rattle.list_rules.specs.declared.Entry.{Entry}
 use Rattle.list_rules.specs.Duration.{beats}
 use Rattle.list_rules.specs.Sounding.{defaults, applied, State, atStart, unitsOf, beatsAt, fractionAfter, following, sounded}
 use Rattle.list_rules.specs.Ranges.{InRange, InTime, Bounded, AllBounded}
-use Rattle.list_rules.specs.Playing.{Played, step, pass, begun, onePass, passes, Listing, patternPlayed, nextHeader, play, playingList}
+use Rattle.list_rules.specs.Playing.{step, pass, begun, onePass, passes, Listing, patternPlayed, nextHeader, play, playingList}
 use Rattle.list_count.specs.Bodies.{passesOf, Remembered, noBodies, bodyOf, remember}
 use Rattle.tone_elements.specs.Answers.{notes}
 use Rattle.tone_elements.proofs.Walks.{notes-most}

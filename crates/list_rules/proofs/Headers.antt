@@ -2,11 +2,9 @@
 use Prim.Native.Nat.{ℕ, zero, suc, _+_}
 use native.Mathlib.Omega.{arith}
 use native.Mathlib.Nat.{add-zero}
-use mathlib.Core.Path.{_≡_, refl, sym, ap, _∙_}
+use mathlib.Core.Path.{_≡_, refl, sym, _∙_}
 use mathlib.Core.List.{List, [], _∷_}
 use lib.ListN.{length}
-use lib.Dec.{eqb}
-use Rattle.bits.proofs.Choice.{pick-elim}
 use Rattle.tone.specs.Tone.{Pattern}
 use Rattle.list_count.specs.Bodies.{Remembered, passesOf, bodyOf, remember}
 use Rattle.list_rules.specs.Sounding.{State, atStart, following}

@@ -8,7 +8,7 @@ use mathlib.Core.List.{List, [], _∷_, _++_, append-assoc, map}
 use lib.ListN.{length, getD, take, length-append}
 use lib.Seq.{take-at, length-take-le, getD-take, getD-append-seam}
 use lib.Dec.{eqb}
-use borrow.Author.Tests.{eqb-true, eqb-false, ne-eqb}
+use borrow.Author.Tests.{eqb-true, eqb-false}
 use Rattle.bits.specs.Choice.{pick}
 use Rattle.tone.specs.Table.{kind, payload, noteOf}
 use Rattle.tone.specs.Tone.{Pattern, Tone, Formed, cells, patternAt, headerCell, noneKnown}
@@ -18,7 +18,7 @@ use Rattle.list_rules.specs.declared.Entry.{Entry}
 use Rattle.list_rules.specs.Duration.{microseconds}
 use Rattle.list_rules.specs.Sounding.{State, atStart, unitsOf, beatsAt, following, sounded, origin}
 use Rattle.list_rules.specs.Ranges.{Bounded, AllBounded}
-use Rattle.list_rules.specs.Playing.{Played, Listing, ahead, step, pass, begun, onePass, passes, patternPlayed, nextHeader, play, playingList, markAt}
+use Rattle.list_rules.specs.Playing.{Played, Listing, ahead, step, pass, begun, onePass, passes, patternPlayed, nextHeader, play, playingList}
 use Rattle.list_rules.proofs.Settling.{either}
 use Rattle.list_rules.proofs.Joining.{stateAfter, bodiesAfter, NoneEndless}
 use Rattle.list_rules.proofs.Restarts.{patterns-carry}

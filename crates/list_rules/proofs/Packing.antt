@@ -6,7 +6,7 @@ use mathlib.Core.List.{List, [], _∷_, _++_}
 use lib.ListN.{length, getD, drop, set, length-append, length-drop}
 use lib.Seq.{getD-drop, drop-cons, set-at, append-snoc}
 use Rattle.list_rules.specs.declared.Entry.{Entry}
-use Rattle.list_rules.specs.Sounding.{packed, origin, cells, entryCells, numbers, unpacked, entryAt, entriesOf}
+use Rattle.list_rules.specs.Sounding.{packed, origin, inCells, entryCells, numbers, unpacked, entryAt, entriesOf}
 use Rattle.list_rules.specs.Ranges.{Bounded, AllBounded}
 
 -- a packed entry within bounds is small
@@ -22,7 +22,7 @@ pub origin-most : (r : Entry) → Bounded r → origin r < 255 * 256 + 255
 origin-most r b = omega (arith, origin-small r b)
 
 -- an entry has as many cells as is said
-pub cells-number : (r : Entry) → length (cells r) ≡ entryCells
+pub cells-number : (r : Entry) → length (inCells r) ≡ entryCells
 cells-number r = refl
 
 -- an entry within bounds comes back from its three numbers
@@ -56,7 +56,7 @@ length-numbers (r ∷ rs) = let h = length-numbers rs in omega arith
 
 pub numbers-append : (rs qs : List Entry) → numbers (rs ++ qs) ≡ numbers rs ++ numbers qs
 numbers-append [] qs = refl
-numbers-append (r ∷ rs) qs = ap (λ (l : List ℕ). cells r ++ l) (numbers-append rs qs)
+numbers-append (r ∷ rs) qs = ap (λ (l : List ℕ). inCells r ++ l) (numbers-append rs qs)
 
 -- entries within bounds come back from the list in cells, whatever follows it
 pub entries-numbers : (rs : List Entry) (rest : List ℕ) → AllBounded rs → entriesOf (length rs) (numbers rs ++ rest) ≡ rs

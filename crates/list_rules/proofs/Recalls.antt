@@ -146,7 +146,7 @@ module _ (bodies : List Remembered) (q : Pattern) (recall : isRecall q ≡ true)
       go unknown e = refl
       go (known b) e = pick-elim (λ (r : List Remembered). bodies ≡ r) (eqb (length b) 0) (λ _. refl) (λ _. sym (set-getD bodies (q .id) unknown) ∙ ap (set bodies (q .id)) e)
 
--- a recall is listed as a definition with the nearest earlier body of its id
+-- a recall is listed as a definition with the nearest earlier body of its id, origins and all: under its own header
 pub recall-is-definition : (before : List Pattern) (q : Pattern) (behind : List Pattern) → q .id < 4 → isRecall q ≡ true
     → play atStart noBodies 0 (before ++ q ∷ behind) ≡ play atStart noBodies 0 (before ++ spelledOut (nearest (q .id) before) q ∷ behind)
 unfolding patternPlayed

@@ -10,7 +10,7 @@ use Rattle.tone.specs.Table.{kind, payload}
 use Rattle.tone.specs.Tone.{Pattern}
 use Rattle.list_count.specs.Bodies.{Remembered, passesOf, bodyOf, remember}
 use Rattle.list_rules.specs.declared.Entry.{Entry}
-use Rattle.list_rules.specs.Sounding.{State, applied, fractionAfter, following, sounded}
+use Rattle.list_rules.specs.Sounding.{State, fractionAfter, following, sounded}
 use Rattle.list_rules.specs.Playing.{Played, Listing, ahead, step, pass, begun, onePass, passes, patternPlayed, nextHeader, play, markAt}
 use Rattle.list_rules.proofs.Joining.{listed-ahead}
 use Rattle.list_rules.proofs.Marks.{list-mark}

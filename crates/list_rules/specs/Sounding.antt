@@ -73,22 +73,22 @@ sounded s p = record {
 abbrev pub packed : Entry → ℕ
 packed r = r .note * 1024 + r .scale * 256 + r .style * 16 + r .volume
 
--- its third number, the origin
+-- its third number, the origin: the position of the header that sounds × 256 + the instruction's in the body played
 abbrev pub origin : Entry → ℕ
 origin r = r .header * 256 + r .position
 
--- an entry's cells
-abbrev pub cells : Entry → List ℕ
-cells r = packed r ∷ r .microseconds ∷ origin r ∷ []
+-- an entry in cells
+abbrev pub inCells : Entry → List ℕ
+inCells r = packed r ∷ r .microseconds ∷ origin r ∷ []
 
--- and their number
+-- the number of its cells
 abbrev pub entryCells : ℕ
 entryCells = 3
 
 -- the list in cells
 abbrev pub numbers : List Entry → List ℕ
 numbers [] = []
-numbers (r ∷ rs) = cells r ++ numbers rs
+numbers (r ∷ rs) = inCells r ++ numbers rs
 
 -- an entry from its three numbers
 unfoldable pub unpacked : ℕ → ℕ → ℕ → Entry

@@ -3,7 +3,7 @@ use Prim.Native.Nat.{ℕ, zero, suc, _+_, _<_}
 use native.Mathlib.Omega.{arith}
 use mathlib.Core.Path.{_≡_, refl, ap, _∙_}
 use mathlib.Core.Bool.{Bool}
-use mathlib.Core.List.{List, [], _∷_, _++_}
+use mathlib.Core.List.{List, [], _∷_}
 use lib.ListN.{length, getD, take, length-append, List·getD-append}
 use lib.Seq.{getD-append-add}
 use Rattle.tone.specs.Tone.{Pattern, header, cells, patternAt, headerCell, learn, Sound, Sequence}
@@ -38,6 +38,7 @@ instruction-there (p ∷ ps) zero i h l =
     ap (λ (n : ℕ). getD (cells (p ∷ ps)) n 0) e ∙ List·getD-append (p .body) (cells ps) 0 i l
 instruction-there (p ∷ ps) (suc k) i h l = cell-behind p ps k (1 + i) (headerCell (p ∷ ps) (suc k) + (1 + i)) refl ∙ instruction-there ps k i (omega arith) l
 
+-- each pattern of a sequence has its codes in range
 pub sound-at : (known : List Bool) (ps : List Pattern) (k : ℕ) → Sequence known ps → k < length ps → Sound (patternAt ps k)
 sound-at known [] k h l = let z : ⊥ = omega arith in absurd z
 sound-at known (p ∷ ps) zero h l = h .0
