@@ -1,8 +1,8 @@
 ghost use mathlib.Core.Path.{_≡_};
 ghost use mathlib.Core.List.{_++_};
-ghost use Prim.Native.Nat.{_+_, _*_, _≤_, _<_};
+ghost use Prim.Native.Nat.{_*_, _≤_};
 ghost use lib.ListN.{length, drop};
-ghost use Rattle.list_rules.specs.Sounding.{entryCells, entryAt, entriesOf};
+ghost use Rattle.list_rules.specs.Sounding.{entryCells, entriesOf};
 ghost use Rattle.list_rules.specs.Listing.{fitsNumbers, fitsBoth};
 ghost use Rattle.list.specs.Promise.{entriesIn, ListPromise, RowsPromise};
 use bits::BitPlace;
@@ -15,15 +15,6 @@ pub enum Listed {
     Refused { number: u32, place: BitPlace },
 }
 
-// The entry at a position of a list in cells.
-pub fn entry_at(list: &[u32], i: usize) -> Entry
-    requires { ⌜ i * entryCells + 2 < length (now list) ⌝ }
-    ensures { λ r. ⌜ r ≡ entryAt (now (list .entry)) i ⌝ }
-{
-    let at = i * list_rules::ENTRY_CELLS;
-    list_rules::entry_of(list[at], list[at + 1], list[at + 2])
-}
-
 // Fills the first `n` rows from a list in cells. The other rows stay.
 fn fill_rows(list: &[u32], n: usize, rows: &mut [Entry])
     requires { ⌜ (n * entryCells ≤ length (now list)) × (n ≤ length (now rows)) ⌝ }
@@ -31,7 +22,7 @@ fn fill_rows(list: &[u32], n: usize, rows: &mut [Entry])
 {
     let mut i = 0;
     while i < n {
-        let e = entry_at(list, i);
+        let e = list_rules::entry_at(list, i);
         rows[i] = e;
         i += 1;
     }

@@ -104,10 +104,6 @@ next-alike s r h = h
 
 -- ---- lists
 
-picked-entries : (t : Bool) (g h : Listing) → pick t g h .entries ≡ pick t (g .entries) (h .entries)
-picked-entries true g h = refl
-picked-entries false g h = refl
-
 entries-alike : (s r : State) (bodies : List Remembered) (n m : ℕ) (ps : List Pattern) → unplaced s ≡ unplaced r → tune (play s bodies n ps .entries) ≡ tune (play r bodies m ps .entries)
 entries-alike s r bodies n m [] h = refl
 entries-alike s r bodies n m (p ∷ ps) h =

@@ -1,7 +1,8 @@
 ghost use mathlib.Core.Path.{_≡_};
-ghost use Prim.Native.Nat.{_≤_};
+ghost use Prim.Native.Nat.{_+_, _*_, _≤_, _<_};
+ghost use lib.ListN.{length};
 ghost use Rattle.list_rules.specs.Duration.{beats as beatsOf, units as unitsOf, microseconds as microsecondsOf, leftOver};
-ghost use Rattle.list_rules.specs.Sounding.{defaults, applied as appliedTo, unpacked};
+ghost use Rattle.list_rules.specs.Sounding.{defaults, applied as appliedTo, entryCells, unpacked, entryAt};
 ghost use Rattle.list_rules.specs.Ranges.{InRange};
 ghost use Rattle.list_rules.specs.Tempo.{inverseOf, Timed, baseOf};
 
@@ -212,4 +213,13 @@ pub fn entry_of(first: u32, second: u32, third: u32) -> Entry
         header: third / 256,
         position: third % 256,
     }
+}
+
+// The entry at a position of a list in cells.
+pub fn entry_at(list: &[u32], i: usize) -> Entry
+    requires { ⌜ i * entryCells + 2 < length (now list) ⌝ }
+    ensures { λ r. ⌜ r ≡ entryAt (now (list .entry)) i ⌝ }
+{
+    let at = i * ENTRY_CELLS;
+    entry_of(list[at], list[at + 1], list[at + 2])
 }

@@ -122,7 +122,7 @@ fn put_entries(out: &mut [u8], start: OctetCount, list: &[u32], entries: usize) 
     let mut at = start;
     let mut i = 0;
     while i < entries {
-        at = put_entry(out, at, list::entry_at(list, i));
+        at = put_entry(out, at, list_rules::entry_at(list, i));
         i += 1;
     }
     at

@@ -55,10 +55,10 @@ use Rattle.list_rules.specs.Sounding.{entryCells, entryAt}
 use Rattle.list_rules.proofs.Packing.{filled, filled-length, filled-next}
 use Rattle.list_rules.proofs.Entry as E
 use Rattle.list_rules.proofs.Entry.Laws as E′
-use Rattle.list.proofs.entry_at as entry-at
-use Rattle.list.proofs.entry_at.Symbol as entry-at-def
-use Rattle.list.proofs.entry_at.Symbol.{name as #list·entry-at}
-use Rattle.list.proofs.entry_at.Met as entry-at-thm
+use Rattle.list_rules.proofs.entry_at as entry-at
+use Rattle.list_rules.proofs.entry_at.Symbol as entry-at-def
+use Rattle.list_rules.proofs.entry_at.Symbol.{name as #list-rules·entry-at}
+use Rattle.list_rules.proofs.entry_at.Met as entry-at-thm
 use Rattle.list.proofs.fill_rows.Key.{name as #list·fill-rows}
 use Rattle.list.proofs.fill_rows as f
 use Rattle.list.proofs.fill_rows.Statement as stated
@@ -170,7 +170,7 @@ module _ {M : Type 1} (𝓤 : URA M) (H : Heap 𝓤) (A : Atoms 𝓤) (W : Given
   nearer-ends : WellFounded Nearer
   nearer-ends = InvImage·wf (λ (i : Upto). n - i .0) (Nat·lt-wfRel .wf)
 
-  module _ (𝓣 : Tables 𝓤 H) (known : Triple 𝓤 (𝓣 .C #list·entry-at) (Reading 𝓤 H A mem run)) (room : Room E.the-row (length ys)) (n-fits : n < 2 ^ 64) (n-list : n * entryCells ≤ length xs) (n-rows : n ≤ length ys) where
+  module _ (𝓣 : Tables 𝓤 H) (known : Triple 𝓤 (𝓣 .C #list-rules·entry-at) (Reading 𝓤 H A mem run)) (room : Room E.the-row (length ys)) (n-fits : n < 2 ^ 64) (n-list : n * entryCells ≤ length xs) (n-rows : n ≤ length ys) where
     abbrev C : Calls 𝓤 H
     C = 𝓣 .C
 
@@ -271,7 +271,7 @@ module _ {M : Type 1} (𝓤 : URA M) (H : Heap 𝓤) (A : Atoms 𝓤) (W : Given
         keep ! (0 ∷ 15 ∷ 13 ∷ 11 ∷ 9 ∷ 7 ∷ 21 ∷ 19 ∷ 17 ∷ 23 ∷ 1 ∷ 2 ∷ 3 ∷ 5 ∷ 6 ∷ 24 ∷ 22 ∷ 20 ∷ 18 ∷ 16 ∷ 14 ∷ 12 ∷ 10 ∷ 8 ∷ []) $
         first ! $ blocks ! $ loops ! 𝓣 Nearer nearer-ends (At l₀ l₁ l₂ l₃ l₄ l₅ l₆ l₇ l₈) (turns l₀ l₁ l₂ l₃ l₄ l₅ l₆ l₇ l₈) (0, zero-le))))))))))
 
-module _ {M : Type 1} (𝓤 : URA M) (H : Heap 𝓤) (A : Atoms 𝓤) (W : Given 𝓤 H A) (mem : Memory → SProp 𝓤) (run : Routine → Fun 𝓤) (𝓣 : Tables 𝓤 H) (known : Triple 𝓤 (𝓣 .C #list·entry-at) (Reading 𝓤 H A mem run)) where
+module _ {M : Type 1} (𝓤 : URA M) (H : Heap 𝓤) (A : Atoms 𝓤) (W : Given 𝓤 H A) (mem : Memory → SProp 𝓤) (run : Routine → Fun 𝓤) (𝓣 : Tables 𝓤 H) (known : Triple 𝓤 (𝓣 .C #list-rules·entry-at) (Reading 𝓤 H A mem run)) where
   walks : Walks 𝓤 H A f.ended stayed (WpFn 𝓤 H (𝓣 .C) (𝓣 .Λ) code.function) (f.clauses 𝓤 H A mem run)
   walks = walked 𝓤 H A f.ended stayed (f.clauses 𝓤 H A mem run) (WpFn 𝓤 H (𝓣 .C) (𝓣 .Λ) code.function) (λ κs. (slice-vals, (uint-vals w64, (slice-vals, tt))))
       (λ κs. (shr-slice-tells (named 0) (κs .0) u32, (uint-tells w64, (mut-slice-tells (named 1) (κs .1 .0) E.the-row, tt))))
@@ -289,4 +289,4 @@ fill-rows-spec 𝓤 H 𝓜 𝓖 𝓡 =
     entered 𝓤 H (tripleOf 𝓤 H (𝓖 .A) f.signature (f.spec 𝓤 H (𝓖 .A) (𝓜 .mem) (𝓡 .run)))
     (tables 𝓤 H 𝓜 𝓡 code.env .C) (tables 𝓤 H 𝓜 𝓡 code.env .Λ) #list·fill-rows code.function (code.unfolded 𝓤 H 𝓜 𝓡)
     (meets 𝓤 H (𝓖 .A) (givenOf 𝓤 H 𝓜 𝓖) (𝓜 .mem) (𝓡 .run) (tablesOf 𝓤 H 𝓜 (tables 𝓤 H 𝓜 𝓡 code.env))
-    (cited 𝓤 H (Reading 𝓤 H (𝓖 .A) (𝓜 .mem) (𝓡 .run)) 𝓜 𝓡 code.env #list·entry-at entry-at-def.routine code.calls-list·entry-at (entry-at-thm.met 𝓤 H 𝓜 𝓖 𝓡)))
+    (cited 𝓤 H (Reading 𝓤 H (𝓖 .A) (𝓜 .mem) (𝓡 .run)) 𝓜 𝓡 code.env #list-rules·entry-at entry-at-def.routine code.calls-list-rules·entry-at (entry-at-thm.met 𝓤 H 𝓜 𝓖 𝓡)))
