@@ -128,3 +128,9 @@ refusal-numbers h e = h .said ∙ ap listNumbers e
 pub made-numbers : {m : List ℕ} {fits : Listing → Bool} {list l : List ℕ} {r : Listed} {g : Listing} → ListPromise m fits list l r → listTone m fits ≡ accepted g
     → numbersOf r ≡ record { refusal = 0; place = 0; entries = length (g .entries); mark = g .mark }
 made-numbers h e = h .said ∙ ap listNumbers e
+
+-- what is lent behind it stays, also one or two cells that are left over
+pub cells-behind : {m : List ℕ} {fits : Listing → Bool} {list l : List ℕ} {r : Listed} {g : Listing} → ListPromise m fits list l r → listTone m fits ≡ accepted g
+    → l ≡ numbers (g .entries) ++ drop (3 * length (g .entries)) list
+cells-behind {list = list} {g = g} h e =
+    h .leaves ∙ ap (λ (o : Outcome Listing). cellsAfter o list) e ∙ ap (λ (n : ℕ). numbers (g .entries) ++ drop n list) (length-numbers (g .entries))

@@ -1,13 +1,13 @@
 -- Where two grounds against a list meet, which of them is given: those of reading, then 11.
-use Prim.Native.Nat.{ℕ, _*_, _≤_, _<_}
+use Prim.Native.Nat.{ℕ, _*_, _/_, _≤_, _<_}
 use native.Mathlib.Omega.{arith}
-use mathlib.Core.Path.{_≡_, refl, subst}
+use mathlib.Core.Path.{_≡_, refl, sym, subst, _∙_}
 use mathlib.Core.Logic.{inl, inr, ⊎-elim}
 use mathlib.Core.Bool.{Bool, true, false}
 use mathlib.Core.List.{List}
 use lib.ListN.{length}
 use lib.Dec.{leb, lit≤}
-use borrow.Author.Tests.{le-leb, lt-leb}
+use borrow.Author.Tests.{le-leb, lt-leb, leb-true, leb-false}
 use Rattle.bits.specs.Outcome.{accepted, refused}
 use Rattle.bits.proofs.Choice.{pick-elim, then-elim}
 use Rattle.tone.specs.Tone.{Tone}
@@ -17,6 +17,15 @@ use Rattle.tone.proofs.Grounds.{Among, Numbered, read-number}
 use Rattle.list_rules.specs.Sounding.{entryCells}
 use Rattle.list_rules.specs.Playing.{Listing, playingList}
 use Rattle.list_rules.specs.Listing.{fitsNumbers, fitsBoth, listTone}
+use Rattle.list_rules.proofs.Settling.{either}
+
+-- a list of n cells has room for n / 3 entries
+pub room-by-three : (n : ℕ) (g : Listing) → fitsNumbers n g ≡ leb (length (g .entries)) (n / 3)
+room-by-three n g =
+    let k = length (g .entries) in
+    either (leb (entryCells * k) n)
+    (λ h. h ∙ sym (le-leb k (n / 3) (omega (arith, leb-true (entryCells * k) n h))))
+    (λ h. h ∙ sym (lt-leb k (n / 3) (omega (arith, leb-false (entryCells * k) n h))))
 
 module _ (m : List ℕ) where
   -- the message's own refusal with its place, whatever is lent
