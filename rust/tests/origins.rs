@@ -74,22 +74,9 @@ fn assert_marked(codec: &dyn Codec, patterns: &[Vec<u32>], expected: &[Sound], m
 fn p1_has_origin_1() {
     let message = octets("02 4A 3A 80 40 00 51 C6 90 00");
     each(|codec| {
-        let (mut list, mut rows) = ([OLD; 3], [Entry::default()]);
+        let mut list = [OLD; ENTRY_CELLS];
         assert_eq!(codec.list(&message, &mut list).entries, 1);
         assert_eq!(list, [10_503, 480_000, 1]);
-        list.fill(OLD);
-        assert_eq!(codec.rows(&message, &mut list, &mut rows).entries, 1);
-        assert_eq!(list, [10_503, 480_000, 1]);
-        let row = Entry {
-            note: 10,
-            scale: 1,
-            style: 0,
-            volume: 7,
-            microseconds: 480_000,
-            header: 0,
-            position: 1,
-        };
-        assert_eq!(rows, [row]);
     });
 }
 

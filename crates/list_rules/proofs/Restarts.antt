@@ -59,6 +59,10 @@ pattern-carried s bodies p h =
     let times : passesOf (p .loop) ≡ p .loop + 1 = rw (ne-eqb (p .loop) 15 h) refl in
     carried-on (p .loop) (passesOf (p .loop)) s (bodyOf bodies p) h ∙ ap (λ (n : ℕ). passes 0 n s (bodyOf bodies p)) times
 
+-- the next header takes settings and fraction as they are
+pub headers-carry : (s : State) → (nextHeader s .settings ≡ s .settings) × (nextHeader s .fraction ≡ s .fraction)
+headers-carry s = (refl, refl)
+
 -- and the next pattern goes on from the state that it leaves, at its own header
 pub patterns-carry : (s : State) (bodies : List Remembered) (n : ℕ) (p : Pattern) (ps : List Pattern) → (p .loop ≡ 15 → ⊥)
     → let d = patternPlayed s bodies p in
