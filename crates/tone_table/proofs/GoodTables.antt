@@ -10,13 +10,13 @@ use lib.ListN.{length, take, drop, length-drop, take-append-drop}
 use lib.Seq.{drop-at, length-take-le}
 use lib.Dec.{leb}
 use borrow.Author.Tests.{le-leb, eq-eqb, leb-true}
-use Rattle.bits.specs.Outcome.{Outcome, accepted, refused, andThen}
+use Rattle.bits.specs.Outcome.{Outcome, accepted, refused, andThen, demand}
 use Rattle.tone.specs.Table.{kind, Instruction}
 use Rattle.tone.specs.Tone.{Pattern, specifier, header, pattern, cells, patternsOf, noneKnown, recallable, learn, Instructions, Sequence}
 use Rattle.tone.proofs.Rows.{header-small, header-pattern}
 use Rattle.tone.proofs.Tables.{patterns-of-cells}
 use Rattle.tone.proofs.Instructions.{header-in-table}
-use Rattle.tone_table.specs.Judging.{demand, entriesJudged, endJudged, judgeTable}
+use Rattle.tone_table.specs.Judging.{entriesJudged, endJudged, judgeTable}
 use Rattle.tone_table.specs.Answers.{entryLength, headerLength, instructionLength, bodyLength}
 use Rattle.tone_table.proofs.Weights.{in-table-fine}
 use Rattle.tone_table.proofs.Walks.{stage, fromStage, at-header, at-body, not-refused, header-told, body-told, BodyTold}

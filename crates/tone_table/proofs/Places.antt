@@ -4,11 +4,11 @@ use mathlib.Core.Path.{_≡_, sym}
 use mathlib.Core.Bool.{Bool, true, false}
 use mathlib.Core.List.{List, [], _∷_}
 use lib.Dec.{leb, eqb}
-use Rattle.bits.specs.Outcome.{Outcome, accepted, refused, andThen}
+use Rattle.bits.specs.Outcome.{Outcome, accepted, refused, andThen, demand}
 use Rattle.bits.proofs.Choice.{pick-elim}
 use Rattle.tone.specs.Table.{kind}
 use Rattle.tone.specs.Tone.{recallable}
-use Rattle.tone_table.specs.Judging.{demand, entryFine, Stage, start, entryJudged, entriesJudged, endJudged, judgeTable}
+use Rattle.tone_table.specs.Judging.{entryFine, Stage, start, entryJudged, entriesJudged, endJudged, judgeTable}
 use Rattle.tone_table.proofs.Walks.{not-refused}
 
 -- accepted, or refused at place 0

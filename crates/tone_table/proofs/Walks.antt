@@ -12,7 +12,7 @@ use lib.Dec.{leb, eqb}
 use borrow.Author.Tests.{le-leb, lt-leb, ne-eqb, eqb-true, leb-true}
 use mir.Val.{Fits}
 use mir.Syntax.{w32, w64}
-use Rattle.bits.specs.Outcome.{Outcome, accepted, refused, andThen}
+use Rattle.bits.specs.Outcome.{Outcome, accepted, refused, andThen, demand}
 use Rattle.tone.specs.Table.{kind, Instruction}
 use Rattle.tone.specs.Tone.{specifier, partOf, noneKnown, recallable, learn, Instructions}
 use Rattle.tone.specs.Writing.{entryBits, tableBits}
@@ -21,7 +21,7 @@ use Rattle.tone.proofs.Recalls.{learn-set}
 use Rattle.tone_table.specs.declared.Weighed.{Weighed}
 use Rattle.tone_table.specs.declared.Weighed.the-variants.{Bits, Fault}
 use Rattle.tone_table.specs.declared.Judged.the-variants.{Sound, Faulty}
-use Rattle.tone_table.specs.Judging.{demand, entryFine, Stage, entryJudged, entriesJudged, endJudged, judgeTable}
+use Rattle.tone_table.specs.Judging.{entryFine, Stage, entryJudged, entriesJudged, endJudged, judgeTable}
 use Rattle.tone_table.specs.Answers.{entryLength, headerLength, instructionLength, bodyLength, weighedOf, atMost, judgedOf}
 use Rattle.tone_table.proofs.Weights.{fine-in-table, header-bound, weighed-bits}
 

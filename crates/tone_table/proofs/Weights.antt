@@ -11,7 +11,7 @@ use lib.Seq.{drop-cons}
 use lib.Dec.{leb, ltb}
 use borrow.Author.Tests.{le-leb, lt-leb, lt-ltb, eq-eqb, ne-eqb, leb-true, ltb-true}
 use Rattle.bits.specs.Choice.{pick}
-use Rattle.bits.specs.Outcome.{Outcome, accepted, refused, andThen}
+use Rattle.bits.specs.Outcome.{Outcome, accepted, refused, andThen, demand}
 use Rattle.bits.proofs.Choice.{both}
 use Rattle.tone.specs.Table.{kind, payload, width, allowed, InTable}
 use Rattle.tone.specs.Tone.{specifier, partOf, recallable}
@@ -22,7 +22,7 @@ use mir.Val.{Fits}
 use mir.Syntax.{w32}
 use Rattle.tone_table.specs.declared.Weighed.{Weighed}
 use Rattle.tone_table.specs.declared.Weighed.the-variants.{Bits, Fault}
-use Rattle.tone_table.specs.Judging.{demand, entryFine}
+use Rattle.tone_table.specs.Judging.{entryFine}
 use Rattle.tone_table.specs.Answers.{entryLength, headerLength, instructionLength, bodyLength, weighedOf}
 
 -- ---- an entry

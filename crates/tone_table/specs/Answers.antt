@@ -4,7 +4,7 @@ use mathlib.Core.Bool.{Bool}
 use mathlib.Core.List.{List, [], _∷_}
 use lib.ListN.{length}
 use lib.Dec.{leb, eqb}
-use Rattle.bits.specs.Outcome.{Outcome, accepted, refused, andThen}
+use Rattle.bits.specs.Outcome.{Outcome, accepted, refused, andThen, demand}
 use Rattle.tone.specs.Table.{kind, width}
 use Rattle.tone.specs.Tone.{recallable}
 use Rattle.tone.specs.Writing.{tableBits}
@@ -12,7 +12,7 @@ use Rattle.tone_table.specs.declared.Weighed.{Weighed}
 use Rattle.tone_table.specs.declared.Weighed.the-variants.{Bits, Fault}
 use Rattle.tone_table.specs.declared.Judged.{Judged}
 use Rattle.tone_table.specs.declared.Judged.the-variants.{Sound, Faulty}
-use Rattle.tone_table.specs.Judging.{demand, entryFine}
+use Rattle.tone_table.specs.Judging.{entryFine}
 
 -- an entry's bits: its id and its payload
 abbrev pub entryLength : ℕ → ℕ

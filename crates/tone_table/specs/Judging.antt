@@ -4,13 +4,9 @@ use mathlib.Core.Bool.{Bool, _&&_}
 use mathlib.Core.List.{List, [], _∷_}
 use lib.Dec.{leb, ltb, eqb}
 use Rattle.bits.specs.Choice.{pick}
-use Rattle.bits.specs.Outcome.{Outcome, accepted, refused, andThen}
+use Rattle.bits.specs.Outcome.{Outcome, accepted, andThen, demand}
 use Rattle.tone.specs.Table.{kind, payload, width, allowed}
 use Rattle.tone.specs.Tone.{specifier, noneKnown, recallable, learn}
-
--- a rule that must hold, the refusal where it does not, and what follows
-abbrev pub demand : {A : Type 0} → Bool → ℕ → Outcome A → Outcome A
-demand holds number next = pick holds next (refused number 0)
 
 -- the kind is 0 to 5, and the payload is in range
 unfoldable pub entryFine : ℕ → Bool

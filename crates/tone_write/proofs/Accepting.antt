@@ -9,14 +9,14 @@ use lib.ListN.{length}
 use lib.Dec.{leb, eqb}
 use borrow.Author.Tests.{le-leb, eq-eqb, eqb-true, eqb-false, leb-true}
 use Rattle.bits.specs.Bits.{Octets}
-use Rattle.bits.specs.Outcome.{Outcome, accepted, refused, andThen}
+use Rattle.bits.specs.Outcome.{Outcome, accepted, refused, andThen, demand}
 use Rattle.bits.proofs.Choice.{both}
 use Rattle.tone.specs.Tone.{Tone, frontOf, cells, patternsOf, perCharacter, characters, allowedTitle, Titled, FrontFormed}
 use Rattle.tone.specs.Writing.{toneLength, mostOctets, WellFormed}
 use Rattle.tone.proofs.Fronts.{or-true, one-or-two, song-fine}
 use Rattle.tone.proofs.Rows.{and-is, length-none}
 use Rattle.tone.proofs.Tables.{patterns-of-cells}
-use Rattle.tone_table.specs.Judging.{demand, judgeTable}
+use Rattle.tone_table.specs.Judging.{judgeTable}
 use Rattle.tone_table.proofs.Walks.{not-refused}
 use Rattle.tone_table.proofs.Places.{none, then-zero, demand-zero, table-zero, place-zero}
 use Rattle.tone_table.proofs.GoodTables.{GoodTable, judged-is-good, good-is-judged}

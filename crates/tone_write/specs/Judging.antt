@@ -4,10 +4,10 @@ use mathlib.Core.Bool.{Bool, _&&_, _||_}
 use mathlib.Core.List.{List}
 use lib.ListN.{length}
 use lib.Dec.{leb, eqb}
-use Rattle.bits.specs.Outcome.{Outcome, accepted, andThen}
+use Rattle.bits.specs.Outcome.{Outcome, accepted, andThen, demand}
 use Rattle.tone.specs.Tone.{Tone, patternsOf, perCharacter, characters, allowedTitle}
 use Rattle.tone.specs.Writing.{toneLength, mostOctets}
-use Rattle.tone_table.specs.Judging.{demand, judgeTable}
+use Rattle.tone_table.specs.Judging.{judgeTable}
 
 -- ---- the song type and the title
 

@@ -1,0 +1,4 @@
+pub mod Moving
+pub mod Pairs
+pub mod Stretches
+pub mod Unique
