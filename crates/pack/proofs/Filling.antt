@@ -19,9 +19,9 @@ use Rattle.bits.specs.declared.OctetCount.{OctetCount}
 use Rattle.tone.specs.Tone.{Tone}
 use Rattle.inside.specs.declared.Inside.{Inside}
 use Rattle.inside.specs.declared.Inside.the-variants.{Fine, Fault}
-use Rattle.inside.specs.declared.Writing.the-variants.{Written, Refused}
+use Rattle.written.specs.declared.Writing.the-variants.{Written, Refused}
 use Rattle.inside.specs.Inside.{pair, sum, cut}
-use Rattle.inside.proofs.Unique.{written, unwritten}
+use Rattle.written.proofs.Unique.{written, unwritten}
 use Rattle.pack.specs.Pack.{mostOctets, rowsFrom, packOf, packLength, readInTurn, writePack}
 use Rattle.pack.specs.Answers.{turnOf}
 use Rattle.pack.specs.Promises.{WritePromise}

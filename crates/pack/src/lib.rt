@@ -12,7 +12,7 @@ ghost use Rattle.pack.specs.Promises.{ReadPromise, FindPromise, MessageP
 use bits::BitPlace;
 use bits::OctetCount;
 use inside::Inside;
-use inside::Writing;
+use written::Writing;
 
 // What reading a pack answers: how many messages it has, or the refusal's number and place.
 pub enum Reading {
