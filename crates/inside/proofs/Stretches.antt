@@ -6,6 +6,8 @@ use mathlib.Core.Path.{_≡_, refl, sym, ap, ap₂, _∙_}
 use mathlib.Core.List.{List, [], _∷_, _++_, append-assoc, append-nil}
 use lib.ListN.{length, getD, take, drop, length-append, length-drop}
 use lib.Seq.{length-take-le, take-add, drop-drop, take-append-seam, drop-append-seam}
+use Rattle.bits.specs.Bits.{Octets}
+use Rattle.bits.proofs.Octets.{octets-drop}
 use Rattle.inside.specs.Inside.{join, lengths, sum, cut}
 
 module _ {A : Type 0} where
@@ -26,6 +28,12 @@ module _ {A : Type 0} where
   lengths-cut [] l h = refl
   lengths-cut (n ∷ ns) l h =
       ap₂ (λ (x : ℕ) (xs : List ℕ). x ∷ xs) (length-take-le n l (omega arith)) (lengths-cut ns (drop n l) (rw (length-drop n l) (omega arith)))
+
+  -- the lengths of the first n stretches add up to where they end
+  pub sum-ahead : (n : ℕ) (ss : List (List A)) → sum (take n (lengths ss)) ≡ length (join (take n ss))
+  sum-ahead zero ss = refl
+  sum-ahead (suc n) [] = refl
+  sum-ahead (suc n) (s ∷ ss) = ap (λ (k : ℕ). length s + k) (sum-ahead n ss) ∙ sym (length-append s (join (take n ss)))
 
   -- ---- there and back
 
@@ -51,3 +59,20 @@ module _ {A : Type 0} where
   nth-cut (n ∷ ns) l zero h = refl
   nth-cut (n ∷ ns) l (suc i) h =
       nth-cut ns (drop n l) i (omega arith) ∙ ap (take (getD ns i 0)) (drop-drop (sum (take i ns)) n l)
+
+-- ---- stretches of octets
+
+-- each stretch is of octets
+abbrev pub AllOctets : List (List ℕ) → Type 0
+AllOctets [] = Unit {0}
+AllOctets (m ∷ ms) = Octets m × AllOctets ms
+
+octets-take : (n : ℕ) (l : List ℕ) → Octets l → Octets (take n l)
+octets-take zero l o = tt
+octets-take (suc n) [] o = tt
+octets-take (suc n) (x ∷ l) o = (o .0, octets-take n l (o .1))
+
+-- octets are cut into stretches of octets
+pub octets-cut : (ns l : List ℕ) → Octets l → AllOctets (cut ns l)
+octets-cut [] l o = tt
+octets-cut (n ∷ ns) l o = (octets-take n l o, octets-cut ns (drop n l) (octets-drop n l o))

@@ -2,3 +2,8 @@ pub mod Turning
 pub mod Rules
 pub mod Exits
 pub mod Filling
+pub mod Demand2
+pub mod Order
+pub mod Unique
+pub mod Calls
+pub mod Samples

@@ -66,6 +66,15 @@ unfolding readInTurn
 turn-length start [] {ts} e = let z : ts ≡ [] = cc in rw z refl
 turn-length start (m ∷ ms) {ts} e = let f = turn-first start m ms e in ap length (f .all) ∙ ap suc (turn-length (start + length m) ms (f .behind))
 
+-- each tone is what its message reads as
+pub turn-nth : (none : Tone) (start : ℕ) (ms : List (List ℕ)) {ts : List Tone} → readInTurn start ms ≡ accepted ts → (n : ℕ) → n < length ts → readTone (getD ms n []) ≡ accepted (getD ts n none)
+unfolding readInTurn
+turn-nth none start [] {ts} e n h = let z : ts ≡ [] = cc in absurd (omega (arith, ap length z))
+turn-nth none start (m ∷ ms) {ts} e zero h = let f = turn-first start m ms e in f .reads ∙ ap (λ (l : List Tone). accepted (getD l 0 none)) (sym (f .all))
+turn-nth none start (m ∷ ms) {ts} e (suc n) h =
+    let f = turn-first start m ms e in
+    turn-nth none (start + length m) ms (f .behind) n (omega (arith, ap length (f .all))) ∙ ap (λ (l : List Tone). accepted (getD l (suc n) none)) (sym (f .all))
+
 -- ---- a pack that is accepted
 
 -- what each demand of reading says of it
