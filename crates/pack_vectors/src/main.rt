@@ -8,6 +8,7 @@
 //   + TIMES HEX                  the octets, so many times, go behind those in hand
 //   d FROM OCTETS                so many octets go behind those in hand, the same as stand there from a place on. The place
 //                                runs along, so that a stretch is put again and again
+//   k OCTETS                     keeps so many of the octets in hand, the first
 //   a AT HEX                     puts octets over those in hand, from a place on
 //   n CELL CELL ..               puts lengths in hand
 //   c TIMES CELL CELL ..         the lengths, so many times, go behind those in hand
@@ -479,12 +480,24 @@ fn add_times(line: &[u8], hand: InHand, octets: &mut [u8], lengths: &mut [u32]) 
     h
 }
 
-// Puts octets behind those in hand or over them, as a line says, which has where from. It answers how many are then in hand.
-fn put_at(line: &[u8], octets: &mut [u8], used: usize) -> usize
+// The smaller of two numbers.
+fn least(a: usize, b: usize) -> usize {
+    if a < b {
+        return a;
+    }
+    b
+}
+
+// Keeps octets in hand, puts some over them or puts some again, as a line says. It answers how many are then in hand.
+fn change_hand(line: &[u8], octets: &mut [u8], used: usize) -> usize
     requires { ⌜ 2 ≤ length (now line) ⌝ }
 {
+    let letter = line[0];
     let w = vectors::word(line, 2);
-    if line[0] == b'a' {
+    if letter == b'k' {
+        return least(used, w.value as usize);
+    }
+    if letter == b'a' {
         vectors::add_octets(line, w.next, octets, w.value as usize);
         return used;
     }
@@ -513,8 +526,8 @@ fn act(line: &[u8], hand: InHand, octets: &mut [u8; 65600], lengths: &mut [u32; 
     if letter == b'+' || letter == b'c' {
         return add_times(line, h, octets, lengths);
     }
-    if letter == b'd' || letter == b'a' {
-        h.octets = put_at(line, octets, hand.octets);
+    if letter == b'd' || letter == b'k' || letter == b'a' {
+        h.octets = change_hand(line, octets, hand.octets);
         return h;
     }
     call_in_hand(line, h, octets, lengths);
@@ -537,7 +550,7 @@ fn run(text: &[u8]) {
 }
 
 fn main() {
-    let mut text = [0u8; 65536];
+    let mut text = [0u8; 98304];
     let n = vectors::read_text(&mut text);
     run(&text[..n]);
 }
