@@ -47,7 +47,7 @@ struct InHand {
 }
 
 // The numbers of a reading.
-struct Told {
+struct Answer {
     number: u32,
     place: usize,
     messages: u32,
@@ -63,14 +63,14 @@ struct Changes {
 // ---- printing
 
 // The numbers of a reading, those that the answer has not being 0.
-fn told(answer: Reading) -> Told {
+fn told(answer: Reading) -> Answer {
     match answer {
-        Reading::Read { messages } => Told {
+        Reading::Read { messages } => Answer {
             number: 0,
             place: 0,
             messages,
         },
-        Reading::Refused { number, place } => Told {
+        Reading::Refused { number, place } => Answer {
             number,
             place: place.0,
             messages: 0,
@@ -277,31 +277,30 @@ fn add_part(part: &[u8], buf: &mut [u8], used: usize) -> usize {
 }
 
 // How many messages a pack has.
-fn count(pack: &[u8]) -> u32 {
-    told(pack::read(pack)).messages
+fn count(pack: &[u8]) -> usize {
+    told(pack::read(pack)).messages as usize
 }
 
-// Takes each message out of a pack: puts their octets back to back, and their lengths.
+// Takes each message out of a pack: puts their octets back to back, and their lengths. It answers how many of both.
 fn take_out(pack: &[u8], octets: &mut [u8], lengths: &mut [u32]) -> InHand {
     let all = count(pack);
     let mut used = 0;
-    let mut i: u32 = 0;
-    while i < all {
-        let at = i as usize;
-        if lengths.len() <= at {
+    let mut i = 0;
+    while i < lengths.len() {
+        if all <= i {
             return InHand {
                 octets: used,
-                lengths: at,
+                lengths: i,
             };
         }
-        let part = pack::message(pack, i);
-        lengths[at] = vectors::cell(part.len() as u64);
+        let part = pack::message(pack, vectors::cell(i as u64));
+        lengths[i] = vectors::cell(part.len() as u64);
         used = add_part(part, octets, used);
         i += 1;
     }
     InHand {
         octets: used,
-        lengths: i as usize,
+        lengths: i,
     }
 }
 
@@ -320,19 +319,27 @@ fn same(a: &[u8], b: &[u8]) -> bool {
     true
 }
 
-// Writes with so many octets lent, and says whether a pack came back.
-fn write_back(pack: &[u8], octets: &[u8], lengths: &[u32], room: u32) {
-    let mut out = [119u8; 65600];
-    let end = room as usize + 2;
-    if 65600 < end {
-        return;
-    }
-    let n = write(octets, lengths, &mut out[0..end]);
+// Writes as above, and says whether a pack came back.
+fn write_back(pack: &[u8], octets: &[u8], lengths: &[u32], out: &mut [u8])
+    requires { ⌜ 2 ≤ length (now out) ⌝ }
+{
+    let end = out.len() - 1;
+    let n = write(octets, lengths, out);
     if same(pack, vectors::front(&out[1..end], n)) {
         io::write_all(1, b": same");
         return;
     }
     io::write_all(1, b": other");
+}
+
+// The same with so many octets lent.
+fn lend_back(pack: &[u8], octets: &[u8], lengths: &[u32], room: u32) {
+    let mut out = [119u8; 65600];
+    let end = room as usize + 2;
+    if 65600 < end {
+        return;
+    }
+    write_back(pack, octets, lengths, &mut out[0..end]);
 }
 
 // Takes each message out of a pack, and writes them with so many octets lent.
@@ -348,7 +355,7 @@ fn back(pack: &[u8], room: u32) {
     if 16400 < lengths_end {
         return;
     }
-    write_back(pack, &octets[0..octets_end], &lengths[0..lengths_end], room);
+    lend_back(pack, &octets[0..octets_end], &lengths[0..lengths_end], room);
 }
 
 // ---- the text
