@@ -1,4 +1,3 @@
 pub mod Moving
 pub mod Pairs
 pub mod Stretches
-pub mod Unique

@@ -11,12 +11,6 @@ use bits::BitPlace;
 use bits::OctetCount;
 use tone_judge::Judged;
 
-// What writing answers: the octets written, or the refusal's number and place.
-pub enum Writing {
-    Written { octets: OctetCount },
-    Refused { number: u32, place: BitPlace },
-}
-
 // What judging a tone message inside something larger answers: nothing is wrong with it, or the refusal's number and place.
 pub enum Inside {
     Fine,

@@ -1,0 +1,4 @@
+pub mod Turning
+pub mod Rules
+pub mod Exits
+pub mod Filling

@@ -63,6 +63,10 @@ abbrev pub rowsAt : ℕ → List ℕ → ℕ → List Row
 rowsAt zero p at = []
 rowsAt (suc n) p at = rowAt p at ∷ rowsAt n p (at + 4)
 
+-- the lengths that rows have
+abbrev pub lengthsIn : List Row → List ℕ
+lengthsIn rs = map (λ (r : Row). r .length) rs
+
 -- where the first row starts: the last two octets
 abbrev pub firstRow : List ℕ → ℕ
 firstRow p = number p (length p - 2)
@@ -77,7 +81,7 @@ rowsIn p = rowsAt (count p) p (firstRow p)
 
 -- the messages, cut by the lengths that the rows have
 abbrev pub messagesIn : List ℕ → List (List ℕ)
-messagesIn p = cut (map (λ (r : Row). r .length) (rowsIn p)) p
+messagesIn p = cut (lengthsIn (rowsIn p)) p
 
 -- ---- reading
 

@@ -7,8 +7,8 @@ use denote.Ref.{RefT, ptr, now}
 use Rattle.bits.specs.Outcome.{Outcome, accepted, refused}
 use Rattle.bits.specs.Places.{place, octetCount}
 use Rattle.tone.specs.Tone.{Tone}
-use Rattle.inside.specs.declared.Writing.{Writing}
-use Rattle.inside.specs.Written.{Writes}
+use Rattle.written.specs.declared.Writing.{Writing}
+use Rattle.written.specs.Written.{Writes}
 use Rattle.pack.specs.declared.Reading.{Reading}
 use Rattle.pack.specs.declared.Reading.the-variants.{Read, Refused}
 use Rattle.pack.specs.declared.Finding.{Finding}

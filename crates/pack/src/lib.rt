@@ -1,18 +1,18 @@
 // Tone packs: messages back to back, a row for each, how many there are, and where the rows begin.
 ghost use mathlib.Core.Path.{_≡_};
 ghost use mathlib.Core.Bool.{true};
-ghost use mathlib.Core.List.{_++_, map};
+ghost use mathlib.Core.List.{_++_};
 ghost use Prim.Native.Nat.{_+_, _*_, _^_, _≤_, _<_};
 ghost use lib.ListN.{length, take, drop};
 ghost use lib.Seq.{sets};
 ghost use Rattle.inside.specs.Inside.{pair, sum, cut};
-ghost use Rattle.pack.specs.Pack.{Row, rowsAt, rowsFrom, packOf, packLength, continues as continuesBy, readInTurn, readPack};
-ghost use Rattle.pack.specs.Answers.{turnOf, judgedOf};
+ghost use Rattle.pack.specs.Pack.{rowsAt, lengthsIn, rowsFrom, packOf, packLength, continues as continuesBy, readInTurn, readPack};
+ghost use Rattle.pack.specs.Answers.{turnOf, rowsJudged, judgedOf};
 ghost use Rattle.pack.specs.Promises.{ReadPromise, FindPromise, MessagePromise, WritePromise};
 use bits::BitPlace;
 use bits::OctetCount;
 use inside::Inside;
-use inside::Writing;
+use written::Writing;
 
 // What reading a pack answers: how many messages it has, or the refusal's number and place.
 pub enum Reading {
@@ -63,7 +63,7 @@ fn continues(pack: &[u8], rows: OctetCount, n: usize) -> bool
 fn judge_messages(pack: &[u8], rows: OctetCount, n: usize) -> Inside
     requires { ⌜ (rows .0 + 4 * n ≤ length (now pack)) × (length (now pack) ≤ 65535) ⌝ }
     requires { ⌜ continuesBy 0 (rowsAt n (now pack) (rows .0)) (rows .0) ≡ true ⌝ }
-    ensures { λ r. ⌜ r ≡ turnOf (readInTurn 0 (cut (map (λ (x : Row). x .length) (rowsAt n (now (pack .entry)) (rows .0))) (now (pack .entry)))) ⌝ }
+    ensures { λ r. ⌜ r ≡ turnOf (readInTurn 0 (cut (lengthsIn (rowsAt n (now (pack .entry)) (rows .0))) (now (pack .entry)))) ⌝ }
 {
     let mut at: usize = 0;
     let mut row = rows.0;
@@ -81,6 +81,20 @@ fn judge_messages(pack: &[u8], rows: OctetCount, n: usize) -> Inside
         left -= 1;
     }
     Inside::Fine
+}
+
+// Judges `n` rows, and then their messages.
+fn judge_rows(pack: &[u8], rows: OctetCount, n: usize) -> Inside
+    requires { ⌜ (rows .0 + 4 * n ≤ length (now pack)) × (length (now pack) ≤ 65535) ⌝ }
+    ensures { λ r. ⌜ r ≡ turnOf (rowsJudged (now (pack .entry)) (rows .0) n) ⌝ }
+{
+    if !continues(pack, rows, n) {
+        return Inside::Fault {
+            number: 27,
+            at: BitPlace(0),
+        };
+    }
+    judge_messages(pack, rows, n)
 }
 
 // Judges a pack, and changes nothing: its size, its rows, its messages.
@@ -108,13 +122,7 @@ fn judge(pack: &[u8]) -> Judged
             at: BitPlace(0),
         };
     }
-    if !continues(pack, OctetCount(rows), n) {
-        return Judged::Faulty {
-            number: 27,
-            at: BitPlace(0),
-        };
-    }
-    match judge_messages(pack, OctetCount(rows), n) {
+    match judge_rows(pack, OctetCount(rows), n) {
         Inside::Fault { number, at: fault } => Judged::Faulty { number, at: fault },
         Inside::Fine => Judged::Sound {
             messages: n,
@@ -220,6 +228,15 @@ fn judge_lengths(octets: &[u8], lengths: &[u32]) -> Inside
     Inside::Fine
 }
 
+// Puts a row behind so many octets.
+fn put_row(out: &mut [u8], at: OctetCount, start: usize, n: usize)
+    requires { ⌜ (at .0 + 4 ≤ length (now out)) × (start < 65536) × (n < 65536) ⌝ }
+    ensures { λ _. ⌜ now (out .exit) ≡ sets (now (out .entry)) (at .0) (pair start ++ pair n) ⌝ }
+{
+    inside::put_number(out, at, start);
+    inside::put_number(out, OctetCount(at.0 + 2), n);
+}
+
 // Puts a row for each length behind so many octets.
 fn fill_rows(lengths: &[u32], from: OctetCount, out: &mut [u8])
     requires { ⌜ (from .0 + 4 * length (now lengths) ≤ length (now out)) × (sum (now lengths) < 65536) ⌝ }
@@ -230,8 +247,7 @@ fn fill_rows(lengths: &[u32], from: OctetCount, out: &mut [u8])
     let mut i: usize = 0;
     while i < lengths.len() {
         let n = lengths[i] as usize;
-        inside::put_number(out, OctetCount(at), start);
-        inside::put_number(out, OctetCount(at + 2), n);
+        put_row(out, OctetCount(at), start, n);
         start += n;
         at += 4;
         i += 1;

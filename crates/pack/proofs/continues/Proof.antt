@@ -1,58 +1,47 @@
+-- `pack::continues` meets its contract.
+use borrow.Author.Needs.{needs}
 use Rattle.pack.proofs.continues.Statement.{statement}
 use Rattle.pack.proofs.continues.Tie as tie
-use Rattle.pack.proofs.continues.Reads as reads
-use Rattle.pack.proofs.continues.Lts as lts
-use Rattle.inside.proofs.number_at.Reads as number-at-reads
+use Rattle.pack.proofs.Turning.{Continuing, continuing-turn, continuing-not, continuings}
 
 abbrev Inv-loop : tie.InvT-loop
-Inv-loop pack rows n at₀ row₀ left₀ at row left = ?
+Inv-loop pack rows n at₀ row₀ left₀ at row left = Continuing pack (rows .0) n at row left
 
 abbrev μ-loop : tie.MeasureT-loop
-μ-loop pack rows n at₀ row₀ left₀ at row left = ?
+μ-loop pack rows n at₀ row₀ left₀ at row left = left
 
--- src/lib.rt:50:5
 loop-holds : tie.Need-loop-holds Inv-loop μ-loop
-loop-holds c = ?
+loop-holds c = search (continuings, needs)
 
--- src/lib.rt:51:12
 number-at-requires : tie.Need-number-at-requires Inv-loop μ-loop
-number-at-requires c κs = ?
+number-at-requires c κs = search (continuings, needs)
 
--- src/lib.rt:52:13
 returns : tie.Need-returns Inv-loop μ-loop
-returns c = ?
+returns c = continuing-not (c .before .before .before .before .before .args .pack .now) _ _ (c .before .before .before .loop .inv) (search needs) (search needs) (c .if1 .taken)
 
--- src/lib.rt:54:50
 add-t10 : tie.Need-add-t10 Inv-loop μ-loop
-add-t10 c = ?
+add-t10 c = search (continuings, needs)
 
--- src/lib.rt:54:15
 number-at-requires-2 : tie.Need-number-at-requires-2 Inv-loop μ-loop
-number-at-requires-2 c κs = ?
+number-at-requires-2 c κs = search (continuings, needs)
 
--- src/lib.rt:54:9
 add-at : tie.Need-add-at Inv-loop μ-loop
-add-at c = ?
+add-at c = search (continuings, needs)
 
--- src/lib.rt:55:9
 add-row : tie.Need-add-row Inv-loop μ-loop
-add-row c = ?
+add-row c = search (continuings, needs)
 
--- src/lib.rt:56:9
 sub-left : tie.Need-sub-left Inv-loop μ-loop
-sub-left c = ?
+sub-left c = search (continuings, needs)
 
--- src/lib.rt:50:5
 loop-less : tie.Need-loop-less Inv-loop μ-loop
-loop-less c = ?
+loop-less c = search (continuings, needs)
 
--- src/lib.rt:50:5
 loop-again : tie.Need-loop-again Inv-loop μ-loop
-loop-again c = ?
+loop-again c = continuing-turn _ _ _ (c .before .before .before .before .loop .inv) (search needs) {a = c .before .before .number-at .result} (search needs) (search needs) (search needs)
 
--- src/lib.rt:43:1
 returns-2 : tie.Need-returns-2 Inv-loop μ-loop
-returns-2 c = ?
+returns-2 c = search (continuings, needs)
 
 pub continues-spec : {M : Type 1} → statement M
 continues-spec =

@@ -1,65 +1,55 @@
+-- `pack::judge_lengths` meets its contract.
+use borrow.Author.Needs.{needs}
 use Rattle.pack.proofs.judge_lengths.Statement.{statement}
 use Rattle.pack.proofs.judge_lengths.Tie as tie
-use Rattle.pack.proofs.judge_lengths.Reads as reads
-use Rattle.pack.proofs.judge_lengths.Lts as lts
-use Rattle.inside.proofs.judge_inside.Reads as judge-inside-reads
+use Prim.Native.Nat.{_-_}
+use lib.ListN.{length}
+use Rattle.pack.proofs.Turning.{AlongLengths, along-lengths}
 
 abbrev Inv-loop : tie.InvT-loop
-Inv-loop octets lengths at₀ i₀ at i = ?
+Inv-loop octets lengths at₀ i₀ at i = AlongLengths octets lengths at i
 
 abbrev μ-loop : tie.MeasureT-loop
-μ-loop octets lengths at₀ i₀ at i = ?
+μ-loop octets lengths at₀ i₀ at i = length lengths - i
 
--- src/lib.rt:208:5
 loop-holds : tie.Need-loop-holds Inv-loop μ-loop
-loop-holds c = ?
+loop-holds c = search (along-lengths, needs)
 
--- src/lib.rt:209:24
 mul-end : tie.Need-mul-end Inv-loop μ-loop
-mul-end c = ?
+mul-end c = search (along-lengths, needs)
 
--- src/lib.rt:209:24
 shared-slice-read-end : tie.Need-shared-slice-read-end Inv-loop μ-loop
-shared-slice-read-end c = ?
+shared-slice-read-end c = search (along-lengths, needs)
 
--- src/lib.rt:209:24
 cast-end : tie.Need-cast-end Inv-loop μ-loop
-cast-end c = ?
+cast-end c = search (along-lengths, c .shared-slice-known3 .given, needs)
 
--- src/lib.rt:209:19
 add-end : tie.Need-add-end Inv-loop μ-loop
-add-end c = ?
+add-end c = search (along-lengths, needs)
 
--- src/lib.rt:210:15
 judge-inside-requires : tie.Need-judge-inside-requires Inv-loop μ-loop
-judge-inside-requires c κs = ?
+judge-inside-requires c κs = search (along-lengths, needs)
 
--- src/lib.rt:211:29
 enum-known-number : tie.Need-enum-known-number Inv-loop μ-loop
-enum-known-number c = ?
+enum-known-number c = search (along-lengths, needs)
 
--- src/lib.rt:212:17
 returns : tie.Need-returns Inv-loop μ-loop
-returns c = ?
+returns c = search (along-lengths, needs)
 
 enum-told : tie.Need-enum-told Inv-loop μ-loop
-enum-told c = ?
+enum-told c = search (along-lengths, needs)
 
--- src/lib.rt:217:9
 add-i : tie.Need-add-i Inv-loop μ-loop
-add-i c = ?
+add-i c = search (along-lengths, needs)
 
--- src/lib.rt:208:5
 loop-less : tie.Need-loop-less Inv-loop μ-loop
-loop-less c = ?
+loop-less c = search (along-lengths, needs)
 
--- src/lib.rt:208:5
 loop-again : tie.Need-loop-again Inv-loop μ-loop
-loop-again c = ?
+loop-again c = search (along-lengths, needs)
 
--- src/lib.rt:202:1
 returns-2 : tie.Need-returns-2 Inv-loop μ-loop
-returns-2 c = ?
+returns-2 c = search (along-lengths, needs)
 
 pub judge-lengths-spec : {M : Type 1} → statement M
 judge-lengths-spec =

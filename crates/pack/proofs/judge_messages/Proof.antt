@@ -1,66 +1,53 @@
+-- `pack::judge_messages` meets its contract.
+use borrow.Author.Needs.{needs}
 use Rattle.pack.proofs.judge_messages.Statement.{statement}
 use Rattle.pack.proofs.judge_messages.Tie as tie
-use Rattle.pack.proofs.judge_messages.Reads as reads
-use Rattle.pack.proofs.judge_messages.Lts as lts
-use Rattle.inside.proofs.judge_inside.Reads as judge-inside-reads
-use Rattle.inside.proofs.number_at.Reads as number-at-reads
+use Rattle.pack.proofs.Turning.{AlongRows, along-rows}
 
 abbrev Inv-loop : tie.InvT-loop
-Inv-loop pack n at₀ row₀ left₀ at row left = ?
+Inv-loop pack n at₀ row₀ left₀ at row left = AlongRows pack row₀ n at row left
 
 abbrev μ-loop : tie.MeasureT-loop
-μ-loop pack n at₀ row₀ left₀ at row left = ?
+μ-loop pack n at₀ row₀ left₀ at row left = left
 
--- src/lib.rt:71:5
 loop-holds : tie.Need-loop-holds Inv-loop μ-loop
-loop-holds c = ?
+loop-holds c = search (along-rows, needs)
 
--- src/lib.rt:72:59
 add-t12 : tie.Need-add-t12 Inv-loop μ-loop
-add-t12 c = ?
+add-t12 c = search (along-rows, needs)
 
--- src/lib.rt:72:24
 number-at-requires : tie.Need-number-at-requires Inv-loop μ-loop
-number-at-requires c κs = ?
+number-at-requires c κs = search (along-rows, needs)
 
--- src/lib.rt:72:19
 add-end : tie.Need-add-end Inv-loop μ-loop
-add-end c = ?
+add-end c = search (along-rows, needs)
 
--- src/lib.rt:73:15
 judge-inside-requires : tie.Need-judge-inside-requires Inv-loop μ-loop
-judge-inside-requires c κs = ?
+judge-inside-requires c κs = search (along-rows, needs)
 
--- src/lib.rt:74:29
 enum-known-number : tie.Need-enum-known-number Inv-loop μ-loop
-enum-known-number c = ?
+enum-known-number c = search (along-rows, needs)
 
--- src/lib.rt:75:17
 returns : tie.Need-returns Inv-loop μ-loop
-returns c = ?
+returns c = search (along-rows, needs)
 
 enum-told : tie.Need-enum-told Inv-loop μ-loop
-enum-told c = ?
+enum-told c = search (along-rows, needs)
 
--- src/lib.rt:80:9
 add-row : tie.Need-add-row Inv-loop μ-loop
-add-row c = ?
+add-row c = search (along-rows, needs)
 
--- src/lib.rt:81:9
 sub-left : tie.Need-sub-left Inv-loop μ-loop
-sub-left c = ?
+sub-left c = search (along-rows, needs)
 
--- src/lib.rt:71:5
 loop-less : tie.Need-loop-less Inv-loop μ-loop
-loop-less c = ?
+loop-less c = search (along-rows, needs)
 
--- src/lib.rt:71:5
 loop-again : tie.Need-loop-again Inv-loop μ-loop
-loop-again c = ?
+loop-again c = search (along-rows, needs)
 
--- src/lib.rt:63:1
 returns-2 : tie.Need-returns-2 Inv-loop μ-loop
-returns-2 c = ?
+returns-2 c = search (along-rows, needs)
 
 pub judge-messages-spec : {M : Type 1} → statement M
 judge-messages-spec =

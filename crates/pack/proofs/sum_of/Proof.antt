@@ -1,49 +1,43 @@
+-- `pack::sum_of` meets its contract.
+use borrow.Author.Needs.{needs}
 use Rattle.pack.proofs.sum_of.Statement.{statement}
 use Rattle.pack.proofs.sum_of.Tie as tie
-use Rattle.pack.proofs.sum_of.Reads as reads
-use Rattle.pack.proofs.sum_of.Lts as lts
+use Prim.Native.Nat.{_-_}
+use lib.ListN.{length}
+use Rattle.pack.proofs.Turning.{Summing, summings}
 
 abbrev Inv-loop : tie.InvT-loop
-Inv-loop lengths total₀ i₀ total i = ?
+Inv-loop lengths total₀ i₀ total i = Summing lengths total i
 
 abbrev μ-loop : tie.MeasureT-loop
-μ-loop lengths total₀ i₀ total i = ?
+μ-loop lengths total₀ i₀ total i = length lengths - i
 
--- src/lib.rt:194:5
 loop-holds : tie.Need-loop-holds Inv-loop μ-loop
-loop-holds c = ?
+loop-holds c = search (summings, needs)
 
--- src/lib.rt:195:18
 mul-total : tie.Need-mul-total Inv-loop μ-loop
-mul-total c = ?
+mul-total c = search (summings, needs)
 
--- src/lib.rt:195:18
 shared-slice-read-total : tie.Need-shared-slice-read-total Inv-loop μ-loop
-shared-slice-read-total c = ?
+shared-slice-read-total c = search (summings, needs)
 
--- src/lib.rt:195:18
 cast-total : tie.Need-cast-total Inv-loop μ-loop
-cast-total c = ?
+cast-total c = search (summings, c .shared-slice-known .given, needs)
 
--- src/lib.rt:195:9
 add-total : tie.Need-add-total Inv-loop μ-loop
-add-total c = ?
+add-total c = search (summings, c .shared-slice-known .given, needs)
 
--- src/lib.rt:196:9
 add-i : tie.Need-add-i Inv-loop μ-loop
-add-i c = ?
+add-i c = search (summings, needs)
 
--- src/lib.rt:194:5
 loop-less : tie.Need-loop-less Inv-loop μ-loop
-loop-less c = ?
+loop-less c = search (summings, needs)
 
--- src/lib.rt:194:5
 loop-again : tie.Need-loop-again Inv-loop μ-loop
-loop-again c = ?
+loop-again c = search (summings, c .shared-slice-known .given, needs)
 
--- src/lib.rt:188:1
 returns : tie.Need-returns Inv-loop μ-loop
-returns c = ?
+returns c = search (summings, needs)
 
 pub sum-of-spec : {M : Type 1} → statement M
 sum-of-spec =

@@ -9,9 +9,10 @@ use Rattle.bits.specs.Outcome.{Outcome, accepted, refused}
 use Rattle.bits.specs.Places.{place, octetCount}
 use Rattle.bits.specs.declared.BitPlace.{BitPlace}
 use Rattle.bits.specs.declared.OctetCount.{OctetCount}
-use Rattle.inside.specs.declared.Writing.{Writing}
-use Rattle.inside.specs.declared.Writing.the-variants.{Written, Refused}
-use Rattle.inside.specs.Written.{numbers, writeNumbers, writeAnswer, octetsAfter, Writes}
+use Rattle.written.specs.declared.Writing.{Writing}
+use Rattle.written.specs.declared.Writing.the-variants.{Written, Refused}
+use Rattle.written.specs.declared.WrittenAnswer.{WrittenAnswer}
+use Rattle.written.specs.Written.{numbers, writeNumbers, writeAnswer, octetsAfter, Writes, answerAs, WritesNumbers}
 
 module _ {o : Outcome (List ℕ)} {out : List ℕ} where
   -- two outcomes that satisfy it coincide
@@ -41,3 +42,22 @@ written o out out′ w {n} e k l = record { answer = rw e (ap (λ (x : ℕ). Wri
 
 pub unwritten : (o : Outcome (List ℕ)) (out : List ℕ) {n : ℕ} {p : BitPlace} → o ≡ refused n (p .0) → Writes o out out (Refused n p)
 unwritten o out e = record { answer = rw e refl; said = rw e refl; leaves = rw e refl }
+
+-- ---- by the numbers of the C border
+
+-- two outcomes that satisfy the promise coincide
+pub numbers-decided : {o : Outcome (List ℕ)} {out out₁ out₂ : List ℕ} {r₁ r₂ : WrittenAnswer} → WritesNumbers o out out₁ r₁ → WritesNumbers o out out₂ r₂ → (r₁ ≡ r₂) × (out₁ ≡ out₂)
+numbers-decided p q = (p .answer ∙ sym (q .answer), p .leaves ∙ sym (q .leaves))
+
+-- what a call promises, by the numbers of its answer
+pub by-numbers : {o : Outcome (List ℕ)} {out out′ : List ℕ} {w : Writing} {r : WrittenAnswer} → Writes o out out′ w → r ≡ answerAs (numbers w) → WritesNumbers o out out′ r
+by-numbers p e = record { answer = e ∙ ap answerAs (p .said); leaves = p .leaves }
+
+-- the numbers of each case
+pub answer-refused : {x : Writing} {n : ℕ} {p : BitPlace} → x ≡ Refused n p → record { refusal = n; place = p .0; octets = 0 } ≡ answerAs (numbers x)
+answer-refused e = ap (λ (y : Writing). answerAs (numbers y)) (sym e)
+
+pub answer-written : {x : Writing} {n : OctetCount} → x ≡ Written n → record { refusal = 0; place = 0; octets = n .0 } ≡ answerAs (numbers x)
+answer-written e = ap (λ (y : Writing). answerAs (numbers y)) (sym e)
+
+pub ruleset answers = (answer-refused, answer-written)

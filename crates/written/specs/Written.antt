@@ -6,8 +6,9 @@ use lib.ListN.{length}
 use Rattle.bits.specs.Lent.{over}
 use Rattle.bits.specs.Outcome.{Outcome, accepted, refused}
 use Rattle.bits.specs.Places.{place, octetCount}
-use Rattle.inside.specs.declared.Writing.{Writing}
-use Rattle.inside.specs.declared.Writing.the-variants.{Written, Refused}
+use Rattle.written.specs.declared.Writing.{Writing}
+use Rattle.written.specs.declared.Writing.the-variants.{Written, Refused}
+use Rattle.written.specs.declared.WrittenAnswer.{WrittenAnswer}
 
 -- the numbers of document 01
 pub record Numbers : Type 0 where
@@ -39,4 +40,15 @@ octetsAfter (refused n p) old = old
 pub record Writes (o : Outcome (List ℕ)) (out out′ : List ℕ) (r : Writing) : Type 0 where
   pub answer : r ≡ writeAnswer o
   pub said : numbers r ≡ writeNumbers o
+  pub leaves : out′ ≡ octetsAfter o out
+
+-- ---- by the numbers of the C border
+
+-- the numbers, as the answer holds them
+abbrev pub answerAs : Numbers → WrittenAnswer
+answerAs n = record { refusal = n .refusal; place = n .place; octets = n .octets }
+
+-- every number, and every octet lent
+pub record WritesNumbers (o : Outcome (List ℕ)) (out out′ : List ℕ) (r : WrittenAnswer) : Type 0 where
+  pub answer : r ≡ answerAs (writeNumbers o)
   pub leaves : out′ ≡ octetsAfter o out

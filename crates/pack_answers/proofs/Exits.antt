@@ -1,0 +1,49 @@
+-- What is answered by the numbers keeps its promise.
+use Prim.Native.Nat.{ℕ}
+use mathlib.Core.Path.{_≡_, refl, sym, ap, _∙_}
+use mathlib.Core.List.{List}
+use lib.ListN.{length, take, drop}
+use Rattle.bits.specs.Outcome.{Outcome, accepted, refused}
+use Rattle.bits.specs.declared.BitPlace.{BitPlace}
+use Rattle.bits.specs.declared.OctetCount.{OctetCount}
+use Rattle.written.proofs.Unique.{by-numbers}
+use Rattle.pack.specs.declared.Reading.{Reading}
+use Rattle.pack.specs.declared.Reading.the-variants.{Read, Refused}
+use Rattle.pack.specs.declared.Finding.{Finding}
+use Rattle.pack.specs.declared.Finding.the-variants.{Found, Refused as Missing}
+use Rattle.pack.specs.Pack.{Row, readPack, nthRow}
+use Rattle.pack.specs.Promises.{numbersOfReading, readNumbers, ReadPromise, numbersOfFinding, findNumbers, FindPromise, stretchOf}
+use Rattle.pack_answers.specs.Promise.{packAs, PackReadExport, stretchAs, PackMessageExport}
+
+-- ---- read_pack
+
+module _ (p : List ℕ) {x : Reading} (q : ReadPromise p x) where
+  told : (y : Reading) → x ≡ y → PackReadExport p (packAs (numbersOfReading y))
+  told y e = record { answer = ap (λ (z : Reading). packAs (numbersOfReading z)) (sym e) ∙ ap packAs (q .said) }
+
+  pub pack-refused : {n : ℕ} {f : BitPlace} → x ≡ Refused n f → PackReadExport p (packAs (numbersOfReading (Refused n f)))
+  pack-refused {n} {f} e = told (Refused n f) e
+
+  pub pack-read : {k : ℕ} → x ≡ Read k → PackReadExport p (packAs (numbersOfReading (Read k)))
+  pack-read {k} e = told (Read k) e
+
+-- ---- find_message
+
+-- the stretch of an outcome, by its numbers
+stretch-told : (p : List ℕ) (o : Outcome Row) → stretchOf o p ≡ take (findNumbers o .length) (drop (findNumbers o .start) p)
+stretch-told p (accepted r) = refl
+stretch-told p (refused n f) = refl
+
+module _ (p : List ℕ) (n : ℕ) {x : Finding} (q : FindPromise p n x) where
+  found : (y : Finding) → x ≡ y → PackMessageExport p n (stretchAs (numbersOfFinding y))
+  found y e =
+      let s = ap numbersOfFinding (sym e) ∙ q .said in
+      record { answer = ap stretchAs s; stretch = rw s (stretch-told p (nthRow p n)) }
+
+  pub message-refused : {k : ℕ} {f : BitPlace} → x ≡ Missing k f → PackMessageExport p n (stretchAs (numbersOfFinding (Missing k f)))
+  message-refused {k} {f} e = found (Missing k f) e
+
+  pub message-found : {s l : OctetCount} → x ≡ Found s l → PackMessageExport p n (stretchAs (numbersOfFinding (Found s l)))
+  message-found {s} {l} e = found (Found s l) e
+
+pub ruleset answers = (pack-refused, pack-read, message-refused, message-found, by-numbers)
