@@ -36,9 +36,9 @@
 //   NAME: refusal place octets: output: then the same of reading what was written, if it was
 ghost use Prim.Native.Nat.{_≤_, _<_};
 ghost use lib.ListN.{length};
-use inside::Writing;
 use pack::Finding;
 use pack::Reading;
+use written::Writing;
 
 // How many octets and lengths are in hand.
 struct InHand {
