@@ -42,7 +42,7 @@ use Rattle.bitmap.specs.Promises.{ReadPromise as BitmapReadPromise, WritePromis
 use Rattle.bitmap_ahead.specs.declared.Kind.{Kind}
 use Rattle.bitmap_ahead.specs.Ahead.{Ahead}
 use Rattle.bitmap_kinds.specs.Promises.{WritePromise as KindWritePromise}
-use Rattle.ohakelm.specs.declared.WrittenAnswer.{WrittenAnswer}
+use Rattle.written.specs.declared.WrittenAnswer.{WrittenAnswer}
 use Rattle.ohakelm.specs.declared.LabelAnswer.{LabelAnswer}
 use Rattle.ohakelm.specs.declared.ListAnswer.{ListAnswer}
 use Rattle.ohakelm.specs.declared.EditAnswer.{EditAnswer}

@@ -44,7 +44,7 @@ use Rattle.bitmap_kinds.specs.Kinds.{Graphic, writing as kindOctets, withAhead,
 use Rattle.bitmap_kinds.proofs.Rules.{graphic}
 use Rattle.bitmap_kinds.proofs.Largest.{mostOctets as kindMost, spelt-most as kind-most}
 use Rattle.ohakelm.specs.declared.ToneAnswer.{ToneAnswer}
-use Rattle.ohakelm.specs.declared.WrittenAnswer.{WrittenAnswer}
+use Rattle.written.specs.declared.WrittenAnswer.{WrittenAnswer}
 use Rattle.ohakelm.specs.declared.ListAnswer.{ListAnswer}
 use Rattle.ohakelm.specs.declared.EditAnswer.{EditAnswer}
 use Rattle.ohakelm.specs.Promise.{ReadExport, WriteExport, ListExport, RowsExport, EditExport, BitmapWriteExport, KindWriteExport}

@@ -9,7 +9,7 @@ use Rattle.bitmap_ahead.specs.declared.Kind.{Kind}
 use Rattle.bitmap_ahead.specs.Ahead.{Ahead}
 use Rattle.bitmap_answers.specs.declared.BitmapAnswer.{BitmapAnswer}
 use Rattle.ohakelm.specs.declared.ToneAnswer.{ToneAnswer}
-use Rattle.ohakelm.specs.declared.WrittenAnswer.{WrittenAnswer}
+use Rattle.written.specs.declared.WrittenAnswer.{WrittenAnswer}
 use Rattle.ohakelm.specs.declared.LabelAnswer.{LabelAnswer}
 use Rattle.ohakelm.specs.declared.ListAnswer.{ListAnswer}
 use Rattle.ohakelm.specs.declared.EditAnswer.{EditAnswer}

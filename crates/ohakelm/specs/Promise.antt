@@ -24,16 +24,16 @@ use Rattle.bitmap_ahead.specs.Ahead.{Ahead}
 use Rattle.bitmap_kinds.specs.Kinds.{writingInto as kindInto}
 use Rattle.bitmap_answers.specs.declared.BitmapAnswer.{BitmapAnswer}
 use Rattle.ohakelm.specs.declared.ToneAnswer.{ToneAnswer}
-use Rattle.ohakelm.specs.declared.WrittenAnswer.{WrittenAnswer}
+use Rattle.written.specs.declared.WrittenAnswer.{WrittenAnswer}
 use Rattle.ohakelm.specs.declared.LabelAnswer.{LabelAnswer}
 use Rattle.ohakelm.specs.declared.ListAnswer.{ListAnswer}
 use Rattle.ohakelm.specs.declared.EditAnswer.{EditAnswer}
 
 -- ---- the version
 
--- a version is first × 10,000 + second × 100 + third; this one is 0.8.0
+-- a version is first × 10,000 + second × 100 + third; this one is 0.9.0
 abbrev pub version : ℕ
-version = 0 * 10000 + 8 * 100 + 0
+version = 0 * 10000 + 9 * 100 + 0
 
 -- `ohakelm_version`: the version
 pub record VersionExport (r : ℕ) : Type 0 where

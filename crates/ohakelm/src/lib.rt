@@ -7,6 +7,7 @@ ghost use Rattle.bitmap.specs.Promises.{numbersOfWriting as bitmapNumbers};
 ghost use Rattle.bitmap_ahead.specs.declared.Kind.the-variants.{Icon, Logo};
 ghost use Rattle.bitmap_ahead.specs.Ahead.{said, nothing};
 ghost use Rattle.bitmap_answers.specs.Promise.{IconReadExport, LogoReadExport};
+ghost use Rattle.pack_answers.specs.Promise.{PackReadExport, PackMessageExport, PackWriteExport};
 ghost use Rattle.ohakelm.specs.Promise.{VersionExport, ReadExport, WriteExport, LabelExport, ListExport, RowsExport, EditExport, BitmapReadExport, BitmapWriteExport, KindWriteExport, listedAs, editedAs, bitmapWrittenAs};
 use bitmap_ahead::Kind;
 use bitmap_answers::BitmapAnswer;
@@ -17,8 +18,11 @@ use edit_change::Edit;
 use label::Supplier;
 use list::Listed;
 use list_rules::Entry;
+use pack_answers::PackAnswer;
+use pack_answers::StretchAnswer;
 use tone_read::Reading;
 use tone_write::Writing;
+use written::WrittenAnswer;
 
 // ---- answers
 
@@ -32,14 +36,6 @@ pub struct ToneAnswer {
     pub characters: usize,
     pub patterns: usize,
     pub entries: usize,
-}
-
-// What writing answers.
-#[repr(C)]
-pub struct WrittenAnswer {
-    pub refusal: u32,
-    pub place: usize,
-    pub octets: usize,
 }
 
 // Which buffer supplies a label, and which stretch of it.
@@ -72,12 +68,12 @@ pub struct EditAnswer {
 
 // ---- the version
 
-// The version of the library, 0.8.0.
+// The version of the library, 0.9.0.
 #[no_mangle]
 pub extern "C" fn ohakelm_version() -> u32
     ensures { λ r. ⌜ VersionExport r ⌝ }
 {
-    800
+    900
 }
 
 // ---- tones
@@ -415,4 +411,30 @@ pub extern "C" fn ohakelm_logo_write(
     ensures { λ r. ⌜ KindWriteExport Logo (said (now (mcc .entry)) (now (mnc .entry)) (now (date .entry))) width height (now (image .entry)) (now (out .entry)) (now (out .exit)) r ⌝ }
 {
     written_answer(bitmap_kinds::write(Kind::Logo, mcc, mnc, date, width, height, image, out))
+}
+
+// ---- packs
+
+// Reads a pack: how many messages it has.
+#[no_mangle]
+pub extern "C" fn ohakelm_pack_read(pack: &[u8]) -> PackAnswer
+    ensures { λ r. ⌜ PackReadExport (now (pack .entry)) r ⌝ }
+{
+    pack_answers::read_pack(pack)
+}
+
+// Finds a message of a pack, counted from 0: the stretch of the pack that it is.
+#[no_mangle]
+pub extern "C" fn ohakelm_pack_message(pack: &[u8], n: u32) -> StretchAnswer
+    ensures { λ r. ⌜ PackMessageExport (now (pack .entry)) n r ⌝ }
+{
+    pack_answers::find_message(pack, n)
+}
+
+// Writes a pack of messages that lie back to back, with a row of their lengths.
+#[no_mangle]
+pub extern "C" fn ohakelm_pack_write(msgs: &[u8], lengths: &[u32], out: &mut [u8]) -> WrittenAnswer
+    ensures { λ r. ⌜ PackWriteExport (now (msgs .entry)) (now (lengths .entry)) (now (out .entry)) (now (out .exit)) r ⌝ }
+{
+    pack_answers::write_pack(msgs, lengths, out)
 }
