@@ -43,12 +43,16 @@ use Rattle.bitmap_ahead.proofs.Rules.{taken-formed}
 use Rattle.bitmap_kinds.specs.Kinds.{Graphic, writing as kindOctets, withAhead, judged, intoRoom, writingInto as kindInto}
 use Rattle.bitmap_kinds.proofs.Rules.{graphic}
 use Rattle.bitmap_kinds.proofs.Largest.{mostOctets as kindMost, spelt-most as kind-most}
+use Rattle.written.specs.Written.{writeNumbers as packWritten}
+use Rattle.pack.specs.Pack.{writePack}
+use Rattle.pack.proofs.Order.{never-eleven}
+use Rattle.pack_answers.specs.Promise.{PackWriteExport}
 use Rattle.ohakelm.specs.declared.ToneAnswer.{ToneAnswer}
 use Rattle.written.specs.declared.WrittenAnswer.{WrittenAnswer}
 use Rattle.ohakelm.specs.declared.ListAnswer.{ListAnswer}
 use Rattle.ohakelm.specs.declared.EditAnswer.{EditAnswer}
 use Rattle.ohakelm.specs.Promise.{ReadExport, WriteExport, ListExport, RowsExport, EditExport, BitmapWriteExport, KindWriteExport}
-use Rattle.ohakelm.specs.Room.{titleRoom, tableRoom, toneRoom, entriesRoom, listRoom, bitmapRoom, kindRoom}
+use Rattle.ohakelm.specs.Room.{titleRoom, tableRoom, toneRoom, entriesRoom, listRoom, bitmapRoom, kindRoom, packRoom}
 
 -- accepted, or refused on another ground than 11
 data Spared {A : Type 0} : Outcome A → Type 0 where
@@ -232,3 +236,13 @@ pub kind-write-room : (kind : Kind) (a : Ahead) (width height : ℕ) (image out 
 kind-write-room kind a width height image out out′ r x h e =
     not-eleven (λ o. bitmapWritten o .refusal) (λ _. refl) (λ _ _. refl) (kind-spared (length out) kind a width height image h)
     (sym (ap (λ (b : WrittenAnswer). b .refusal) (x .answer)) ∙ e)
+
+-- ---- packs
+
+-- `ohakelm_pack_write`, with 65,535 octets
+pub pack-write-room : (octets ns out out′ : List ℕ) (r : WrittenAnswer) → PackWriteExport octets ns out out′ r → packRoom ≤ length out → r .refusal ≡ 11 → ⊥
+pack-write-room octets ns out out′ r x h e = go (writePack octets ns (length out)) refl (sym (ap (λ (a : WrittenAnswer). a .refusal) (x .answer)) ∙ e)
+  where
+    go : (o : Outcome (List ℕ)) → writePack octets ns (length out) ≡ o → packWritten o .refusal ≡ 11 → ⊥
+    go (accepted w) q z = omega arith
+    go (refused n p) q z = never-eleven octets ns (length out) h (q ∙ ap (λ (k : ℕ). refused k p) z)

@@ -41,3 +41,7 @@ abbrev pub kindRoom : Kind → ℕ
 kindRoom Plain = bitmapRoom
 kindRoom Icon = iconRoom
 kindRoom Logo = logoRoom
+
+-- octets for a pack
+abbrev pub packRoom : ℕ
+packRoom = 65535

@@ -29,8 +29,9 @@ use Rattle.pack.specs.declared.Finding.{Finding}
 use Rattle.pack.specs.declared.Finding.the-variants.{Found}
 use Rattle.pack.specs.Pack.{mostOctets, packOf, packLength, messagesOf, packOctets, AllFormed, Packable, Row, lengthsIn, firstRow, count, rowsIn, messagesIn, readInTurn, readPack, noRow, nthRow, writePack}
 use Rattle.pack.specs.Promises.{readAnswer, ReadPromise, findAnswer, FindPromise, stretchOf, stretchStart, MessagePromise, WritePromise}
-use Rattle.pack.proofs.Rules.{length-packOf, length-rowsAt, demanded, turn-nth, Met, met, read-count, lengths-add-up, nth-start}
-use Rattle.pack.proofs.Order.{a-message, room-enough}
+use Rattle.pack.proofs.Rules.{length-packOf, length-rowsAt, demanded, turn-nth, Met, met, read-count, lengths-add-up}
+use Rattle.pack.proofs.Nth.{a-message, nth-start}
+use Rattle.pack.proofs.Order.{room-enough}
 use Rattle.pack.proofs.Demand2.{turn-written, turn-exactly, lengths-there, messages-there, pack-is-accepted, pack-is-written, pack-is-packable}
 
 -- ---- `read`

@@ -27,7 +27,8 @@ use Rattle.pack.specs.declared.Finding.the-variants.{Found, Refused as M
 use Rattle.pack.specs.Pack.{mostOctets, Row, rowAt, rowsAt, lengthsIn, firstRow, count, rowsIn, continues, readInTurn, readPack, noRow, nthRow}
 use Rattle.pack.specs.Answers.{turnOf, rowsJudged, judgedOf}
 use Rattle.pack.specs.Promises.{readAnswer, readNumbers, ReadPromise, findAnswer, findNumbers, FindPromise, stretchOf, stretchStart, MessagePromise}
-use Rattle.pack.proofs.Rules.{Met, met, read-count, nth-rowsAt, row-inside, row-short}
+use Rattle.pack.proofs.Rules.{Met, met, read-count}
+use Rattle.pack.proofs.Nth.{nth-rowsAt, row-inside, row-short}
 
 -- ---- judge_rows
 

@@ -1,13 +1,13 @@
--- Where two grounds against a pack meet, which of them is given, and where.
+-- Where two grounds against a pack meet, which of them is given, and where. Nth.antt has those against finding a message.
 use Prim.Native.Nat.{ℕ, _+_, _*_, _≤_, _<_}
 use native.Mathlib.Omega.{arith}
 use mathlib.Core.Path.{_≡_, refl, sym, ap, ap₂, _∙_}
 use mathlib.Core.Logic.{_⊎_, inl, inr, ⊎-elim}
 use mathlib.Core.Bool.{Bool, true, false}
 use mathlib.Core.List.{List, [], _∷_, _++_}
-use lib.ListN.{length, getD, length-append}
-use lib.Dec.{leb, ltb, eqb}
-use borrow.Author.Tests.{le-leb, lt-leb, eq-eqb, ne-eqb, lt-ltb, le-ltb, leb-true, leb-false}
+use lib.ListN.{length, length-append}
+use lib.Dec.{leb, eqb}
+use borrow.Author.Tests.{le-leb, lt-leb, eq-eqb, ne-eqb, leb-true, leb-false}
 use Rattle.bits.specs.Outcome.{Outcome, accepted, refused, andThen, demand}
 use Rattle.bits.proofs.Choice.{pick-elim}
 use Rattle.tone.specs.Tone.{Tone}
@@ -17,7 +17,7 @@ use Rattle.tone.specs.Reading as reading
 use Rattle.tone.proofs.Refusals.{long-first}
 use Rattle.tone.proofs.Grounds.{Among, read-number}
 use Rattle.inside.specs.Inside.{join, sum, cut, movedBy}
-use Rattle.pack.specs.Pack.{packLength, packOf, firstRow, count, rowsIn, messagesIn, continues, readInTurn, readPack, noRow, nthRow, writePack}
+use Rattle.pack.specs.Pack.{packLength, packOf, firstRow, count, rowsIn, messagesIn, continues, readInTurn, readPack, writePack}
 use Rattle.pack.proofs.Rules.{First, turn-first}
 
 -- ---- messages in turn
@@ -87,23 +87,6 @@ module _ (p : List ℕ) where
       pub then-messages : continues 0 (rowsIn p) (firstRow p) ≡ true → readPack p ≡ readInTurn 0 (messagesIn p)
       unfolding readPack
       then-messages h = rw (le-leb (length p) 65535 a, le-leb 4 (length p) b, eq-eqb (firstRow p + 4 * count p + 4) (length p) c, h) refl
-
-  -- ---- the nth message
-
-  -- the pack's own refusal, whatever n is
-  pub pack-first : (n : ℕ) {k f : ℕ} → readPack p ≡ refused k f → nthRow p n ≡ refused k f
-  unfolding nthRow
-  pack-first n e = rw e refl
-
-  -- then 12, and only for a sound pack
-  pub no-message : (n : ℕ) {ts : List Tone} → readPack p ≡ accepted ts → length ts ≤ n → nthRow p n ≡ refused 12 0
-  unfolding nthRow
-  no-message n {ts} e h = rw (e, le-ltb n (length ts) h) refl
-
-  -- else its row
-  pub a-message : (n : ℕ) {ts : List Tone} → readPack p ≡ accepted ts → n < length ts → nthRow p n ≡ accepted (getD (rowsIn p) n noRow)
-  unfolding nthRow
-  a-message n {ts} e h = rw (e, lt-ltb n (length ts) h) refl
 
 -- ---- writing
 

@@ -5,15 +5,15 @@ use mathlib.Core.Path.{_≡_, refl, sym, ap, ap₂, _∙_}
 use mathlib.Core.Bool.{Bool, true, false, _&&_}
 use mathlib.Core.List.{List, [], _∷_, _++_}
 use lib.ListN.{length, getD, take, drop, length-append, length-map, length-drop}
-use lib.Dec.{leb, ltb, eqb}
-use borrow.Author.Tests.{leb-true, ltb-true, eqb-true}
+use lib.Dec.{leb, eqb}
+use borrow.Author.Tests.{leb-true, eqb-true}
 use Rattle.bits.specs.Outcome.{Outcome, accepted, refused, andThen, demand}
 use Rattle.bits.proofs.Choice.{both}
 use Rattle.tone.specs.Tone.{Tone}
 use Rattle.tone.specs.Reading.{readTone}
 use Rattle.inside.specs.Inside.{number, pair, sum, cut, movedBy}
 use Rattle.inside.proofs.Stretches.{length-cut}
-use Rattle.pack.specs.Pack.{mostOctets, rowsFrom, packOf, packLength, Row, rowAt, rowsAt, lengthsIn, firstRow, count, rowsIn, messagesIn, continues, readInTurn, readPack, noRow, nthRow}
+use Rattle.pack.specs.Pack.{mostOctets, rowsFrom, packOf, packLength, Row, rowAt, rowsAt, lengthsIn, firstRow, count, rowsIn, messagesIn, continues, readInTurn, readPack}
 use Rattle.pack.proofs.Turning.{continues-sum}
 
 -- ---- lengths
@@ -104,65 +104,3 @@ read-count p m = turn-length 0 (messagesIn p) (m .turns) ∙ length-cut (lengths
 -- the lengths add up to where the rows begin
 pub lengths-add-up : (p : List ℕ) {ts : List Tone} → Met p ts → sum (lengthsIn (rowsIn p)) ≡ firstRow p
 lengths-add-up p m = omega (arith, continues-sum 0 (rowsIn p) (firstRow p) (m .rows))
-
--- ---- the nth row
-
--- it stands behind so many rows
-pub nth-rowsAt : (k : ℕ) (p : List ℕ) (at n : ℕ) → n < k → getD (rowsAt k p at) n noRow ≡ rowAt p (at + 4 * n)
-nth-rowsAt zero p at n h = absurd (omega arith)
-nth-rowsAt (suc k) p at zero h = let e : at ≡ at + 4 * 0 = omega arith in ap (rowAt p) e
-nth-rowsAt (suc k) p at (suc n) h = let e : at + 4 + 4 * n ≡ at + 4 * suc n = omega arith in nth-rowsAt k p (at + 4) n (omega arith) ∙ ap (rowAt p) e
-
--- of rows that continue each other it starts where the lengths ahead of it end
-pub nth-start : (at : ℕ) (rs : List Row) (end n : ℕ) → continues at rs end ≡ true → n < length rs → getD rs n noRow .start ≡ at + sum (take n (lengthsIn rs))
-unfolding continues
-nth-start at [] end n h k = absurd (omega arith)
-nth-start at (r ∷ rs) end zero h k = let e : r .start ≡ at = eqb-true (r .start) at (both (eqb (r .start) at) (continues (at + r .length) rs end) h .0) in omega arith
-nth-start at (r ∷ rs) end (suc n) h k =
-    let e = nth-start (at + r .length) rs end n (both (eqb (r .start) at) (continues (at + r .length) rs end) h .1) (omega arith) in
-    omega arith
-
--- and ends within them
-pub nth-ends : (at : ℕ) (rs : List Row) (end n : ℕ) → continues at rs end ≡ true → n < length rs → getD rs n noRow .start + getD rs n noRow .length ≤ end
-unfolding continues
-nth-ends at [] end n h k = absurd (omega arith)
-nth-ends at (r ∷ rs) end zero h k =
-    let q = both (eqb (r .start) at) (continues (at + r .length) rs end) h in
-    let e : r .start ≡ at = eqb-true (r .start) at (q .0) in
-    omega (arith, continues-sum (at + r .length) rs end (q .1))
-nth-ends at (r ∷ rs) end (suc n) h k = nth-ends (at + r .length) rs end n (both (eqb (r .start) at) (continues (at + r .length) rs end) h .1) (omega arith)
-
--- ---- the nth message
-
--- a row that is found: the pack is accepted, and the row is one of its own
-pub record Nth (p : List ℕ) (n : ℕ) (r : Row) : Type 0 where
-  pub tones : List Tone
-  pub reads : readPack p ≡ accepted tones
-  pub there : n < length tones
-  pub row : r ≡ getD (rowsIn p) n noRow
-
-pub nth-there : (p : List ℕ) (n : ℕ) {r : Row} → nthRow p n ≡ accepted r → Nth p n r
-unfolding nthRow
-nth-there p n {r} e = go (readPack p) refl e
-  where
-    go : (x : Outcome (List Tone)) → readPack p ≡ x → andThen x (λ ts. demand (ltb n (length ts)) 12 (accepted (getD (rowsIn p) n noRow))) ≡ accepted r → Nth p n r
-    go (accepted ts) q h =
-        let d = demanded (ltb n (length ts)) 12 (accepted (getD (rowsIn p) n noRow)) h in
-        let f = d .1 in
-        record { tones = ts; reads = q; there = ltb-true n (length ts) (d .0); row = cc }
-    go (refused k f) q h = let z : _≡_ {A = ℕ} 0 1 = cc in absurd (omega arith)
-
-module _ (p : List ℕ) (n : ℕ) {r : Row} (e : nthRow p n ≡ accepted r) where
-  nth-met : Met p (nth-there p n e .tones)
-  nth-met = met p (nth-there p n e .reads)
-
-  -- it is one of as many rows as messages
-  pub nth-among : n < length (rowsIn p)
-  nth-among = rw (length-rowsAt (count p) p (firstRow p), ← read-count p nth-met) (nth-there p n e .there)
-
-  -- its stretch ends ahead of the rows, and so within the pack
-  pub row-inside : r .start + r .length ≤ length p
-  row-inside = let h = nth-ends 0 (rowsIn p) (firstRow p) n (nth-met .rows) nth-among in rw (nth-there p n e .row) (omega (arith, h, nth-met .adds))
-
-  pub row-short : length p ≤ mostOctets
-  row-short = nth-met .most

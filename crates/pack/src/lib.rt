@@ -142,10 +142,9 @@ pub fn read(pack: &[u8]) -> Reading
             number,
             place: fault,
         },
-        Judged::Sound {
-            messages: n,
-            rows: _,
-        } => Reading::Read { messages: n as u32 },
+        Judged::Sound { messages, rows: _ } => Reading::Read {
+            messages: messages as u32,
+        },
     }
 }
 
@@ -279,8 +278,8 @@ pub fn write(octets: &[u8], lengths: &[u32], out: &mut [u8]) -> Writing
             place: BitPlace(0),
         };
     }
-    let size = octets.len() + 4 * lengths.len() + 4;
-    if 65535 < size {
+    let needed = octets.len() + 4 * lengths.len() + 4;
+    if 65535 < needed {
         return Writing::Refused {
             number: 1,
             place: BitPlace(0),
@@ -298,7 +297,7 @@ pub fn write(octets: &[u8], lengths: &[u32], out: &mut [u8]) -> Writing
             place: fault,
         },
         Inside::Fine => {
-            if out.len() < size {
+            if out.len() < needed {
                 return Writing::Refused {
                     number: 11,
                     place: BitPlace(0),
@@ -306,7 +305,7 @@ pub fn write(octets: &[u8], lengths: &[u32], out: &mut [u8]) -> Writing
             }
             fill(octets, lengths, out);
             Writing::Written {
-                octets: OctetCount(size),
+                octets: OctetCount(needed),
             }
         }
     }

@@ -10,8 +10,8 @@ judge-requires c κs = search needs
 enum-known-number : tie.Need-enum-known-number
 enum-known-number c = search needs
 
-enum-known-n : tie.Need-enum-known-n
-enum-known-n c = search needs
+enum-known-messages : tie.Need-enum-known-messages
+enum-known-messages c = search needs
 
 cast-t7 : tie.Need-cast-t7
 cast-t7 c = search (findings, needs)
@@ -24,4 +24,4 @@ returns-2 c = search (findings, needs)
 
 pub read-spec : {M : Type 1} → statement M
 read-spec =
-    tie.close (tie.spec judge-requires enum-known-number enum-known-n cast-t7 returns returns-2)
+    tie.close (tie.spec judge-requires enum-known-number enum-known-messages cast-t7 returns returns-2)

@@ -7,14 +7,14 @@ use Rattle.pack.proofs.Filling.{writings}
 returns : tie.Need-returns
 returns c = search (writings, needs)
 
-mul-size : tie.Need-mul-size
-mul-size c = search needs
+mul-needed : tie.Need-mul-needed
+mul-needed c = search needs
 
-add-size : tie.Need-add-size
-add-size c = search needs
+add-needed : tie.Need-add-needed
+add-needed c = search needs
 
-add-size-2 : tie.Need-add-size-2
-add-size-2 c = search needs
+add-needed-2 : tie.Need-add-needed-2
+add-needed-2 c = search needs
 
 returns-2 : tie.Need-returns-2
 returns-2 c = search (writings, needs)
@@ -54,9 +54,9 @@ write-spec =
     tie.close
     (tie.spec
     returns
-    mul-size
-    add-size
-    add-size-2
+    mul-needed
+    add-needed
+    add-needed-2
     returns-2
     sum-of-requires
     returns-3
