@@ -234,6 +234,20 @@ pub fn judge_patterns(
     Ok(place)
 }
 
+/// Judges a message and takes note of nothing. A pack is judged so.
+pub fn judge_alone(message: &[u8]) -> Result<(), Refusal> {
+    let front = judge_front(message)?;
+    let end = judge_patterns(message, &front, &mut Nothing)?;
+    judge_end(message, end)
+}
+
+struct Nothing;
+
+impl Watch for Nothing {
+    #[inline(always)]
+    fn pattern(&mut self, _: &Passed) {}
+}
+
 /// Judges a body. Answers the place behind it and how many notes it has.
 #[inline(always)]
 fn judge_body(message: &[u8], mut place: usize, count: usize) -> Result<(usize, usize), Refusal> {
