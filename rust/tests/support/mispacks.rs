@@ -92,11 +92,9 @@ impl Mispack {
             (Mispack::TakesRowsInAnyOrder, 27) => rows?.judged_if(pack, |rows| {
                 let mut sorted = rows.rows.clone();
                 sorted.sort();
-                rows.are_in_turn(&sorted)
+                let end = sorted.last().map_or(0, |row| row[0] + row[1]);
+                rows.are_in_turn(&sorted) && end == rows.first_row
             }),
-            (Mispack::ReadsLowOctetFirst, 27) => {
-                Some(Obvious.pack_read(&turned(pack, rows?.first_row)))
-            }
             (Mispack::JudgesMessagesAmongRows, 27) => rows?.judged_one_by_one(pack),
             _ => None,
         }
@@ -111,6 +109,10 @@ impl Mispack {
                 Some(Rows::of(pack)?.judged(pack))
             }
             (Mispack::RefusesEmptyPack, 0) if right.messages == 0 => Some(refused(2, 0)),
+            (Mispack::ReadsLowOctetFirst, 0) => {
+                let first_row = Rows::of(pack)?.first_row;
+                Some(Obvious.pack_read(&turned(pack, first_row)))
+            }
             (Mispack::PlacesTooLongAtZero, 1) => at(0),
             (Mispack::PlacesFaultInMessage, 2..=10 | 21) => at(right.place - 8 * start()?),
             (Mispack::MovesPlaceByOctets, 2..=10 | 21) => at(right.place - 7 * start()?),
