@@ -6,9 +6,7 @@
 
 use std::slice::{from_raw_parts, from_raw_parts_mut};
 
-use ohakelm_answers::{
-    Bitmap, Edited, Entry, Label, Listed, Logo, Pack, Stretch, Tone, Written,
-};
+use ohakelm_answers::{Bitmap, Edited, Entry, Label, Listed, Logo, Pack, Stretch, Tone, Written};
 use ohakelm_reference as reference;
 
 /// # Safety
