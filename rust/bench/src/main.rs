@@ -209,7 +209,7 @@ fn endless_part() -> [Row; 2] {
 }
 
 /// A pack of different tones, read, its last message found, and written.
-fn packs(count: usize, octets: usize) -> [Row; 3] {
+fn packs(count: usize, octets: usize) -> [Row; 4] {
     let (messages, lengths) = tones::of_pack(count, octets);
     let mut pack = vec![0; messages.len() + 4 * count + 4];
     let written = ohakelm_fast::pack_write(&messages, &lengths, &mut pack);
@@ -222,6 +222,13 @@ fn packs(count: usize, octets: usize) -> [Row; 3] {
         &(),
         |_| proved::pack_read(&pack),
         |_| ohakelm_fast::pack_read(&pack),
+    );
+    let branching = compare(
+        &format!("pack, read, {name}, plain Rust branches by kinds"),
+        batch,
+        &(),
+        |_| proved::pack_read(&pack),
+        |_| ohakelm_fast::pack_read_by_branches(&pack),
     );
     let message = compare(
         &format!("pack, message, {name}"),
@@ -237,7 +244,7 @@ fn packs(count: usize, octets: usize) -> [Row; 3] {
         |out| proved::pack_write(&messages, &lengths, out),
         |out| ohakelm_fast::pack_write(&messages, &lengths, out),
     );
-    [read, message, write]
+    [read, branching, message, write]
 }
 
 fn image(width: u32, height: u32) -> Vec<u8> {

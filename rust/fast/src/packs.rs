@@ -6,6 +6,7 @@
 use ohakelm_answers::{Pack, Stretch, Written};
 
 use crate::judge::{judge_alone, refusal, Refusal};
+use crate::within::is_sound;
 
 const LARGEST_PACK: usize = 65_535;
 
@@ -15,7 +16,19 @@ const LAST: usize = 4;
 
 /// Reads a pack. Answers how many messages it has.
 pub fn pack_read(pack: &[u8]) -> Pack {
-    match judge(pack) {
+    read_answer(judge(pack, judge_within))
+}
+
+/// The same with a branch for the kind of each instruction, as tones are judged. It
+/// pays where the processor foresees them: in tones of notes alone, and in a small pack
+/// that is read again and again. So the benchmark shows it beside the other.
+pub fn pack_read_by_branches(pack: &[u8]) -> Pack {
+    read_answer(judge(pack, judge_alone_within))
+}
+
+#[inline(always)]
+fn read_answer(judged: Result<&[u8], Refusal>) -> Pack {
+    match judged {
         Ok(rows) => Pack {
             refusal: 0,
             place: 0,
@@ -64,7 +77,7 @@ pub fn pack_write(messages: &[u8], lengths: &[u32], out: &mut [u8]) -> Written {
 }
 
 fn row_of(pack: &[u8], n: u32) -> Result<&[u8], Refusal> {
-    let mut rows = judge(pack)?.chunks_exact(ROW);
+    let mut rows = judge(pack, judge_within)?.chunks_exact(ROW);
     rows.nth(n as usize).ok_or(refusal(12, 0))
 }
 
@@ -82,7 +95,7 @@ fn length_of(row: &[u8]) -> usize {
 
 /// Judges a pack with all its messages. Answers its rows.
 #[inline(always)]
-fn judge(pack: &[u8]) -> Result<&[u8], Refusal> {
+fn judge(pack: &[u8], judge_one: impl Judge) -> Result<&[u8], Refusal> {
     if pack.len() > LARGEST_PACK {
         return Err(refusal(1, 0));
     }
@@ -94,11 +107,12 @@ fn judge(pack: &[u8]) -> Result<&[u8], Refusal> {
     if first_row + ROW * count != front.len() {
         return Err(refusal(26, 0));
     }
-    let (messages, rows) = front.split_at(first_row);
+    let rows = &front[first_row..];
     if !are_in_turn(rows, first_row) {
         return Err(refusal(27, 0));
     }
-    judge_messages(messages, rows.chunks_exact(ROW).map(length_of))?;
+    // With what is behind them, so that a window is there at the end of each.
+    judge_messages(pack, rows.chunks_exact(ROW).map(length_of), judge_one)?;
     Ok(rows)
 }
 
@@ -114,19 +128,44 @@ fn are_in_turn(rows: &[u8], last_end: usize) -> bool {
     in_turn && end == last_end
 }
 
-/// Judges messages that lie back to back. Their lengths add up to the octets.
+/// Judges the message from one octet on and ahead of another.
+trait Judge: Fn(&[u8], usize, usize) -> Result<(), Refusal> {}
+
+impl<F: Fn(&[u8], usize, usize) -> Result<(), Refusal>> Judge for F {}
+
+/// Judges messages that lie back to back from the first octet on.
 #[inline(always)]
-fn judge_messages(messages: &[u8], lengths: impl Iterator<Item = usize>) -> Result<(), Refusal> {
-    let mut left = messages;
+fn judge_messages(
+    octets: &[u8],
+    lengths: impl Iterator<Item = usize>,
+    judge_one: impl Judge,
+) -> Result<(), Refusal> {
+    let mut start = 0;
     for length in lengths {
-        let (message, behind) = left.split_at(length);
-        if let Err(at_fault) = judge_alone(message) {
-            let start = messages.len() - left.len();
-            return Err(refusal(at_fault.number, 8 * start + at_fault.place));
-        }
-        left = behind;
+        judge_one(octets, start, start + length)?;
+        start += length;
     }
     Ok(())
+}
+
+#[inline(always)]
+fn judge_within(octets: &[u8], start: usize, end: usize) -> Result<(), Refusal> {
+    if is_sound(octets, start, end) {
+        return Ok(());
+    }
+    fault_within(octets, start, end)
+}
+
+/// Finds out what is wrong with a message.
+#[cold]
+fn fault_within(octets: &[u8], start: usize, end: usize) -> Result<(), Refusal> {
+    judge_alone_within(octets, start, end)
+}
+
+#[inline(always)]
+fn judge_alone_within(octets: &[u8], start: usize, end: usize) -> Result<(), Refusal> {
+    let moved = |it: Refusal| refusal(it.number, 8 * start + it.place);
+    judge_alone(&octets[start..end]).map_err(moved)
 }
 
 fn write_into(messages: &[u8], lengths: &[u32], out: &mut [u8]) -> Result<usize, Refusal> {
@@ -140,7 +179,8 @@ fn write_into(messages: &[u8], lengths: &[u32], out: &mut [u8]) -> Result<usize,
     if sum != first_row as u64 {
         return Err(refusal(27, 0));
     }
-    judge_messages(messages, lengths.iter().map(|&length| length as usize))?;
+    let in_octets = lengths.iter().map(|&length| length as usize);
+    judge_messages(messages, in_octets, judge_within)?;
     let Some(pack) = out.get_mut(..octets) else {
         return Err(refusal(11, 0));
     };

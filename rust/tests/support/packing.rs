@@ -14,6 +14,14 @@ impl Comparison {
         let outcomes = self.each(|codec| (codec.pack_read(pack),));
         let inputs = || format!("pack {}", hex(pack));
         let (answer,) = self.alike("pack_read", outcomes, inputs);
+        // The optimised one has a second form, which the benchmark shows too.
+        let alike = ohakelm_fast::pack_read_by_branches(pack) == answer;
+        self.expect(
+            alike,
+            "pack_read_by_branches",
+            "both forms are alike",
+            inputs,
+        );
         self.count("pack_read", answer.refusal);
         answer
     }
