@@ -181,7 +181,8 @@ impl Rows {
     }
 
     fn starts_rise(&self) -> bool {
-        self.rows.is_sorted()
+        let mut pairs = self.rows.windows(2);
+        pairs.all(|pair| pair[0][0] <= pair[1][0])
     }
 
     /// Where the last one ends.

@@ -202,7 +202,7 @@ fn misrow(rng: &mut Rng, made: &mut Made) {
         1 => off_by_one(rng, &mut made.first_row),
         // They add up to the pack all the same.
         2 => one_row_more(made),
-        3 if rows > 0 => {
+        3 if made.count > 0 => {
             made.count -= 1;
             made.first_row += 4;
         }
