@@ -125,6 +125,7 @@ fn judge_messages(octets: &[u8], rows: &[Row]) -> Result<(), Refusal> {
 }
 
 fn write_into(messages: &[u8], lengths: &[u32], out: &mut [u8]) -> Result<usize, Refusal> {
+    // Both lie in memory, so the sum of their octets does not wrap.
     if messages.len() + ROW * lengths.len() + LAST > LARGEST_PACK {
         return refuse(1);
     }
