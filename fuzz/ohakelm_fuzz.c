@@ -15,9 +15,11 @@
  * an entry must lead through the table to the note listed. An endless part that
  * sounds once and is then recalled for ever must go on as it did before.
  * A title that was read or written must have no refused character. An icon and a
- * logo that were written must read again. Buffers end at a page that cannot be
- * touched, and guard cells stand ahead of them, so a read or a write past the end
- * ends the run.
+ * logo that were written must read again. A pack must be refused just where one of
+ * its messages is, at that message's place, or where its rows are not those of
+ * messages back to back; what was read must write again, and each message must be
+ * the one that its row names. Buffers end at a page that cannot be touched, and
+ * guard cells stand ahead of them, so a read or a write past the end ends the run.
  *
  * Input. One octet names the call and whether a buffer of nothing is passed as
  * null to the library, some more are the call's numbers, and the rest is the
@@ -43,6 +45,10 @@ struct ohakelm_edited guide_replace(uint8_t *, size_t, size_t, size_t, size_t, u
 struct ohakelm_edited guide_insert(uint8_t *, size_t, size_t, size_t, size_t, uint32_t,
                                    uint32_t *, size_t);
 struct ohakelm_edited guide_delete(uint8_t *, size_t, size_t, size_t, size_t, uint32_t *, size_t);
+struct ohakelm_pack guide_pack_read(const uint8_t *, size_t);
+struct ohakelm_stretch guide_pack_message(const uint8_t *, size_t, uint32_t);
+struct ohakelm_written guide_pack_write(const uint8_t *, size_t, const uint32_t *, size_t,
+                                        uint8_t *, size_t);
 struct ohakelm_bitmap guide_bitmap_read(const uint8_t *, size_t);
 struct ohakelm_written guide_bitmap_write(uint32_t, uint32_t, const uint8_t *, size_t, uint8_t *,
                                           size_t);
@@ -96,6 +102,17 @@ static bool same_edited(struct ohakelm_edited a, struct ohakelm_edited b)
 {
     return a.refusal == b.refusal && a.place == b.place && a.length == b.length &&
            a.entries == b.entries && a.mark == b.mark && a.change == b.change;
+}
+
+static bool same_pack(struct ohakelm_pack a, struct ohakelm_pack b)
+{
+    return a.refusal == b.refusal && a.place == b.place && a.messages == b.messages;
+}
+
+static bool same_message(struct ohakelm_stretch a, struct ohakelm_stretch b)
+{
+    return a.refusal == b.refusal && a.place == b.place && a.start == b.start &&
+           a.length == b.length;
 }
 
 static bool same_bitmap(struct ohakelm_bitmap a, struct ohakelm_bitmap b)
@@ -612,6 +629,170 @@ static void fuzz_edit(struct input *in, unsigned kind)
         check_undone(done, used, pattern, instruction);
 }
 
+#define AMPLE_LENGTHS 2048
+
+/* The number that two octets of the first buffer are, the high one first. */
+static size_t number_at(size_t octet)
+{
+    return first.ours[octet] * 256u + first.ours[octet + 1];
+}
+
+/* Puts a number behind some octets, the high octet first. */
+static void put_number(uint8_t *octets, size_t *count, size_t number)
+{
+    octets[(*count)++] = (uint8_t)(number / 256);
+    octets[(*count)++] = (uint8_t)number;
+}
+
+/* The rest of the input as a pack: as it is, or as messages of so many octets each
+ * with what a pack has behind them. The rows of the latter are right. */
+static size_t take_pack(struct input *in)
+{
+    static uint8_t pack[16384];
+    size_t messages = take(in, 1) % 32;
+    if (messages == 0)
+        return take_rest(in);
+    size_t lengths[32], count = 0, start = 0;
+    for (size_t i = 0; i < messages; i++)
+        lengths[i] = take(in, 1);
+    for (size_t i = 0; i < messages; i++) {
+        lengths[i] = lengths[i] < in->left ? lengths[i] : in->left;
+        memcpy(pack + count, in->at, lengths[i]);
+        count += lengths[i];
+        in->at += lengths[i];
+        in->left -= lengths[i];
+    }
+    size_t first_row = count;
+    for (size_t i = 0; i < messages; i++) {
+        put_number(pack, &count, start);
+        put_number(pack, &count, lengths[i]);
+        start += lengths[i];
+    }
+    put_number(pack, &count, messages);
+    put_number(pack, &count, first_row);
+    lend(&first, count, pack, count);
+    return count;
+}
+
+/* The refusal of a message that stands by itself, and its place. */
+static struct ohakelm_tone judged(const uint8_t *msg, size_t count)
+{
+    static uint32_t table[AMPLE_TABLE];
+    static uint8_t title[OHAKELM_LARGEST_TITLE];
+    return ohakelm_read(msg, count, table, AMPLE_TABLE, title, sizeof title);
+}
+
+/* What a pack whose rows add up is refused for is what its first message at fault
+ * is refused for by itself, at the place in the pack. */
+static void check_messages(size_t count, struct ohakelm_pack pack)
+{
+    size_t messages = number_at(count - 4), first_row = number_at(count - 2);
+    for (size_t n = 0; n < messages; n++) {
+        size_t start = number_at(first_row + 4 * n), length = number_at(first_row + 4 * n + 2);
+        struct ohakelm_tone tone = judged(first.ours + start, length);
+        if (tone.refusal == 0)
+            continue;
+        check(pack.refusal == tone.refusal, "a pack is refused as its first message at fault");
+        check(pack.place == tone.place + 8 * start, "its place is counted in the pack");
+        return;
+    }
+    check(pack.refusal == 0 && pack.messages == messages, "a pack of sound messages is read");
+}
+
+/* A pack that was read is written again, and each row is a message. */
+static void check_pack_again(size_t count, struct ohakelm_pack pack)
+{
+    static uint32_t lengths[AMPLE_LENGTHS];
+    static uint8_t out[16384];
+    size_t first_row = number_at(count - 2);
+    check(pack.messages <= AMPLE_LENGTHS, "there is room for the lengths");
+    for (size_t n = 0; n < pack.messages; n++) {
+        struct ohakelm_stretch message =
+            ohakelm_pack_message(first.ours, count, (uint32_t)n);
+        check(message.refusal == 0 && message.start == number_at(first_row + 4 * n) &&
+                  message.length == number_at(first_row + 4 * n + 2),
+              "a message is where its row says");
+        lengths[n] = (uint32_t)message.length;
+    }
+    check(ohakelm_pack_message(first.ours, count, (uint32_t)pack.messages).refusal ==
+              OHAKELM_NOT_THERE,
+          "there are no more messages");
+    struct ohakelm_written done =
+        ohakelm_pack_write(first.ours, first_row, lengths, pack.messages, out, sizeof out);
+    check(done.refusal == 0 && done.octets == count, "a pack that was read is written");
+    check(memcmp(out, first.ours, count) == 0, "it is written to the same octets");
+}
+
+static void fuzz_pack_read(struct input *in)
+{
+    size_t count = take_pack(in);
+    struct ohakelm_pack pack = ohakelm_pack_read(given(&first), count);
+    struct ohakelm_pack other = guide_pack_read(first.theirs, count);
+    check(same_pack(pack, other), "both read packs alike");
+    check_lent(&first);
+    bool short_or_wrong = count < 4 || pack.refusal == OHAKELM_PACK_SIZE ||
+                          pack.refusal == OHAKELM_PACK_ROWS;
+    if (!short_or_wrong)
+        check_messages(count, pack);
+    if (pack.refusal == 0)
+        check_pack_again(count, pack);
+}
+
+/* The message asked for is mostly there. */
+static void fuzz_pack_message(struct input *in)
+{
+    uint32_t n = take(in, 1);
+    if (n >= 128)
+        n = take(in, 4);
+    size_t count = take_pack(in);
+    struct ohakelm_stretch message = ohakelm_pack_message(given(&first), count, n);
+    struct ohakelm_stretch other = guide_pack_message(first.theirs, count, n);
+    check(same_message(message, other), "both find messages alike");
+    check_lent(&first);
+    if (message.refusal == 0) {
+        check(message.start + message.length <= count, "a message lies within its pack");
+        check(judged(first.ours + message.start, message.length).refusal == 0,
+              "a message of a pack is sound");
+    } else if (message.refusal != OHAKELM_NOT_THERE) {
+        struct ohakelm_pack pack = ohakelm_pack_read(given(&first), count);
+        check(pack.refusal == message.refusal && pack.place == message.place,
+              "it refuses what reading does");
+    } else {
+        check(n >= ohakelm_pack_read(first.ours, count).messages, "it is not there");
+    }
+}
+
+/* The lengths come from the input, one or four octets each. */
+static void fuzz_pack_write(struct input *in)
+{
+    static uint32_t lengths[AMPLE_LENGTHS];
+    uint32_t flags = take(in, 1);
+    size_t messages = flags / 2 % 64;
+    size_t room = take(in, 1);
+    room = room < 64 ? room : 65536;
+    for (size_t n = 0; n < messages; n++)
+        lengths[n] = take(in, flags & 1 ? 4 : 1);
+    size_t count = take_rest(in);
+    lend(&second, 4 * messages, (const uint8_t *)lengths, 4 * messages);
+    lend(&third, room, NULL, 0);
+    struct ohakelm_written done = ohakelm_pack_write(
+        given(&first), count, words(given(&second)), messages, given(&third), room);
+    struct ohakelm_written other = guide_pack_write(
+        first.theirs, count, words(second.theirs), messages, third.theirs, room);
+    check(same_written(done, other), "both write packs alike");
+    check_lent(&first);
+    check_lent(&second);
+    check_lent(&third);
+    if (done.refusal != 0) {
+        check_untouched(&third);
+        return;
+    }
+    struct ohakelm_pack pack = ohakelm_pack_read(third.ours, done.octets);
+    check(pack.refusal == 0 && pack.messages == messages, "a pack that was written is read");
+    check(done.octets == count + 4 * messages + 4 && memcmp(third.ours, first.ours, count) == 0,
+          "its messages are the same");
+}
+
 static void fuzz_bitmap_read(struct input *in)
 {
     static uint8_t out[8192];
@@ -765,8 +946,8 @@ int LLVMFuzzerTestOneInput(const uint8_t *data, size_t size)
 {
     struct input in = {data, size};
     uint32_t number = take(&in, 1);
-    null_for_nothing = number / 14 % 2 == 1;
-    switch (number % 14) {
+    null_for_nothing = number / 17 % 2 == 1;
+    switch (number % 17) {
     case 0: fuzz_read(&in); break;
     case 1: fuzz_write(&in); break;
     case 2: fuzz_label(&in); break;
@@ -780,7 +961,10 @@ int LLVMFuzzerTestOneInput(const uint8_t *data, size_t size)
     case 10: fuzz_icon_read(&in); break;
     case 11: fuzz_icon_write(&in); break;
     case 12: fuzz_logo_read(&in); break;
-    default: fuzz_logo_write(&in); break;
+    case 13: fuzz_logo_write(&in); break;
+    case 14: fuzz_pack_read(&in); break;
+    case 15: fuzz_pack_message(&in); break;
+    default: fuzz_pack_write(&in); break;
     }
     return 0;
 }

@@ -1,5 +1,5 @@
-/* Ringing tones, OTA bitmaps, CLI icons and operator logos of Nokia Smart
- * Messaging 1.0.0. The library is written and proved in Rattle.
+/* Ringing tones and packs of them, OTA bitmaps, CLI icons and operator logos of
+ * Nokia Smart Messaging 1.0.0. The library is written and proved in Rattle.
  *
  * WHAT TO LINK. There are three archives, each named libohakelm.a: for x86-64
  * with Linux or Android, for 64-bit Arm with Linux, and for 64-bit Arm with
@@ -16,9 +16,10 @@
  * is 0 where the call accepted. On a refusal it is one of the numbers below,
  * every number but `refusal` and `place` is 0, and nothing lent has changed.
  * `place` is the bit of the tone message where the faulty element begins,
- * counted from 0, for the refusals 2 to 10 and 21 met in a tone message. It is
- * 0 for all others. Where a call accepts, what lies beyond the part that it
- * fills is unchanged.
+ * counted from 0, for the refusals 2 to 10 and 21 met in a tone message. In a
+ * pack it is counted from the pack's first bit, and 1 for a message in a pack
+ * has the bit where the message starts. It is 0 for all others. Where a call
+ * accepts, what lies beyond the part that it fills is unchanged.
  *
  * Compare answers and rows field by field and not octet by octet: the octets
  * between their fields mean nothing.
@@ -76,6 +77,12 @@
  * later pass is like the second, its durations too. Where a pass has no note
  * and no pause, there is no entry to return to, and no mark.
  *
+ * A PACK has tone messages back to back from octet 0. Behind them is a row for
+ * each message, in the same order: two octets of start and two of length. Then
+ * two octets say how many messages there are, and the last two where the first
+ * row starts. All numbers have the high octet first. A pack has at most 65,535
+ * octets. The one without a message is four octets of 0.
+ *
  * A BITMAP is the info octet 00, the width, the height, the depth 01 and the
  * image. An ICON is the version, which is the character 0, and a bitmap. A LOGO
  * is that version, three digits of mobile country code (MCC), two digits of
@@ -108,8 +115,8 @@ extern "C" {
  * refusal or a rule is new or another; CHANGELOG.md says what a caller must
  * change then. The third is raised where none is. A header goes with an archive
  * of the same first two numbers. */
-#define OHAKELM_VERSION_STRING "0.8.0"
-#define OHAKELM_VERSION 800 /* first * 10000 + second * 100 + third */
+#define OHAKELM_VERSION_STRING "0.9.0"
+#define OHAKELM_VERSION 900 /* first * 10000 + second * 100 + third */
 
 /* Answers the OHAKELM_VERSION of the archive that is linked. */
 uint32_t ohakelm_version(void);
@@ -119,8 +126,8 @@ uint32_t ohakelm_version(void);
 /* Each refusal: its number, its name and its words. */
 #define OHAKELM_REFUSALS(ITEM)                                                 \
     ITEM(1, OHAKELM_TOO_LONG,                                                  \
-         "an edit's used length beyond its lent buffer, or a tone above "      \
-         "4,096 octets")                                                       \
+         "an edit's used length beyond its lent buffer, a tone above 4,096 "   \
+         "octets, or a pack above 65,535 octets")                              \
     ITEM(2, OHAKELM_CUT_SHORT,                                                 \
          "the input stops inside or before a due element")                     \
     ITEM(3, OHAKELM_COMMAND, "command length not 2 or 3, or not the part due") \
@@ -133,7 +140,8 @@ uint32_t ohakelm_version(void);
     ITEM(9, OHAKELM_END_OCTET, "end octet not 00")                             \
     ITEM(10, OHAKELM_AFTER_END, "octets after the end")                        \
     ITEM(11, OHAKELM_NO_ROOM, "a lent output is too small")                    \
-    ITEM(12, OHAKELM_NOT_THERE, "no such pattern or instruction, or a recall") \
+    ITEM(12, OHAKELM_NOT_THERE,                                                \
+         "no such pattern, instruction or message, or a recall")               \
     ITEM(13, OHAKELM_ONLY_ONE, "deleting a part's only instruction")           \
     ITEM(14, OHAKELM_FULL_PART, "inserting into a part of 255")                \
     ITEM(15, OHAKELM_BITMAP_HEADER, "bitmap header outside the rules")         \
@@ -147,11 +155,16 @@ uint32_t ohakelm_version(void);
     ITEM(20, OHAKELM_AHEAD,                                                    \
          "an octet ahead of a bitmap that its kind does not have there: "      \
          "version, network code digit, date, line feed")                       \
-    ITEM(21, OHAKELM_CHARACTER, "a title character 0 to 31 or 127 to 159")
+    ITEM(21, OHAKELM_CHARACTER, "a title character 0 to 31 or 127 to 159")     \
+    ITEM(26, OHAKELM_PACK_SIZE,                                                \
+         "first row start, rows and four octets do not add up to the pack")    \
+    ITEM(27, OHAKELM_PACK_ROWS,                                                \
+         "a row that does not continue the one before, or lengths that do "    \
+         "not add up")
 
 /* OHAKELM_TOO_LONG is 1, and so on. 19 is no longer given, and no other refusal
  * takes it: it stood for a duration above 32 bits, and it is proved that no
- * duration exceeds 16,800,000 microseconds. */
+ * duration exceeds 16,800,000 microseconds. 22 to 25 are not given yet. */
 enum ohakelm_refusal {
 #define OHAKELM_ITEM(number, name, words) name = number,
     OHAKELM_REFUSALS(OHAKELM_ITEM)
@@ -187,6 +200,7 @@ static inline const char *ohakelm_words(uint32_t refusal)
 #define OHAKELM_LARGEST_BITMAP 7909  /* octets */
 #define OHAKELM_LARGEST_ICON 7910
 #define OHAKELM_LARGEST_LOGO 7932
+#define OHAKELM_LARGEST_PACK 65535
 
 /* The largest list is that of a part of 255 notes with 254 recalls, all with
  * loop 14, and takes 11.7 million octets; an endless part adds two passes only.
@@ -194,7 +208,8 @@ static inline const char *ohakelm_words(uint32_t refusal)
  * then says that one has more. */
 
 /* How many octets of stack a call needs at most, those of memmove and memset not
- * counted: the edits; reading, writing and listing a tone; all others. */
+ * counted: the edits; reading, writing and listing a tone, and the calls of
+ * packs; all others. */
 #define OHAKELM_STACK_EDITS 6144
 #define OHAKELM_STACK_TONES 1024
 #define OHAKELM_STACK_OTHERS 512
@@ -291,6 +306,19 @@ struct ohakelm_edited {
     size_t entries; /* entries of the new list */
     uint32_t mark;  /* the entry to return to, or OHAKELM_NO_MARK */
     int32_t change; /* the new length minus the old one */
+};
+
+struct ohakelm_pack {
+    uint32_t refusal;
+    size_t place;
+    size_t messages; /* how many there are */
+};
+
+struct ohakelm_stretch {
+    uint32_t refusal;
+    size_t place;
+    size_t start;  /* the message's first octet in the pack */
+    size_t length; /* the message's octets */
 };
 
 struct ohakelm_bitmap {
@@ -400,6 +428,40 @@ struct ohakelm_edited ohakelm_insert(uint8_t *buf, size_t buf_len, size_t used,
 struct ohakelm_edited ohakelm_delete(uint8_t *buf, size_t buf_len, size_t used,
                                      size_t pattern, size_t instruction,
                                      uint32_t *list, size_t list_len);
+
+/* ---- Packs */
+
+/* Reads a pack, its messages too. Changes nothing. Answers how many messages
+ * there are. Refuses 1, 2, 26 and 27, in this order, and then what ohakelm_read
+ * refuses in the first message at fault, but for 11. It is 1 where the pack has
+ * more than 65,535 octets, 2 where it has fewer than four, and 26 where the
+ * first row's start, four octets a row and the last four octets do not add up
+ * to its length. It is 27 where the first row does not start at 0, a row not
+ * where the one before ends, or the last does not end where the rows begin;
+ * without rows, where the first row's start is not 0. A row of length 0
+ * continues, and its message is refused 2. */
+struct ohakelm_pack ohakelm_pack_read(const uint8_t *pack, size_t pack_len);
+
+/* Finds the message `n` of a pack, counted from 0. Changes nothing. Answers the
+ * stretch of the pack that it is. Refuses as ohakelm_pack_read does, and then
+ * 12 where there is no such message.
+ * Each call judges the whole pack. To go through all messages, read the pack
+ * once and go along its rows: it is proved that in a pack that was accepted the
+ * row `n`, which is four octets at the first row's start + 4 * n, has the start
+ * and the length of the stretch that this call answers. */
+struct ohakelm_stretch ohakelm_pack_message(const uint8_t *pack,
+                                            size_t pack_len, uint32_t n);
+
+/* Writes a pack from its messages, back to back, and a row of their lengths in
+ * octets. Fills the front of `out` with it. Answers the octets written. Refuses
+ * 1 where the octets, four for each length and four more are above 65,535; 27
+ * where the lengths do not add up to the octets; then what ohakelm_read refuses
+ * in the first message at fault, but for 11, at the place that it would have in
+ * the pack; and 11. `lengths_len` counts lengths and not octets. */
+struct ohakelm_written ohakelm_pack_write(const uint8_t *msgs, size_t msgs_len,
+                                          const uint32_t *lengths,
+                                          size_t lengths_len, uint8_t *out,
+                                          size_t out_len);
 
 /* ---- Bitmaps, icons and logos */
 

@@ -1,5 +1,5 @@
-//! Ringing tones, OTA bitmaps, CLI icons and operator logos of Nokia Smart
-//! Messaging 1.0.0.
+//! Ringing tones and packs of them, OTA bitmaps, CLI icons and operator logos of
+//! Nokia Smart Messaging 1.0.0.
 //!
 //! These are safe functions over a static library whose every call is proved.
 //! Each takes slices and answers a `Result`. Nothing is allocated. On a refusal
@@ -36,8 +36,8 @@ mod version;
 
 pub use refusal::{Kind, Refusal};
 pub use room::{
-    LARGEST_BITMAP, LARGEST_ICON, LARGEST_LIST, LARGEST_LOGO, LARGEST_ROWS, LARGEST_TABLE,
-    LARGEST_TITLE, LARGEST_TONE,
+    LARGEST_BITMAP, LARGEST_ICON, LARGEST_LIST, LARGEST_LOGO, LARGEST_PACK, LARGEST_ROWS,
+    LARGEST_TABLE, LARGEST_TITLE, LARGEST_TONE,
 };
 pub use version::{version, VERSION};
 
@@ -366,6 +366,120 @@ pub fn edit(
         mark: mark(answer.mark),
         change: answer.change,
     })
+}
+
+/// Reads a pack, its messages too. Answers how many messages there are.
+///
+/// A pack has tone messages back to back from octet 0. Behind them is a row for each
+/// message, in the same order: two octets of start and two of length. Then two octets
+/// say how many messages there are, and the last two where the first row starts. All
+/// numbers have the high octet first. The pack without a message is four octets of 0.
+///
+/// # Errors
+///
+/// Refuses 1 above 65,535 octets, 2 below four, 26 where the first row's start, four
+/// octets a row and the last four do not add up to the pack, and 27 where a row does
+/// not continue the one before. The first row starts at 0, and the last one ends where
+/// the rows begin; without rows that is 0. Then it refuses 1 to 10 and 21 as [`read`]
+/// does, for the first message at fault. Its place is counted from the pack's first
+/// bit.
+///
+/// ```
+/// use ohakelm::Kind;
+/// let pack = [
+///     0x02, 0x4A, 0x3A, 0x80, 0x40, 0x00, 0x51, 0xC6, 0x90, 0x00, // a tone of 10 octets,
+///     0x02, 0x4A, 0x3A, 0x80, 0x40, 0x00, 0x26, 0x90, 0x00, // and one of 9
+///     0, 0, 0, 10, 0, 10, 0, 9, // their rows
+///     0, 2, 0, 19, // two of them, the rows from octet 19 on
+/// ];
+/// assert_eq!(ohakelm::read_pack(&pack), Ok(2));
+/// assert_eq!(ohakelm::read_pack(&[0; 4]), Ok(0));
+///
+/// // The end octet of the second tone, at octet 18, is not 00.
+/// let mut other = pack;
+/// other[18] = 1;
+/// let refused = ohakelm::read_pack(&other).map_err(|refusal| (refusal.kind(), refusal.place));
+/// assert_eq!(refused, Err((Kind::EndOctet, 8 * 18)));
+///
+/// // The second row starts one octet late.
+/// other[24] = 11;
+/// let refused = ohakelm::read_pack(&other).map_err(|refusal| (refusal.kind(), refusal.place));
+/// assert_eq!(refused, Err((Kind::PackRows, 0)));
+/// ```
+pub fn read_pack(pack: &[u8]) -> Result<usize, Refusal> {
+    let answer = numbers::pack_read(pack);
+    accepted(answer.refusal, answer.place)?;
+    Ok(answer.messages)
+}
+
+/// The message `n` of a pack, counted from 0, as a part of the pack.
+///
+/// Each call judges the whole pack. To go through all messages, read the pack once with
+/// [`read_pack`] and go along its rows: it is proved that in a pack that was accepted
+/// the row `n`, which is four octets at the first row's start + 4 * n, has the start
+/// and the length of what this call hands back.
+///
+/// # Errors
+///
+/// Refuses as [`read_pack`] does, and then 12 where there is no such message.
+///
+/// ```
+/// use ohakelm::Kind;
+/// let pack = [
+///     0x02, 0x4A, 0x3A, 0x80, 0x40, 0x00, 0x51, 0xC6, 0x90, 0x00, // a tone of 10 octets,
+///     0x02, 0x4A, 0x3A, 0x80, 0x40, 0x00, 0x26, 0x90, 0x00, // and one of 9
+///     0, 0, 0, 10, 0, 10, 0, 9, // their rows
+///     0, 2, 0, 19, // two of them, the rows from octet 19 on
+/// ];
+/// assert_eq!(ohakelm::pack_message(&pack, 1)?, &pack[10..19]);
+/// let refused = ohakelm::pack_message(&pack, 2);
+/// assert_eq!(refused.map_err(|refusal| refusal.kind()), Err(Kind::NotThere));
+///
+/// // All of them, by the rows.
+/// assert_eq!(ohakelm::read_pack(&pack)?, 2);
+/// let number = |at: usize| usize::from(u16::from_be_bytes([pack[at], pack[at + 1]]));
+/// let first_row = number(pack.len() - 2);
+/// for n in 0..2 {
+///     let (start, length) = (number(first_row + 4 * n), number(first_row + 4 * n + 2));
+///     let message = &pack[start..start + length];
+///     assert_eq!(ohakelm::pack_message(&pack, n as u32)?, message);
+/// }
+/// # Ok::<(), ohakelm::Refusal>(())
+/// ```
+pub fn pack_message(pack: &[u8], n: u32) -> Result<&[u8], Refusal> {
+    let answer = numbers::pack_message(pack, n);
+    accepted(answer.refusal, answer.place)?;
+    // The promise says that the stretch lies within the pack.
+    Ok(&pack[answer.start..answer.start + answer.length])
+}
+
+/// Writes a pack from its messages, back to back, and their lengths in octets. Fills
+/// the front of `out` with it. Answers the octets written.
+///
+/// # Errors
+///
+/// Refuses 1 where the octets, four for each length and four more are above 65,535; 27
+/// where the lengths do not add up to the octets; 1 to 10 and 21 as [`read`] does, for
+/// the first message at fault, at the place that it would have in the pack; then 11.
+///
+/// ```
+/// use ohakelm::Kind;
+/// let messages = [
+///     0x02, 0x4A, 0x3A, 0x80, 0x40, 0x00, 0x51, 0xC6, 0x90, 0x00, // a tone of 10 octets,
+///     0x02, 0x4A, 0x3A, 0x80, 0x40, 0x00, 0x26, 0x90, 0x00, // and one of 9
+/// ];
+/// let mut out = [0; 31];
+/// assert_eq!(ohakelm::write_pack(&messages, &[10, 9], &mut out), Ok(31));
+/// assert_eq!(out[..19], messages);
+/// assert_eq!(out[19..], [0, 0, 0, 10, 0, 10, 0, 9, 0, 2, 0, 19]);
+///
+/// let refused = ohakelm::write_pack(&messages, &[10, 10], &mut out);
+/// assert_eq!(refused.map_err(|refusal| refusal.kind()), Err(Kind::PackRows));
+/// let refused = ohakelm::write_pack(&messages, &[10, 9], &mut out[1..]);
+/// assert_eq!(refused.map_err(|refusal| refusal.kind()), Err(Kind::NoRoom));
+/// ```
+pub fn write_pack(messages: &[u8], lengths: &[u32], out: &mut [u8]) -> Result<usize, Refusal> {
+    written(numbers::pack_write(messages, lengths, out))
 }
 
 /// Reads a bitmap. The image is handed back as a part of the message.

@@ -4,7 +4,7 @@
 // SAFETY, for all of them: each pointer and length is a live slice's, and the
 // borrows keep the lent ones apart from all others. `Entry` has C's layout.
 
-use ohakelm_answers::{Bitmap, Edited, Entry, Label, Listed, Logo, Tone, Written};
+use ohakelm_answers::{Bitmap, Edited, Entry, Label, Listed, Logo, Pack, Stretch, Tone, Written};
 
 use crate::raw;
 
@@ -145,6 +145,30 @@ pub fn delete(
             instruction,
             list.as_mut_ptr(),
             list.len(),
+        )
+    }
+}
+
+#[inline(always)]
+pub fn pack_read(pack: &[u8]) -> Pack {
+    unsafe { raw::ohakelm_pack_read(pack.as_ptr(), pack.len()) }
+}
+
+#[inline(always)]
+pub fn pack_message(pack: &[u8], n: u32) -> Stretch {
+    unsafe { raw::ohakelm_pack_message(pack.as_ptr(), pack.len(), n) }
+}
+
+#[inline(always)]
+pub fn pack_write(messages: &[u8], lengths: &[u32], out: &mut [u8]) -> Written {
+    unsafe {
+        raw::ohakelm_pack_write(
+            messages.as_ptr(),
+            messages.len(),
+            lengths.as_ptr(),
+            lengths.len(),
+            out.as_mut_ptr(),
+            out.len(),
         )
     }
 }

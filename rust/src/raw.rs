@@ -3,7 +3,9 @@
 //! A slice passes as a pointer and a length in elements. A lent buffer (`*mut`)
 //! must overlap no other argument. `include/ohakelm.h` says what each call does.
 
-pub use ohakelm_answers::{Bitmap, Edited, Entry, Label, Listed, Logo, Tone, Written, NO_MARK};
+pub use ohakelm_answers::{
+    Bitmap, Edited, Entry, Label, Listed, Logo, Pack, Stretch, Tone, Written, NO_MARK,
+};
 
 extern "C" {
     pub fn ohakelm_version() -> u32;
@@ -78,6 +80,19 @@ extern "C" {
         list: *mut u32,
         list_len: usize,
     ) -> Edited;
+
+    pub fn ohakelm_pack_read(pack: *const u8, pack_len: usize) -> Pack;
+
+    pub fn ohakelm_pack_message(pack: *const u8, pack_len: usize, n: u32) -> Stretch;
+
+    pub fn ohakelm_pack_write(
+        msgs: *const u8,
+        msgs_len: usize,
+        lengths: *const u32,
+        lengths_len: usize,
+        out: *mut u8,
+        out_len: usize,
+    ) -> Written;
 
     pub fn ohakelm_bitmap_read(msg: *const u8, msg_len: usize) -> Bitmap;
 

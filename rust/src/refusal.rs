@@ -5,10 +5,13 @@ use core::fmt;
 /// Why a call refused, by the number that the rules give it, and where.
 #[derive(Clone, Copy, Debug, PartialEq, Eq)]
 pub struct Refusal {
-    /// 1 to 21, as in the rules' table, but for 19 ([`Kind`] says why).
+    /// 1 to 27, as in the rules' table, but for 19 and for 22 to 25 ([`Kind`] says
+    /// why).
     pub number: u32,
     /// The bit of the tone message where the faulty element begins, for the
-    /// numbers 2 to 10 and 21 met in a tone message. Else 0.
+    /// numbers 2 to 10 and 21 met in a tone message. In a pack it is counted from
+    /// the pack's first bit, and 1 for a message in a pack has the bit where the
+    /// message starts. Else 0.
     pub place: usize,
 }
 
@@ -49,7 +52,8 @@ macro_rules! kinds {
         ///
         /// A later version may have more of them. 19 is no longer given, and no
         /// other refusal takes it: it stood for a duration above 32 bits, and it
-        /// is proved that no duration exceeds 16,800,000 microseconds.
+        /// is proved that no duration exceeds 16,800,000 microseconds. 22 to 25
+        /// are not given yet.
         ///
         /// ```
         /// use ohakelm::Kind;
@@ -101,7 +105,8 @@ macro_rules! kinds {
 }
 
 kinds! {
-    1 TooLong "an edit's used length beyond its lent buffer, or a tone above 4,096 octets"
+    1 TooLong "an edit's used length beyond its lent buffer, a tone above 4,096 octets, or a \
+        pack above 65,535 octets"
     2 CutShort "the input stops inside or before a due element"
     3 Command "command length not 2 or 3, or not the part due"
     4 SongType "another song type"
@@ -112,7 +117,7 @@ kinds! {
     9 EndOctet "end octet not 00"
     10 AfterEnd "octets after the end"
     11 NoRoom "a lent output is too small"
-    12 NotThere "no such pattern or instruction, or a recall"
+    12 NotThere "no such pattern, instruction or message, or a recall"
     13 OnlyOne "deleting a part's only instruction"
     14 FullPart "inserting into a part of 255"
     15 BitmapHeader "bitmap header outside the rules"
@@ -124,6 +129,8 @@ kinds! {
     20 Ahead "an octet ahead of a bitmap that its kind does not have there: version, \
         network code digit, date, line feed"
     21 Character "a title character 0 to 31 or 127 to 159"
+    26 PackSize "first row start, rows and four octets do not add up to the pack"
+    27 PackRows "a row that does not continue the one before, or lengths that do not add up"
 }
 
 impl fmt::Display for Kind {

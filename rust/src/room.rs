@@ -28,3 +28,6 @@ pub const LARGEST_ICON: usize = 7910;
 
 /// Octets of a logo: 23 ahead of its bitmap where the date has a time and a Z.
 pub const LARGEST_LOGO: usize = 7932;
+
+/// Octets of a pack.
+pub const LARGEST_PACK: usize = 65_535;

@@ -52,9 +52,17 @@ fn null_is_as_good_as_any_address_of_nothing() {
         assert!((0..buffers).all(often), "{name}: {:?}", tally.nulls);
         assert!(!tally.nulls.contains_key(&(name, buffers)), "{name}");
     }
-    // An image has at least one octet, and so has what is written of it.
+    // An image has at least one octet, and so has what is written of it. A pack has four
+    // octets at least, and may be written from nothing.
     let can = [
-        "delete", "insert", "label", "list", "read", "replace", "rows",
+        "delete",
+        "insert",
+        "label",
+        "list",
+        "pack_write",
+        "read",
+        "replace",
+        "rows",
     ];
     let can: BTreeSet<&str> = can.into_iter().chain(["write"]).collect();
     assert_eq!(tally.accepted, can);
@@ -298,6 +306,29 @@ fn octets_may_lie_at_any_address() {
         assert_eq!(buffer.octets(), p2, "rest {rest}");
         assert_eq!(list, [10 * 1024 + 7, 480_000, 2], "rest {rest}");
         assert!(buffer.cells[..buffer.start].iter().all(|&cell| cell == OLD));
+    }
+}
+
+/// A pack is read at every address, and written from and to every address.
+#[test]
+fn packs_may_lie_at_any_address() {
+    let two = octets("024A3A80400051C69000 024A3A804000269000 0000000A 000A0009 0002 0013");
+    for rest in 0..16 {
+        let pack = Placed::new(rest, &two);
+        let mut out = Placed::new(15 - rest, &[OLD; 31]);
+        let lengths = [10, 9];
+        // SAFETY: the pointers and numbers are those of live buffers that are apart.
+        let (read, stretch, written) = unsafe {
+            let read = raw::ohakelm_pack_read(pack.at(), 31);
+            let stretch = raw::ohakelm_pack_message(pack.at(), 31, 1);
+            let written =
+                raw::ohakelm_pack_write(pack.at(), 19, lengths.as_ptr(), 2, out.lend(), 31);
+            (read, stretch, written)
+        };
+        assert_eq!((read.refusal, read.messages), (0, 2), "rest {rest}");
+        assert_eq!((stretch.start, stretch.length), (10, 9), "rest {rest}");
+        assert_eq!((written.refusal, written.octets), (0, 31), "rest {rest}");
+        assert_eq!(out.octets(), two, "rest {rest}");
     }
 }
 

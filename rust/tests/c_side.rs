@@ -53,7 +53,7 @@ fn the_header_and_the_archive_are_as_the_rules_say() {
 }
 
 /// Changes of the header that the sources must find, with the one that does.
-const WRONG_HEADERS: [(&str, &str, &str); 15] = [
+const WRONG_HEADERS: [(&str, &str, &str); 19] = [
     ("(id) * 4096u", "(id) * 2048u", "entries.c"),
     ("(note) * 32u", "note * 32u", "entries.c"),
     (
@@ -68,6 +68,8 @@ const WRONG_HEADERS: [(&str, &str, &str); 15] = [
     ("\"pattern count zero\"", "\"no pattern\"", "refusals.c"),
     ("ITEM(20, ", "ITEM(19, ", "refusals.c"),
     ("ITEM(21, ", "ITEM(22, ", "refusals.c"),
+    ("ITEM(26, ", "ITEM(22, ", "refusals.c"),
+    ("ITEM(27, ", "ITEM(28, ", "refusals.c"),
     (
         "OHAKELM_TEMPORARY = 2",
         "OHAKELM_TEMPORARY = 3",
@@ -83,7 +85,17 @@ const WRONG_HEADERS: [(&str, &str, &str); 15] = [
         "OHAKELM_ENTRY_CELLS 2",
         "constants.c",
     ),
+    (
+        "OHAKELM_LARGEST_PACK 65535",
+        "OHAKELM_LARGEST_PACK 65536",
+        "constants.c",
+    ),
     ("bool unicode;  ", "size_t unicode;  ", "calls.c"),
+    (
+        "size_t start;  /* the message's first octet in the pack */\n    size_t length;",
+        "size_t length;\n    size_t start;",
+        "calls.c",
+    ),
     ("uint32_t microseconds;", "size_t microseconds;", "calls.c"),
 ];
 
@@ -241,7 +253,7 @@ fn header_version() -> String {
 #[test]
 fn the_archives_have_the_calls_and_need_two_functions() {
     let calls = calls_of_header();
-    assert_eq!(calls.len(), 15, "{calls:?}");
+    assert_eq!(calls.len(), 18, "{calls:?}");
     let needed = BTreeSet::from(["memmove".to_string(), "memset".to_string()]);
     for archive in archives() {
         let Some(symbols) = symbols_of(&archive) else {

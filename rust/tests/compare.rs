@@ -12,11 +12,12 @@ use std::panic::{catch_unwind, AssertUnwindSafe};
 use std::time::Instant;
 
 use ohakelm::LARGEST_TABLE;
-use ohakelm_answers::{Bitmap, Edited, Entry, Label, Listed, Logo, Tone, Written};
+use ohakelm_answers::{Bitmap, Edited, Entry, Label, Listed, Logo, Pack, Stretch, Tone, Written};
 use ohakelm_answers::{ENTRY_CELLS, NO_MARK};
 use support::codecs::{Codec, Edit, LogoParts, Obvious, Spot, ALL};
 use support::compare::Comparison;
 use support::heard::{list_of, restarts, Event, EVENTS};
+use support::mispacks::{Mispack, MISPACKS};
 use support::origins::{apart, Patterns};
 use support::rng::{cases_set, seed_from_clock, seed_set};
 use support::tones::LARGEST_TONE;
@@ -62,7 +63,8 @@ fn compare(cases: usize, seed: u64) {
 fn each_refusal_came_up(comparison: &Comparison) {
     let message: Vec<u32> = (0..=11).collect();
     let with = |more: &[u32]| [&message[..], more].concat();
-    let expected: [(&str, Vec<u32>); 14] = [
+    let in_pack = |more: &[u32]| [&message[..11], more].concat();
+    let expected: [(&str, Vec<u32>); 17] = [
         ("read", with(&[21])),
         ("list", with(&[21])),
         ("rows", with(&[21])),
@@ -71,6 +73,9 @@ fn each_refusal_came_up(comparison: &Comparison) {
         ("delete", with(&[12, 13, 21])),
         ("write", vec![0, 1, 4, 5, 6, 7, 11, 17, 18, 21]),
         ("label", vec![0, 1]),
+        ("pack_read", in_pack(&[21, 26, 27])),
+        ("pack_message", in_pack(&[12, 21, 26, 27])),
+        ("pack_write", with(&[21, 27])),
         ("bitmap_read", vec![0, 2, 15, 16]),
         ("bitmap_write", vec![0, 11, 15, 16]),
         ("icon_read", vec![0, 2, 15, 16, 20]),
@@ -131,6 +136,8 @@ enum Fault {
     /// Restarts the sums of durations at an event that does not, or the reverse.
     RestartsOtherwise(Event),
     CountsOriginsOtherwise(Miscount),
+    /// Reads, cuts or writes a pack the wrong way.
+    MakesPacksOtherwise(Mispack),
 }
 
 /// A wrong way to count a header or a position.
@@ -203,7 +210,9 @@ const FAULTS: [Fault; 40] = [
 fn wrong_codecs_are_found() {
     let restarts = EVENTS.map(Fault::RestartsOtherwise);
     let miscounts = MISCOUNTS.map(Fault::CountsOriginsOtherwise);
-    for fault in FAULTS.into_iter().chain(restarts).chain(miscounts) {
+    let mispacks = MISPACKS.map(Fault::MakesPacksOtherwise);
+    let others = restarts.into_iter().chain(miscounts).chain(mispacks);
+    for fault in FAULTS.into_iter().chain(others) {
         let wrong: &'static dyn Codec = Box::leak(Box::new(Wrong(fault)));
         let found = catch_unwind(AssertUnwindSafe(|| {
             Comparison::new(&[&Obvious, wrong], 1).run(ENOUGH_FOR_ALL);
@@ -534,6 +543,32 @@ impl Codec for Wrong {
             _ => {}
         }
         answer
+    }
+
+    fn pack_read(&self, pack: &[u8]) -> Pack {
+        let right = Obvious.pack_read(pack);
+        match self.0 {
+            Fault::MakesPacksOtherwise(mispack) => mispack.read(pack, right).unwrap_or(right),
+            _ => right,
+        }
+    }
+
+    fn pack_message(&self, pack: &[u8], n: u32) -> Stretch {
+        let right = Obvious.pack_message(pack, n);
+        match self.0 {
+            Fault::MakesPacksOtherwise(mispack) => mispack.message(pack, n, right).unwrap_or(right),
+            _ => right,
+        }
+    }
+
+    fn pack_write(&self, messages: &[u8], lengths: &[u32], out: &mut [u8]) -> Written {
+        let right = Obvious.pack_write(messages, lengths, out);
+        match self.0 {
+            Fault::MakesPacksOtherwise(mispack) => mispack
+                .write(messages, lengths, out, right)
+                .unwrap_or(right),
+            _ => right,
+        }
     }
 
     fn bitmap_read(&self, message: &[u8]) -> Bitmap {

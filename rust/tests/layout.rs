@@ -9,7 +9,7 @@ mod support;
 use std::any::type_name_of_val;
 use std::mem::{offset_of, size_of, size_of_val};
 
-use ohakelm_answers::{Bitmap, Edited, Entry, Label, Listed, Logo, Tone, Written};
+use ohakelm_answers::{Bitmap, Edited, Entry, Label, Listed, Logo, Pack, Stretch, Tone, Written};
 use support::{c, text};
 
 #[derive(Debug, PartialEq, Eq)]
@@ -28,12 +28,14 @@ struct Layout {
 }
 
 /// The names of one struct in the package, in the header and in the library.
-const NAMES: [(&str, &str, &str); 8] = [
+const NAMES: [(&str, &str, &str); 10] = [
     ("Tone", "ohakelm_tone", "ToneAnswer"),
     ("Written", "ohakelm_written", "WrittenAnswer"),
     ("Label", "ohakelm_label_stretch", "LabelAnswer"),
     ("Listed", "ohakelm_listed", "ListAnswer"),
     ("Edited", "ohakelm_edited", "EditAnswer"),
+    ("Pack", "ohakelm_pack", "PackAnswer"),
+    ("Stretch", "ohakelm_stretch", "StretchAnswer"),
     ("Bitmap", "ohakelm_bitmap", "BitmapAnswer"),
     ("Logo", "ohakelm_logo", "LogoAnswer"),
     ("Entry", "ohakelm_entry", "Entry"),
@@ -59,13 +61,15 @@ macro_rules! layout {
     }};
 }
 
-fn package() -> [Layout; 8] {
+fn package() -> [Layout; 10] {
     [
         layout!(Tone: refusal place song unicode characters patterns entries),
         layout!(Written: refusal place octets),
         layout!(Label: stand_in start length),
         layout!(Listed: refusal place entries mark),
         layout!(Edited: refusal place length entries mark change),
+        layout!(Pack: refusal place messages),
+        layout!(Stretch: refusal place start length),
         layout!(Bitmap: refusal place width height black start length),
         layout!(Logo: refusal place width height black start length
             mcc_start mcc_length mnc_start mnc_length date_start date_length),
@@ -221,15 +225,26 @@ fn size(kind: &str) -> usize {
 
 #[test]
 fn the_library_and_the_package_are_laid_out_alike() {
-    let sources = ["ohakelm", "bitmap_answers", "list_rules"];
-    let structs = sources.map(|source| declared(&format!("crates/{source}/src/lib.rt")));
-    let structs = structs.concat();
+    let sources = SOURCES.map(|source| declared(&format!("crates/{source}/src/lib.rt")));
+    let mut structs = sources.concat();
+    // The library has them by its crates.
+    let place = |name: &str| NAMES.iter().position(|names| names.2 == name);
+    structs.sort_by_key(|it| place(&it.0));
     let names: Vec<&str> = structs.iter().map(|it| &*it.0).collect();
     assert_eq!(names, NAMES.map(|names| names.2), "all of the library");
     for ((name, fields), package) in structs.iter().zip(package()) {
         assert_alike(laid_out(name, fields), package);
     }
 }
+
+/// The crates that declare structs of the border.
+const SOURCES: [&str; 5] = [
+    "ohakelm",
+    "written",
+    "pack_answers",
+    "bitmap_answers",
+    "list_rules",
+];
 
 // ---- All of them.
 

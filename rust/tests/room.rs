@@ -5,8 +5,8 @@ mod support;
 
 use ohakelm::{entry, Entry};
 use ohakelm::{
-    LARGEST_BITMAP, LARGEST_ICON, LARGEST_LIST, LARGEST_LOGO, LARGEST_ROWS, LARGEST_TABLE,
-    LARGEST_TITLE, LARGEST_TONE,
+    LARGEST_BITMAP, LARGEST_ICON, LARGEST_LIST, LARGEST_LOGO, LARGEST_PACK, LARGEST_ROWS,
+    LARGEST_TABLE, LARGEST_TITLE, LARGEST_TONE,
 };
 use ohakelm_answers::{Edited, Listed, Tone, Written, ENTRY_CELLS, NO_MARK};
 use support::codecs::{each, Edit, LogoParts, Spot};
@@ -14,6 +14,7 @@ use support::largest::{
     behind, fullest, longest, origin_in_longest, parts, temporary, IMAGE, NOTE_C,
 };
 use support::origins::apart;
+use support::packs::{of_octets, Made};
 use support::tones::written;
 
 /// What lies in a lent cell before a call, and in a lent octet.
@@ -220,7 +221,7 @@ fn the_largest_list_is_made_by_an_edit() {
     });
 }
 
-// ---- Bitmaps, icons and logos.
+// ---- Bitmaps, icons, logos and packs.
 
 /// Writes to just the room that is needed, and to one octet less.
 fn assert_written(room: usize, expected: &[u8], write: impl Fn(&mut [u8]) -> Written) {
@@ -270,5 +271,18 @@ fn the_largest_logo_is_written() {
     let expected = behind(b"02440519991231T235958Z\n");
     each(|codec| {
         assert_written(LARGEST_LOGO, &expected, |out| codec.logo_write(parts, out));
+    });
+}
+
+/// 15 messages of 4,096 octets, one of 4,027, their rows and four octets.
+#[test]
+fn the_largest_pack_is_written() {
+    assert_eq!(LARGEST_PACK, 15 * 4096 + 4027 + 16 * 4 + 4);
+    let made = Made::of(&of_octets(LARGEST_PACK));
+    let lengths = [[4096; 15].to_vec(), vec![4027]].concat();
+    each(|codec| {
+        assert_written(LARGEST_PACK, &made.pack(), |out| {
+            codec.pack_write(&made.octets, &lengths, out)
+        });
     });
 }

@@ -234,6 +234,56 @@ fn the_parts_of_a_logo_are_stretches_of_the_message() {
     assert_eq!(number(refused), 20);
 }
 
+#[test]
+fn the_messages_of_a_pack_are_stretches_of_it() {
+    let p3 = [0x02, 0x4A, 0x3A, 0x80, 0x40, 0x00, 0x26, 0x90, 0x00];
+    let messages = [&P1[..], &p3].concat();
+    let mut pack = [7; 32];
+    let written = ohakelm::write_pack(&messages, &[10, 9], &mut pack);
+    assert_eq!((written, pack[31]), (Ok(31), 7));
+    let pack = &mut pack[..31];
+    assert_eq!(pack[19..], [0, 0, 0, 10, 0, 10, 0, 9, 0, 2, 0, 19]);
+    assert_eq!(ohakelm::read_pack(pack), Ok(2));
+    for (n, start, length) in [(0, 0, 10), (1, 10, 9)] {
+        let Ok(message) = ohakelm::pack_message(pack, n) else {
+            panic!("message {n} is there");
+        };
+        assert!(is_part(message, pack, start, length));
+        assert!(ohakelm::list(message, &mut [0; ENTRY_CELLS]).is_ok());
+    }
+    assert_eq!(number(ohakelm::pack_message(pack, 2)), 12);
+    assert_eq!(number(ohakelm::pack_message(pack, u32::MAX)), 12);
+    assert_eq!(number(ohakelm::read_pack(&pack[1..])), 26);
+    assert_eq!(
+        number(ohakelm::write_pack(&messages, &[10, 9], &mut pack[1..])),
+        11
+    );
+    assert_eq!(number(ohakelm::write_pack(&messages, &[9, 9], pack)), 27);
+    assert_eq!(ohakelm::read_pack(&[0; 4]), Ok(0));
+}
+
+/// The place of a message at fault is counted from the pack's first bit.
+#[test]
+fn a_refusal_in_a_pack_has_its_place_there() {
+    let cut = [&P1[..], &P1[..9]].concat();
+    let refusal = Refusal {
+        number: 2,
+        place: 80 + 72,
+    };
+    let written = ohakelm::write_pack(&cut, &[10, 9], &mut [0; 31]);
+    assert_eq!(written, Err(refusal));
+    let pack = [&cut[..], &[0, 0, 0, 10, 0, 10, 0, 9, 0, 2, 0, 19]].concat();
+    assert_eq!(ohakelm::read_pack(&pack), Err(refusal));
+    assert_eq!(ohakelm::pack_message(&pack, 0), Err(refusal));
+    let refused = ohakelm::read_pack(&[0xFF, 0, 0, 0, 1]);
+    let refusal = Refusal {
+        number: 27,
+        place: 0,
+    };
+    assert_eq!(refused, Err(refusal));
+    assert_eq!(refusal.kind(), Kind::PackRows);
+}
+
 /// Whether a part is just this stretch of the message, and no copy of it.
 fn is_part(part: &[u8], message: &[u8], start: usize, length: usize) -> bool {
     std::ptr::eq(part, &message[start..start + length])

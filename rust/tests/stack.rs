@@ -11,13 +11,15 @@ use std::hint::black_box;
 use std::path::{Path, PathBuf};
 use std::process::Command;
 
-use ohakelm::{entry, Entry, LARGEST_LIST, LARGEST_LOGO, LARGEST_ROWS, LARGEST_TABLE};
+use ohakelm::{entry, Entry};
+use ohakelm::{LARGEST_LIST, LARGEST_LOGO, LARGEST_PACK, LARGEST_ROWS, LARGEST_TABLE};
 use support::c::{own_archive, printed};
 use support::codecs::{Codec, Edit, LogoParts, Obvious, Spot};
 use support::compare::Comparison;
 use support::document::blocks;
 use support::largest::{behind, fullest, longest, temporary, IMAGE, NOTE_C};
 use support::measured::Measured;
+use support::packs::{of_octets, Made};
 use support::tones::written;
 use support::{root, text};
 
@@ -36,7 +38,7 @@ fn no_call_takes_more_stack_than_is_said() {
     }
     Comparison::new(&[&Obvious, measured], 1).run(RANDOM_CASES);
     let (added, most) = (added_up(&own_folder()), measured.most());
-    assert_eq!((most.len(), added.len()), (15, 15));
+    assert_eq!((most.len(), added.len()), (18, 18));
     println!("| call | measured | added up | the header says |\n|---|--:|--:|--:|");
     for (call, measured) in most {
         let said = said_by_header(call);
@@ -60,7 +62,7 @@ fn what_is_added_up_is_what_the_document_says() {
         ("target/aarch64", "Arm, added up"),
     ] {
         let added = added_up(&root(folder));
-        assert_eq!(added.len(), 15, "{folder}");
+        assert_eq!(added.len(), 18, "{folder}");
         for (call, octets) in added {
             assert_eq!(said_by_document(&call, column), Some(octets), "{call}");
         }
@@ -75,6 +77,7 @@ fn put_all(codec: &Measured) {
     put_tones(codec);
     put_lists(codec);
     put_edits(codec);
+    put_packs(codec);
     put_bitmaps(codec);
 }
 
@@ -135,6 +138,24 @@ fn put_edits(codec: &Measured) {
     }
 }
 
+/// The largest pack, of few messages and of many, and the one of nothing.
+fn put_packs(codec: &Measured) {
+    let mut out = vec![0; LARGEST_PACK];
+    let many = vec![temporary(&[1, entry::scale(0)]); 5460];
+    for messages in [of_octets(LARGEST_PACK), many, vec![]] {
+        let made = Made::of(&messages);
+        let lengths: Vec<u32> = made.rows.iter().map(|row| row[1] as u32).collect();
+        let written = codec.pack_write(&made.octets, &lengths, &mut out);
+        assert_eq!(written.refusal, 0);
+        let pack = &out[..written.octets];
+        assert!(pack == made.pack());
+        assert_eq!(codec.pack_read(pack).messages, messages.len());
+        let last = messages.len().saturating_sub(1) as u32;
+        let refusal = if messages.is_empty() { 12 } else { 0 };
+        assert_eq!(codec.pack_message(pack, last).refusal, refusal);
+    }
+}
+
 fn put_bitmaps(codec: &Measured) {
     let mut out = vec![0; LARGEST_LOGO];
     for (width, height) in [(248, 255), (8, 1)] {
@@ -164,6 +185,7 @@ fn said_by_header(call: &str) -> usize {
     let group = match call {
         "replace" | "insert" | "delete" => "EDITS",
         "read" | "write" | "list" | "rows" => "TONES",
+        "pack_read" | "pack_message" | "pack_write" => "TONES",
         _ => "OTHERS",
     };
     let header = text("include/ohakelm.h");

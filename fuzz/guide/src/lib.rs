@@ -6,7 +6,7 @@
 
 use std::slice::{from_raw_parts, from_raw_parts_mut};
 
-use ohakelm_answers::{Bitmap, Edited, Entry, Label, Listed, Logo, Tone, Written};
+use ohakelm_answers::{Bitmap, Edited, Entry, Label, Listed, Logo, Pack, Stretch, Tone, Written};
 use ohakelm_reference as reference;
 
 /// # Safety
@@ -164,6 +164,38 @@ pub unsafe extern "C" fn guide_delete(
         pattern,
         instruction,
         from_raw_parts_mut(list, list_len),
+    )
+}
+
+/// # Safety
+/// As `guide_read`.
+#[no_mangle]
+pub unsafe extern "C" fn guide_pack_read(pack: *const u8, pack_len: usize) -> Pack {
+    reference::pack_read(from_raw_parts(pack, pack_len))
+}
+
+/// # Safety
+/// As `guide_read`.
+#[no_mangle]
+pub unsafe extern "C" fn guide_pack_message(pack: *const u8, pack_len: usize, n: u32) -> Stretch {
+    reference::pack_message(from_raw_parts(pack, pack_len), n)
+}
+
+/// # Safety
+/// As `guide_read`.
+#[no_mangle]
+pub unsafe extern "C" fn guide_pack_write(
+    msgs: *const u8,
+    msgs_len: usize,
+    lengths: *const u32,
+    lengths_len: usize,
+    out: *mut u8,
+    out_len: usize,
+) -> Written {
+    reference::pack_write(
+        from_raw_parts(msgs, msgs_len),
+        from_raw_parts(lengths, lengths_len),
+        from_raw_parts_mut(out, out_len),
     )
 }
 

@@ -31,7 +31,7 @@ pub struct Tone {
     pub entries: usize,
 }
 
-/// What writing a tone, a bitmap, an icon or a logo answers.
+/// What writing a tone, a pack, a bitmap, an icon or a logo answers.
 #[repr(C)]
 #[derive(Clone, Copy, Debug, Default, PartialEq, Eq)]
 pub struct Written {
@@ -72,6 +72,26 @@ pub struct Edited {
     pub mark: u32,
     /// The new length minus the old one.
     pub change: i32,
+}
+
+/// What reading a pack answers.
+#[repr(C)]
+#[derive(Clone, Copy, Debug, Default, PartialEq, Eq)]
+pub struct Pack {
+    pub refusal: u32,
+    pub place: usize,
+    /// How many messages there are.
+    pub messages: usize,
+}
+
+/// Which stretch of a pack a message is.
+#[repr(C)]
+#[derive(Clone, Copy, Debug, Default, PartialEq, Eq)]
+pub struct Stretch {
+    pub refusal: u32,
+    pub place: usize,
+    pub start: usize,
+    pub length: usize,
 }
 
 /// What reading a bitmap or an icon answers. The image is a stretch of the
@@ -148,6 +168,10 @@ mod tests {
         assert_eq!(offset_of!(Listed, mark), 24);
         assert_eq!(size_of::<Edited>(), 40);
         assert_eq!(offset_of!(Edited, change), 36);
+        assert_eq!(size_of::<Pack>(), 24);
+        assert_eq!(offset_of!(Pack, messages), 16);
+        assert_eq!(size_of::<Stretch>(), 32);
+        assert_eq!(offset_of!(Stretch, length), 24);
         assert_eq!(size_of::<Bitmap>(), 48);
         assert_eq!(offset_of!(Bitmap, black), 24);
         assert_eq!(size_of::<Logo>(), 96);

@@ -39,6 +39,10 @@ fn main() {
     rows.extend(tempos());
     rows.extend(recalls());
     rows.extend(endless_part());
+    // With its row and the last four octets a message of 1,000 has 61 at most.
+    for (messages, octets) in [(10, 400), (1000, 61)] {
+        rows.extend(packs(messages, octets));
+    }
     for (width, height) in [(72, 14), (248, 255)] {
         rows.extend(bitmaps(width, height));
         rows.extend(icons(width, height));
@@ -202,6 +206,45 @@ fn endless_part() -> [Row; 2] {
     let name = format!("list, endless part, {} octets", message.len());
     let rows = rows_of(message, "rows, endless part");
     [list_of(message, &name), rows]
+}
+
+/// A pack of different tones, read, its last message found, and written.
+fn packs(count: usize, octets: usize) -> [Row; 4] {
+    let (messages, lengths) = tones::of_pack(count, octets);
+    let mut pack = vec![0; messages.len() + 4 * count + 4];
+    let written = ohakelm_fast::pack_write(&messages, &lengths, &mut pack);
+    assert_eq!((written.refusal, written.octets), (0, pack.len()));
+    let (name, last) = (format!("{count} messages"), count as u32 - 1);
+    let batch = repeated(pack.len());
+    let read = compare(
+        &format!("pack, read, {name}"),
+        batch,
+        &(),
+        |_| proved::pack_read(&pack),
+        |_| ohakelm_fast::pack_read(&pack),
+    );
+    let branching = compare(
+        &format!("pack, read, {name}, plain Rust branches by kinds"),
+        batch,
+        &(),
+        |_| proved::pack_read(&pack),
+        |_| ohakelm_fast::pack_read_by_branches(&pack),
+    );
+    let message = compare(
+        &format!("pack, message, {name}"),
+        batch,
+        &(),
+        |_| proved::pack_message(&pack, last),
+        |_| ohakelm_fast::pack_message(&pack, last),
+    );
+    let write = compare(
+        &format!("pack, write, {name}"),
+        batch,
+        &vec![0; pack.len()],
+        |out| proved::pack_write(&messages, &lengths, out),
+        |out| ohakelm_fast::pack_write(&messages, &lengths, out),
+    );
+    [read, branching, message, write]
 }
 
 fn image(width: u32, height: u32) -> Vec<u8> {

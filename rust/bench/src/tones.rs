@@ -58,7 +58,12 @@ fn titled(unicode: bool, title: &[u8], table: &[u32]) -> Tone {
 
 /// A tone with a title and as many instructions as the octets hold.
 fn filled(octets: usize, title: &[u8]) -> Tone {
-    let mut instructions = Instructions { state: 7 };
+    filled_from(7, octets, title)
+}
+
+/// The same with other instructions for each number.
+fn filled_from(state: u64, octets: usize, title: &[u8]) -> Tone {
+    let mut instructions = Instructions { state };
     let mut parts: Vec<Vec<u32>> = vec![Vec::new()];
     while written(false, title, &table(&parts)).len() <= octets {
         if parts[parts.len() - 1].len() == BODY {
@@ -104,6 +109,19 @@ pub fn of_endless_part() -> Vec<u8> {
     let mut table = vec![15 * 256 + 255];
     table.extend((0..255).map(|_| instructions.next()));
     written(false, b"Chime", &table)
+}
+
+/// The messages of a pack, back to back, and their lengths: so many, none of them
+/// longer than so many octets. No two have the same instructions.
+pub fn of_pack(messages: usize, octets: usize) -> (Vec<u8>, Vec<u32>) {
+    let titles = [&b"Ring"[..], b"", b"Chime", TITLE, b"Signal"];
+    let tones = (0..messages).map(|position| {
+        let title = titles[position % titles.len()];
+        filled_from(position as u64, octets, title).message
+    });
+    let tones: Vec<Vec<u8>> = tones.collect();
+    let lengths = tones.iter().map(|tone| tone.len() as u32).collect();
+    (tones.concat(), lengths)
 }
 
 /// Headers and bodies, each sounding once.

@@ -75,9 +75,9 @@ pub fn header(window: u64) -> Header {
 }
 
 /// 00000010 0100101 0 0011101, the front of a message without UNICODE.
-const PLAIN_FRONT: u64 = 0x02_4A_3A >> 1;
+pub const PLAIN_FRONT: u64 = 0x02_4A_3A >> 1;
 /// The same with length 3 and 0100010 0 ahead of the sound.
-const UNICODE_FRONT: u64 = 0x03_4A_44_3A >> 1;
+pub const UNICODE_FRONT: u64 = 0x03_4A_44_3A >> 1;
 
 /// Judges everything ahead of the patterns.
 #[inline(always)]
@@ -232,6 +232,20 @@ pub fn judge_patterns(
         });
     }
     Ok(place)
+}
+
+/// Judges a message and takes note of nothing. A pack is judged so.
+pub fn judge_alone(message: &[u8]) -> Result<(), Refusal> {
+    let front = judge_front(message)?;
+    let end = judge_patterns(message, &front, &mut Nothing)?;
+    judge_end(message, end)
+}
+
+struct Nothing;
+
+impl Watch for Nothing {
+    #[inline(always)]
+    fn pattern(&mut self, _: &Passed) {}
 }
 
 /// Judges a body. Answers the place behind it and how many notes it has.

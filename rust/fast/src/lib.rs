@@ -14,14 +14,17 @@ mod edit;
 mod judge;
 mod kinds;
 mod list;
+mod packs;
 mod read;
 mod title;
 mod window;
+mod within;
 mod write;
 
 pub use bitmap::{bitmap_read, bitmap_write};
 pub use edit::{delete, insert, replace};
 pub use kinds::{icon_read, icon_write, logo_read, logo_write};
 pub use list::{list, list_by_copying, rows};
+pub use packs::{pack_message, pack_read, pack_read_by_branches, pack_write};
 pub use read::{label, read};
 pub use write::write;

@@ -43,6 +43,21 @@ fn word_at(octets: &[u8], place: usize) -> Option<u64> {
     Some(word_of(eight) << shift | ninth >> (8 - shift))
 }
 
+/// The bits from a place on in two words, of the second one at least 57. Past the end
+/// there are zeros.
+#[inline(always)]
+pub fn words(octets: &[u8], place: usize) -> (u64, u64) {
+    let (one, two) = match octets.get(place / 8..place / 8 + 16) {
+        Some(sixteen) => (word_of(&sixteen[..8]), word_of(&sixteen[8..])),
+        None => (
+            window(octets, place / 8 * 8),
+            window(octets, place / 8 * 8 + 64),
+        ),
+    };
+    let shift = place % 8;
+    (one << shift | two >> 1 >> (63 - shift), two << shift)
+}
+
 /// Overwrites `width` bits, 1 to 17, at a place.
 #[inline(always)]
 pub fn put(octets: &mut [u8], place: usize, width: usize, value: u32) {

@@ -2,7 +2,7 @@
 
 use ohakelm_answers::{Bitmap, Written};
 
-use crate::{put_first, refuse, Refusal};
+use crate::{put_first, refuse, written_answer, Refusal};
 
 /// Octets of a bitmap ahead of its image.
 pub const HEADER: usize = 4;
@@ -24,21 +24,6 @@ pub fn read_answer(judged: Result<Bitmap, Refusal>) -> Bitmap {
             refusal: refusal.number,
             place: refusal.place,
             ..Bitmap::default()
-        },
-    }
-}
-
-pub fn written_answer(written: Result<usize, Refusal>) -> Written {
-    match written {
-        Ok(octets) => Written {
-            refusal: 0,
-            place: 0,
-            octets,
-        },
-        Err(refusal) => Written {
-            refusal: refusal.number,
-            place: refusal.place,
-            octets: 0,
         },
     }
 }

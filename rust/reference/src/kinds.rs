@@ -6,8 +6,8 @@
 
 use ohakelm_answers::{Bitmap, Logo, Written};
 
-use crate::bitmap::{judge, read_answer, write_behind, written_answer, HEADER};
-use crate::{refuse, Refusal};
+use crate::bitmap::{judge, read_answer, write_behind, HEADER};
+use crate::{refuse, written_answer, Refusal};
 
 /// Both kinds begin with the version.
 const VERSION: &str = "0";

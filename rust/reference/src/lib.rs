@@ -9,6 +9,7 @@ mod bitmap;
 mod bits;
 mod editing;
 mod kinds;
+mod packs;
 mod playing;
 mod reading;
 mod table;
@@ -17,9 +18,12 @@ mod tone;
 pub use bitmap::{bitmap_read, bitmap_write};
 pub use editing::{delete, insert, replace};
 pub use kinds::{icon_read, icon_write, logo_read, logo_write};
+pub use packs::{pack_message, pack_read, pack_write};
 pub use playing::{list, rows};
 pub use reading::{label, read};
 pub use table::write;
+
+use ohakelm_answers::Written;
 
 /// A tone message has at most this many octets.
 const LARGEST_TONE: usize = 4096;
@@ -38,6 +42,22 @@ fn refuse<T>(number: u32) -> Result<T, Refusal> {
 
 fn refuse_at<T>(number: u32, place: usize) -> Result<T, Refusal> {
     Err(Refusal { number, place })
+}
+
+/// The answer of a call that writes.
+fn written_answer(written: Result<usize, Refusal>) -> Written {
+    match written {
+        Ok(octets) => Written {
+            refusal: 0,
+            place: 0,
+            octets,
+        },
+        Err(refusal) => Written {
+            refusal: refusal.number,
+            place: refusal.place,
+            octets: 0,
+        },
+    }
 }
 
 /// Copies to the front of a lent buffer. The rest keeps what it had.

@@ -1,30 +1,13 @@
 //! Writing a tone message from a table.
 
-use ohakelm_answers as answers;
+use ohakelm_answers::Written;
 
 use crate::tone::{may_be_in_title, Instruction, Pattern, Tone, BASIC, TEMPORARY};
-use crate::{put_first, refuse, Refusal, LARGEST_TONE};
+use crate::{put_first, refuse, written_answer, Refusal, LARGEST_TONE};
 
 /// Writes a tone to a lent buffer.
-pub fn write(
-    song: u32,
-    unicode: bool,
-    title: &[u8],
-    table: &[u32],
-    out: &mut [u8],
-) -> answers::Written {
-    match write_into(song, unicode, title, table, out) {
-        Ok(octets) => answers::Written {
-            refusal: 0,
-            place: 0,
-            octets,
-        },
-        Err(refusal) => answers::Written {
-            refusal: refusal.number,
-            place: refusal.place,
-            octets: 0,
-        },
-    }
+pub fn write(song: u32, unicode: bool, title: &[u8], table: &[u32], out: &mut [u8]) -> Written {
+    written_answer(write_into(song, unicode, title, table, out))
 }
 
 fn write_into(

@@ -142,6 +142,52 @@ static void check_edits(void)
     CHECK(done.refusal == OHAKELM_ONLY_ONE && done.place == 0 && done.length == 0);
 }
 
+/* The sample and the same without its tempo, and the pack of nothing. */
+static void check_packs(void)
+{
+    static const uint8_t pack[31] = {0x02, 0x4A, 0x3A, 0x80, 0x40, 0x00, 0x51, 0xC6,
+                                     0x90, 0x00, 0x02, 0x4A, 0x3A, 0x80, 0x40, 0x00,
+                                     0x26, 0x90, 0x00, 0,    0,    0,    10,   0,
+                                     10,   0,    9,    0,    2,    0,    19};
+    static const uint32_t lengths[2] = {10, 9};
+    uint8_t out[31] = {0};
+    struct ohakelm_pack read = ohakelm_pack_read(pack, 31);
+    CHECK(read.refusal == OHAKELM_ACCEPTED && read.place == 0 && read.messages == 2);
+    struct ohakelm_stretch message = ohakelm_pack_message(pack, 31, 1);
+    CHECK(message.refusal == OHAKELM_ACCEPTED && message.place == 0);
+    CHECK(message.start == 10 && message.length == 9);
+    message = ohakelm_pack_message(pack, 31, 4294967295u);
+    CHECK(message.refusal == OHAKELM_NOT_THERE && message.place == 0);
+    CHECK(message.start == 0 && message.length == 0);
+    struct ohakelm_written done = ohakelm_pack_write(pack, 19, lengths, 2, out, 31);
+    CHECK(done.refusal == OHAKELM_ACCEPTED && done.octets == 31 && memcmp(out, pack, 31) == 0);
+    done = ohakelm_pack_write(NULL, 0, NULL, 0, out, 31);
+    CHECK(done.refusal == OHAKELM_ACCEPTED && done.octets == 4 && out[0] == 0 && out[4] == 0x40);
+    CHECK(ohakelm_pack_read(out, 4).refusal == OHAKELM_ACCEPTED);
+}
+
+/* Each refusal that packs alone have, and those of a message at its place. */
+static void check_wrong_packs(void)
+{
+    static const uint8_t without_rows[5] = {0xFF, 0, 0, 0, 1};
+    static const uint32_t lengths[2] = {10, 4294967295u};
+    uint8_t msgs[20], out[32] = {0};
+    struct ohakelm_pack read = ohakelm_pack_read(without_rows, 5);
+    CHECK(read.refusal == OHAKELM_PACK_ROWS && read.place == 0 && read.messages == 0);
+    CHECK(ohakelm_pack_read(without_rows, 4).refusal == OHAKELM_PACK_SIZE);
+    CHECK(ohakelm_pack_read(without_rows, 3).refusal == OHAKELM_CUT_SHORT);
+    CHECK(ohakelm_pack_message(without_rows, 5, 0).refusal == OHAKELM_PACK_ROWS);
+    memcpy(msgs, sample, 10);
+    memcpy(msgs + 10, sample, 10);
+    struct ohakelm_written done = ohakelm_pack_write(msgs, 20, lengths, 2, out, 32);
+    CHECK(done.refusal == OHAKELM_PACK_ROWS && done.place == 0 && done.octets == 0);
+    const uint32_t twice[2] = {10, 10};
+    CHECK(ohakelm_pack_write(msgs, 20, twice, 2, out, 31).refusal == OHAKELM_NO_ROOM);
+    msgs[19] = 1;
+    done = ohakelm_pack_write(msgs, 20, twice, 2, out, 32);
+    CHECK(done.refusal == OHAKELM_END_OCTET && done.place == 152 && out[0] == 0);
+}
+
 static void check_bitmaps(void)
 {
     static const uint8_t icon[7] = {'0', 0x00, 0x08, 0x02, 0x01, 0xFF, 0x01};
@@ -188,6 +234,8 @@ int main(void)
     check_endless();
     check_label();
     check_edits();
+    check_packs();
+    check_wrong_packs();
     check_bitmaps();
     check_logos();
     CHECK(ohakelm_version() == OHAKELM_VERSION);

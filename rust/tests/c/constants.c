@@ -53,6 +53,9 @@ SAME(largest_icon, OHAKELM_LARGEST_ICON, 1 + 4 + 248 / 8 * 255);
 /* Version, codes, the longest date and the line feed are ahead of a logo. */
 SAME(largest_logo, OHAKELM_LARGEST_LOGO, 1 + 3 + 2 + 16 + 1 + 4 + 248 / 8 * 255);
 
+/* 15 messages of 4,096 octets and one of 4,027, with 16 rows and four octets. */
+SAME(largest_pack, OHAKELM_LARGEST_PACK, 15 * 4096 + 4027 + 16 * 4 + 4);
+
 /* An edit does what listing a tone does and more, and a bitmap has no list. */
 SAME(stack_of_edits, OHAKELM_STACK_EDITS > OHAKELM_STACK_TONES, true);
 SAME(stack_of_others, OHAKELM_STACK_TONES > OHAKELM_STACK_OTHERS, true);

@@ -7,10 +7,11 @@ struct refusal {
     const char *words;
 };
 
-/* As the rules have them. 19 is no longer given. */
+/* As the rules have them. 19 is no longer given, and 22 to 25 are not given yet. */
 static const struct refusal expected[] = {
     {1, OHAKELM_TOO_LONG,
-     "an edit's used length beyond its lent buffer, or a tone above 4,096 octets"},
+     "an edit's used length beyond its lent buffer, a tone above 4,096 octets, or a pack above "
+     "65,535 octets"},
     {2, OHAKELM_CUT_SHORT, "the input stops inside or before a due element"},
     {3, OHAKELM_COMMAND, "command length not 2 or 3, or not the part due"},
     {4, OHAKELM_SONG_TYPE, "another song type"},
@@ -21,7 +22,7 @@ static const struct refusal expected[] = {
     {9, OHAKELM_END_OCTET, "end octet not 00"},
     {10, OHAKELM_AFTER_END, "octets after the end"},
     {11, OHAKELM_NO_ROOM, "a lent output is too small"},
-    {12, OHAKELM_NOT_THERE, "no such pattern or instruction, or a recall"},
+    {12, OHAKELM_NOT_THERE, "no such pattern, instruction or message, or a recall"},
     {13, OHAKELM_ONLY_ONE, "deleting a part's only instruction"},
     {14, OHAKELM_FULL_PART, "inserting into a part of 255"},
     {15, OHAKELM_BITMAP_HEADER, "bitmap header outside the rules"},
@@ -36,6 +37,9 @@ static const struct refusal expected[] = {
      "an octet ahead of a bitmap that its kind does not have there: version, network code "
      "digit, date, line feed"},
     {21, OHAKELM_CHARACTER, "a title character 0 to 31 or 127 to 159"},
+    {26, OHAKELM_PACK_SIZE, "first row start, rows and four octets do not add up to the pack"},
+    {27, OHAKELM_PACK_ROWS,
+     "a row that does not continue the one before, or lengths that do not add up"},
 };
 
 /* As the header's list has them. */
@@ -50,9 +54,9 @@ static bool same(const char *one, const char *two)
 
 int main(void)
 {
-    CHECK(sizeof expected / sizeof expected[0] == 20);
+    CHECK(sizeof expected / sizeof expected[0] == 22);
     CHECK(sizeof listed == sizeof expected);
-    for (uint32_t i = 0; i < 20; i++) {
+    for (uint32_t i = 0; i < 22; i++) {
         uint32_t number = expected[i].number;
         CHECK(expected[i].name == number);
         CHECK(listed[i].number == number && listed[i].name == number);
@@ -63,6 +67,8 @@ int main(void)
     CHECK(accepted == 0 && same(ohakelm_words(0), "accepted"));
     CHECK(same(ohakelm_words(19), "no refusal of this version"));
     CHECK(same(ohakelm_words(22), "no refusal of this version"));
+    CHECK(same(ohakelm_words(25), "no refusal of this version"));
+    CHECK(same(ohakelm_words(28), "no refusal of this version"));
     CHECK(same(ohakelm_words(4294967295u), "no refusal of this version"));
     return failed;
 }

@@ -4,7 +4,7 @@
 //! several may run on one case at once. What it lends is copied for each run.
 
 use ohakelm::raw;
-use ohakelm_answers::{Bitmap, Edited, Entry, Label, Listed, Logo, Tone, Written};
+use ohakelm_answers::{Bitmap, Edited, Entry, Label, Listed, Logo, Pack, Stretch, Tone, Written};
 
 use super::codecs::{Edit, Spot};
 use super::lent::Lent;
@@ -17,6 +17,9 @@ pub enum Call {
     List,
     Rows,
     Edit(Spot, Edit),
+    PackRead,
+    PackMessage { n: u32 },
+    PackWrite,
     BitmapRead,
     BitmapWrite { width: u32, height: u32 },
     IconRead,
@@ -26,7 +29,7 @@ pub enum Call {
 }
 
 /// The exports and how many buffers each has.
-pub const BUFFERS: [(&str, usize); 14] = [
+pub const BUFFERS: [(&str, usize); 17] = [
     ("bitmap_read", 1),
     ("bitmap_write", 2),
     ("delete", 2),
@@ -37,6 +40,9 @@ pub const BUFFERS: [(&str, usize); 14] = [
     ("list", 2),
     ("logo_read", 1),
     ("logo_write", 5),
+    ("pack_message", 1),
+    ("pack_read", 1),
+    ("pack_write", 3),
     ("read", 3),
     ("replace", 2),
     ("rows", 3),
@@ -52,6 +58,9 @@ impl Call {
             Call::List => "list",
             Call::Rows => "rows",
             Call::Edit(_, edit) => super::compare::edit_name(edit),
+            Call::PackRead => "pack_read",
+            Call::PackMessage { .. } => "pack_message",
+            Call::PackWrite => "pack_write",
             Call::BitmapRead => "bitmap_read",
             Call::BitmapWrite { .. } => "bitmap_write",
             Call::IconRead => "icon_read",
@@ -63,7 +72,7 @@ impl Call {
 }
 
 /// A call with its inputs and what it lends. The buffers of each kind are in the
-/// order of the call's arguments.
+/// order of the call's arguments. Lengths of messages are a table too.
 #[derive(Clone, PartialEq, Eq)]
 pub struct Case {
     pub call: Call,
@@ -86,6 +95,8 @@ pub enum Answer {
     Label(Label),
     Listed(Listed),
     Edited(Edited),
+    Pack(Pack),
+    Stretch(Stretch),
     Bitmap(Bitmap),
     Logo(Logo),
 }
@@ -99,6 +110,8 @@ impl Answer {
             Answer::Label(_) => 0,
             Answer::Listed(answer) => answer.refusal,
             Answer::Edited(answer) => answer.refusal,
+            Answer::Pack(answer) => answer.refusal,
+            Answer::Stretch(answer) => answer.refusal,
             Answer::Bitmap(answer) => answer.refusal,
             Answer::Logo(answer) => answer.refusal,
         };
@@ -204,6 +217,7 @@ impl Passed {
             Call::Edit(spot, edit) => Answer::Edited(self.edit(spot, edit)),
             Call::Read | Call::Write { .. } | Call::Label { .. } => self.put_tone(call),
             Call::List | Call::Rows => Answer::Listed(self.list(call)),
+            Call::PackRead | Call::PackMessage { .. } | Call::PackWrite => self.put_pack(call),
             _ => self.put_bitmap(call),
         }
     }
@@ -277,6 +291,28 @@ impl Passed {
             Edit::Delete => {
                 raw::ohakelm_delete(buf, buf_len, used, pattern, instruction, list, list_len)
             }
+        }
+    }
+
+    unsafe fn put_pack(&self, call: Call) -> Answer {
+        let (first, first_len) = self.inputs[0];
+        match call {
+            Call::PackRead => Answer::Pack(raw::ohakelm_pack_read(first, first_len)),
+            Call::PackMessage { n } => {
+                Answer::Stretch(raw::ohakelm_pack_message(first, first_len, n))
+            }
+            Call::PackWrite => {
+                let ((lengths, lengths_len), (out, out_len)) = (self.table[0], self.octets[0]);
+                Answer::Written(raw::ohakelm_pack_write(
+                    first,
+                    first_len,
+                    lengths,
+                    lengths_len,
+                    out,
+                    out_len,
+                ))
+            }
+            _ => unreachable!("{call:?} is no call of a pack"),
         }
     }
 

@@ -7,6 +7,7 @@ use super::codecs::{Edit, Spot};
 use super::inputs;
 use super::lent::{lent_message, lent_octets, lent_rows, lent_words, Lent};
 use super::logos;
+use super::packs::{self, Parts};
 use super::rng::Rng;
 use super::tones;
 
@@ -22,9 +23,12 @@ pub fn of_each(rng: &mut Rng) -> Vec<Case> {
         edit(rng, Edit::Replace(entry)),
         edit(rng, Edit::Insert(entry)),
         edit(rng, Edit::Delete),
-        bitmap_read(rng, Call::BitmapRead, inputs::bitmap),
-        bitmap_read(rng, Call::IconRead, logos::icon),
-        bitmap_read(rng, Call::LogoRead, logos::logo),
+        read_alone(rng, Call::PackRead, packs::pack),
+        pack_message(rng),
+        pack_write(rng),
+        read_alone(rng, Call::BitmapRead, inputs::bitmap),
+        read_alone(rng, Call::IconRead, logos::icon),
+        read_alone(rng, Call::LogoRead, logos::logo),
         bitmap_write(rng, false),
         bitmap_write(rng, true),
         logo_write(rng),
@@ -140,7 +144,32 @@ fn edit(rng: &mut Rng, edit: Edit) -> Case {
     }
 }
 
-fn bitmap_read(rng: &mut Rng, call: Call, make: fn(&mut Rng) -> Vec<u8>) -> Case {
+fn pack_message(rng: &mut Rng) -> Case {
+    let n = rng.pick(&[0, 0, 1, 2, u32::MAX]);
+    read_alone(rng, Call::PackMessage { n }, packs::pack)
+}
+
+fn pack_write(rng: &mut Rng) -> Case {
+    let parts = match rng.below(4) {
+        0 => Parts::default(),
+        _ => packs::parts(rng),
+    };
+    let mut lengths = lent_words(rng, parts.lengths.len());
+    lengths.lend().copy_from_slice(&parts.lengths);
+    let room = rng.pick(&[0, 4, parts.octets()]);
+    Case {
+        call: Call::PackWrite,
+        inputs: vec![input(rng, &parts.messages)],
+        table: vec![lengths],
+        room: Room {
+            octets: vec![lent_octets(rng, room)],
+            ..Room::default()
+        },
+    }
+}
+
+/// A call that reads one input, now and then of nothing, and is lent nothing.
+fn read_alone(rng: &mut Rng, call: Call, make: fn(&mut Rng) -> Vec<u8>) -> Case {
     let message = match rng.below(4) {
         0 => vec![],
         _ => make(rng),

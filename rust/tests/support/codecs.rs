@@ -1,7 +1,7 @@
 //! The implementations under one roof. Each answers in the same form.
 
 use ohakelm::numbers;
-use ohakelm_answers::{Bitmap, Edited, Entry, Label, Listed, Logo, Tone, Written};
+use ohakelm_answers::{Bitmap, Edited, Entry, Label, Listed, Logo, Pack, Stretch, Tone, Written};
 
 #[derive(Clone, Copy, Debug, PartialEq, Eq)]
 pub enum Edit {
@@ -44,6 +44,9 @@ pub trait Codec {
     fn list(&self, message: &[u8], list: &mut [u32]) -> Listed;
     fn rows(&self, message: &[u8], list: &mut [u32], rows: &mut [Entry]) -> Listed;
     fn edit(&self, buffer: &mut [u8], spot: Spot, edit: Edit, list: &mut [u32]) -> Edited;
+    fn pack_read(&self, pack: &[u8]) -> Pack;
+    fn pack_message(&self, pack: &[u8], n: u32) -> Stretch;
+    fn pack_write(&self, messages: &[u8], lengths: &[u32], out: &mut [u8]) -> Written;
     fn bitmap_read(&self, message: &[u8]) -> Bitmap;
     fn bitmap_write(&self, width: u32, height: u32, image: &[u8], out: &mut [u8]) -> Written;
     fn icon_read(&self, message: &[u8]) -> Bitmap;
@@ -117,6 +120,18 @@ macro_rules! codec {
                         $implementation::delete(buffer, used, pattern, instruction, list)
                     }
                 }
+            }
+
+            fn pack_read(&self, pack: &[u8]) -> Pack {
+                $implementation::pack_read(pack)
+            }
+
+            fn pack_message(&self, pack: &[u8], n: u32) -> Stretch {
+                $implementation::pack_message(pack, n)
+            }
+
+            fn pack_write(&self, messages: &[u8], lengths: &[u32], out: &mut [u8]) -> Written {
+                $implementation::pack_write(messages, lengths, out)
             }
 
             fn bitmap_read(&self, message: &[u8]) -> Bitmap {

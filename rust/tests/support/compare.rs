@@ -240,7 +240,7 @@ impl Comparison {
     }
 
     fn random_case(&mut self) {
-        match self.rng.below(83) {
+        match self.rng.below(103) {
             0..=5 => self.read_sound_tone(),
             6..=19 => self.read_any(),
             20..=25 => self.list_any(),
@@ -256,7 +256,10 @@ impl Comparison {
             68..=69 => self.logo_read_sound(),
             70..=74 => self.logo_read_any(),
             75..=79 => self.logo_write_any(),
-            _ => self.edit_at_origin(),
+            80..=82 => self.edit_at_origin(),
+            83..=85 => self.pack_sound(),
+            86..=94 => self.pack_read_any(),
+            _ => self.pack_write_any(),
         }
     }
 

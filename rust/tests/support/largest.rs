@@ -55,3 +55,25 @@ pub const IMAGE: [u8; 31 * 255] = [0x81; 31 * 255];
 pub fn behind(ahead: &[u8]) -> Vec<u8> {
     [ahead, &[0, 248, 255, 1], &IMAGE].concat()
 }
+
+/// A temporary song of just so many octets, 8 to 4,096: as few parts as it takes, of
+/// scales and styles.
+pub fn of_octets(octets: usize) -> Vec<u8> {
+    // Without the end octet. 34 are ahead of the patterns.
+    let bits = 8 * (octets - 1) - 34;
+    let full = 17 + 255 * 5;
+    let parts = bits.div_ceil(full).max(1);
+    // As many as there is room for. What is left is filler.
+    let mut left = (bits - 17 * parts) / 5;
+    let mut table = Vec::new();
+    for position in 0..parts {
+        // Each of the parts behind this one has an instruction too.
+        let behind = parts - position - 1;
+        let here = (left - behind).min(255);
+        table.extend(part(position as u32, here as u32));
+        left -= here;
+    }
+    let message = temporary(&table);
+    assert_eq!(message.len(), octets);
+    message
+}

@@ -6,7 +6,7 @@ use std::collections::BTreeMap;
 use std::mem::size_of;
 
 use ohakelm::raw;
-use ohakelm_answers::{Bitmap, Edited, Entry, Label, Listed, Logo, Tone, Written};
+use ohakelm_answers::{Bitmap, Edited, Entry, Label, Listed, Logo, Pack, Stretch, Tone, Written};
 
 use super::codecs::{Codec, Edit, LogoParts, Spot};
 use super::compare::edit_name;
@@ -128,6 +128,23 @@ impl Codec for Measured {
         };
         let words: [&[usize]; 4] = [&lent(buffer), &spot, entry.as_slice(), &lent(list)];
         self.call(edit_name(edit), call, &words)
+    }
+
+    fn pack_read(&self, pack: &[u8]) -> Pack {
+        let call = raw::ohakelm_pack_read as *const ();
+        self.call("pack_read", call, &[&input(pack)])
+    }
+
+    fn pack_message(&self, pack: &[u8], n: u32) -> Stretch {
+        let words: [&[usize]; 2] = [&input(pack), &[n as usize]];
+        let call = raw::ohakelm_pack_message as *const ();
+        self.call("pack_message", call, &words)
+    }
+
+    fn pack_write(&self, messages: &[u8], lengths: &[u32], out: &mut [u8]) -> Written {
+        let words: [&[usize]; 3] = [&input(messages), &input(lengths), &lent(out)];
+        let call = raw::ohakelm_pack_write as *const ();
+        self.call("pack_write", call, &words)
     }
 
     fn bitmap_read(&self, message: &[u8]) -> Bitmap {

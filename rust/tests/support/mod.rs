@@ -19,7 +19,10 @@ pub mod lent;
 pub mod lists;
 pub mod logos;
 pub mod measured;
+pub mod mispacks;
 pub mod origins;
+pub mod packing;
+pub mod packs;
 pub mod rng;
 pub mod tones;
 
