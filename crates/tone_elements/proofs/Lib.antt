@@ -6,3 +6,4 @@ pub mod Walks
 pub mod Openings
 pub mod Titles
 pub mod Standing
+pub mod Telling

@@ -281,6 +281,34 @@ fn few(msg: &[u8], at: BitPlace, n: u32) -> Step
     }
 }
 
+// Four instructions from one sight, told without a branch for their kinds. Where one of them is faulty, it is looked for.
+fn four(msg: &[u8], at: BitPlace) -> Step
+    requires { ⌜ Within (now msg) (at .0) ⌝ }
+    requires { ⌜ at .0 + 48 ≤ placeAfter (length (now msg)) ⌝ }
+    ensures { λ r. ⌜ r ≡ stepAs notesOf (bodyDue 4 (bitsOf (now (msg .entry))) (at .0)) ⌝ }
+{
+    let told = tone_tell::four(bits::sight(msg, at));
+    if told.faults == 0 {
+        return Step::Good {
+            value: told.notes,
+            next: BitPlace(at.0 + told.bits as usize),
+        };
+    }
+    few(msg, at, 4)
+}
+
+// Up to four instructions from one sight.
+fn several(msg: &[u8], at: BitPlace, n: u32) -> Step
+    requires { ⌜ Within (now msg) (at .0) ⌝ }
+    requires { ⌜ (n ≤ 4) × (at .0 + 48 ≤ placeAfter (length (now msg))) ⌝ }
+    ensures { λ r. ⌜ r ≡ stepAs notesOf (bodyDue n (bitsOf (now (msg .entry))) (at .0)) ⌝ }
+{
+    if n == 4 {
+        return four(msg, at);
+    }
+    few(msg, at, n)
+}
+
 // `n` instructions one by one, as the message's end is near, with `c` notes so far. The number is how many notes and pauses
 // there are then.
 fn singly(msg: &[u8], at: BitPlace, n: u32, c: u32) -> Step
@@ -332,7 +360,7 @@ pub fn body(msg: &[u8], at: BitPlace, n: u32) -> Step
             return singly(msg, place, more, notes);
         }
         let k = turn(more);
-        match few(msg, place, k) {
+        match several(msg, place, k) {
             Step::Bad { number, at: fault } => {
                 return Step::Bad { number, at: fault };
             }

@@ -25,8 +25,8 @@ returns c = search (turns, needs)
 turn-requires : tie.Need-turn-requires Inv-loop μ-loop
 turn-requires c κs = search (turns, needs)
 
-few-requires : tie.Need-few-requires Inv-loop μ-loop
-few-requires c κs = search (turns, needs)
+several-requires : tie.Need-several-requires Inv-loop μ-loop
+several-requires c κs = search (turns, needs)
 
 enum-known-number : tie.Need-enum-known-number Inv-loop μ-loop
 enum-known-number c = search (turns, needs)
@@ -63,7 +63,7 @@ body-spec =
     singly-requires
     returns
     turn-requires
-    few-requires
+    several-requires
     enum-known-number
     returns-2
     enum-known-value

@@ -1,0 +1,81 @@
+// Instructions told without a branch. In new messages the processor cannot foresee which kind comes next, and each time that
+// it is wrong costs more than telling four of them. So widths and faults are looked up in packed numbers by the kind.
+ghost use mathlib.Core.Path.{_≡_};
+ghost use Prim.Native.Nat.{_+_, _≤_};
+ghost use lib.ListN.{getD};
+ghost use Rattle.tone_tell.specs.Telling.{bitsOn, noteOn, faultOn, faultRows, behind, over};
+
+// What was told: what is left on top, and the bits, the notes and the faults of the instructions that were taken away.
+pub struct Told {
+    pub rest: u64,
+    pub bits: u32,
+    pub notes: u32,
+    pub faults: u32,
+}
+
+// The bits of the instruction on top, its id among them; 63 where it is none.
+fn bits_on(x: u64) -> u32
+    ensures { λ r. ⌜ (r ≡ bitsOn x) × (r ≤ 63) ⌝ }
+{
+    ((0x3F3F_0708_0505_0C3Fu64 >> (8 * (x >> 61))) % 64) as u32
+}
+
+// 1 for a note or a pause.
+fn note_on(x: u64) -> u32
+    ensures { λ r. ⌜ (r ≡ noteOn x) × (r ≤ 1) ⌝ }
+{
+    (x >> 61 == 1) as u32
+}
+
+// The marks of a kind. Every kind of three bits has its arm, so that no bound is tested.
+fn fault_row(kind: u64) -> u64
+    ensures { λ r. ⌜ r ≡ getD faultRows kind 0 ⌝ }
+{
+    match kind {
+        0 => 0xFFFF_FFFF_FFFF_FFFF,
+        1 => 0xFFF8_8888_8888_8888,
+        2 => 0,
+        3 => 0xFFFF_0000_0000_0000,
+        4 => 0,
+        5 => 0,
+        6 => 0xFFFF_FFFF_FFFF_FFFF,
+        7 => 0xFFFF_FFFF_FFFF_FFFF,
+        _ => 0,
+    }
+}
+
+// 1 where what is on top is no instruction of the table.
+fn fault_on(x: u64) -> u32
+    ensures { λ r. ⌜ (r ≡ faultOn x) × (r ≤ 1) ⌝ }
+{
+    ((fault_row(x >> 61) >> ((x >> 55) % 64)) % 2) as u32
+}
+
+// Takes one instruction more away.
+fn next(t: Told) -> Told
+    requires { ⌜ (t .bits ≤ 189) × (t .notes ≤ 3) × (t .faults ≤ 3) ⌝ }
+    ensures { λ r. ⌜ (r .rest ≡ behind (t .rest)) × (r .bits ≡ t .bits + bitsOn (t .rest)) × (r .notes ≡ t .notes + noteOn (t .rest)) × (r .faults ≡ t .faults + faultOn (t .rest)) ⌝ }
+    ensures { λ r. ⌜ (r .bits ≤ t .bits + 63) × (r .notes ≤ t .notes + 1) × (r .faults ≤ t .faults + 1) ⌝ }
+{
+    let x = t.rest;
+    let w = bits_on(x);
+    Told {
+        rest: x << w,
+        bits: t.bits + w,
+        notes: t.notes + note_on(x),
+        faults: t.faults + fault_on(x),
+    }
+}
+
+// Tells the four instructions on top. Where one of them is faulty, the numbers of those behind it mean nothing.
+pub fn four(x: u64) -> Told
+    ensures { λ r. ⌜ (r .bits ≡ over bitsOn 4 x) × (r .notes ≡ over noteOn 4 x) × (r .faults ≡ over faultOn 4 x) × (r .bits ≤ 252) ⌝ }
+{
+    let begin = Told {
+        rest: x,
+        bits: 0,
+        notes: 0,
+        faults: 0,
+    };
+    next(next(next(next(begin))))
+}
