@@ -5,7 +5,8 @@
 // The cases are lines of standard input, each a letter, a space and words with one space between:
 //
 //   # ..                                                    a remark, passed over
-//   a HEX                                                   puts octets in hand: a message, a title or an image
+//   a HEX                                                   puts octets in hand: a message, a title, an image, a pack
+//                                                           or messages back to back
 //   b HEX, c HEX, d HEX                                     puts a country code or a stand-in, a network code, a date
 //                                                           in hand
 //   t CELL CELL ..                                          puts a table in hand
@@ -20,6 +21,10 @@
 //                                                           message in hand, with so many octets of its buffer lent
 //   i KIND NAME                                             reads a bitmap (0), an icon (1) or a logo (2)
 //   o KIND WIDTH HEIGHT OCTETS NAME                         writes one of the image, the codes and the date in hand
+//   p NAME                                                  reads a pack
+//   q N NAME                                                finds message N of a pack
+//   k OCTETS NAME                                           writes a pack of the messages in hand, with the table in hand
+//                                                           as their lengths
 //
 // What is in hand stays until something else is put there; a letter alone puts none. Ahead of a call all octets lent are
 // 77, all cells 7, and each record is 101 to 107. A line of output has the name, the numbers of the answer, and each buffer
@@ -35,7 +40,9 @@ use ohakelm::EditAnswer;
 use ohakelm::LabelAnswer;
 use ohakelm::ListAnswer;
 use ohakelm::ToneAnswer;
-use ohakelm::WrittenAnswer;
+use pack_answers::PackAnswer;
+use pack_answers::StretchAnswer;
+use written::WrittenAnswer;
 
 // How many octets of each kind and how many cells are in hand.
 struct InHand {
@@ -47,6 +54,21 @@ struct InHand {
 }
 
 // ---- printing
+
+// Prints what reading a pack answers.
+fn show_pack(answer: PackAnswer) {
+    vectors::number(answer.refusal as u64);
+    vectors::number(answer.place as u64);
+    vectors::number(answer.messages as u64);
+}
+
+// Prints what finding a message answers.
+fn show_stretch(answer: StretchAnswer) {
+    vectors::number(answer.refusal as u64);
+    vectors::number(answer.place as u64);
+    vectors::number(answer.start as u64);
+    vectors::number(answer.length as u64);
+}
 
 // Prints what reading a tone answers.
 fn show_tone(answer: ToneAnswer) {
@@ -408,6 +430,47 @@ fn draw_case(line: &[u8], image: &[u8], mcc: &[u8], mnc: &[u8], date: &[u8])
     );
 }
 
+// Writes a pack with all of a buffer lent. Prints the answer and the buffer.
+fn write_pack(msgs: &[u8], lengths: &[u32], out: &mut [u8]) {
+    let answer = ohakelm::ohakelm_pack_write(msgs, lengths, out);
+    show_written(answer, out);
+}
+
+// Makes the call on a pack that a line says.
+fn pack_case(line: &[u8], octets: &[u8], lengths: &[u32])
+    requires { ⌜ 2 ≤ length (now line) ⌝ }
+{
+    if line[0] == b'p' {
+        vectors::name(line, 2);
+        show_pack(ohakelm::ohakelm_pack_read(octets));
+        return;
+    }
+    let number = vectors::word(line, 2);
+    vectors::name(line, number.next);
+    if line[0] == b'q' {
+        let n = vectors::cell(number.value);
+        show_stretch(ohakelm::ohakelm_pack_message(octets, n));
+        return;
+    }
+    let mut out = [119u8; 64];
+    let end = number.value as usize;
+    if 64 < end {
+        return;
+    }
+    write_pack(octets, lengths, &mut out[0..end]);
+}
+
+// Is it the letter of a call on a pack?
+fn for_pack(letter: u8) -> bool {
+    if letter == b'p' {
+        return true;
+    }
+    if letter == b'q' {
+        return true;
+    }
+    letter == b'k'
+}
+
 // Makes the call on a tone that a line says.
 fn tone_call(line: &[u8], hand: InHand, octets: &[u8; 1024], first: &[u8], cells: &[u32])
     requires { ⌜ 2 ≤ length (now line) ⌝ }
@@ -468,6 +531,14 @@ fn call(
             vectors::front(second, hand.second),
             vectors::front(third, hand.third),
         );
+        return;
+    }
+    if for_pack(letter) {
+        let end = hand.cells;
+        if cells.len() < end {
+            return;
+        }
+        pack_case(line, vectors::front(octets, hand.octets), &cells[0..end]);
         return;
     }
     tone_call(line, hand, octets, first, cells);
