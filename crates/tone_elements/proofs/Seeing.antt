@@ -1,4 +1,4 @@
--- What each return of the function that judges an instruction on top of a sight shows.
+-- An instruction of the table that stands on top of a sight is the one that is due.
 use Prim.Native.Nat.{ℕ, zero, suc, _+_, _-_, _*_, _/_, _%_, _^_, _≤_, _<_}
 use native.Mathlib.Omega.{arith}
 use native.Mathlib.Nat.{add-zero, lt-of-lt-of-le, mod-lt}
@@ -8,7 +8,7 @@ use mathlib.Core.List.{List}
 use lib.ListN.{length, drop}
 use lib.Dec.{eqb}
 use lib.Pow.{pow-mono, pow-pos}
-use borrow.Author.Tests.{ne-eqb, eqb-true, le-leb, lt-leb}
+use borrow.Author.Tests.{ne-eqb, eqb-true, le-leb}
 use Rattle.bits.specs.Choice.{pick}
 use Rattle.bits.specs.Bits.{bitsOf, field}
 use Rattle.bits.specs.Window.{Sight}
@@ -17,12 +17,17 @@ use Rattle.bits.proofs.Numbers.{field-drop}
 use Rattle.bits.proofs.Octets.{length-bitsOf}
 use Rattle.bits.proofs.Looking.{length-left}
 use Rattle.bits.specs.Places.{place}
-use Rattle.tone_elements.specs.declared.Step.the-variants.{Good, Bad}
+use Rattle.tone_elements.specs.declared.Step.{Step}
+use Rattle.tone_elements.specs.declared.Step.the-variants.{Good}
 use Rattle.tone.specs.Table.{entry, kind, noteOf, durationOf, width, allowed, isInstruction}
 use Rattle.tone.specs.Reading.{got, element, instructionDue}
-use Rattle.tone_elements.specs.Answers.{stepAs, noteIn, Seen}
-use Rattle.tone.proofs.Exact.{element-good, element-bad}
+use Rattle.tone_elements.specs.Answers.{stepAs, noteIn}
+use Rattle.tone.proofs.Exact.{element-good}
 use Rattle.tone_elements.proofs.Elements.{note-width}
+
+-- s is what is due of an instruction at a place, in every message that has 12 bits there, on top of x: none has more
+pub record Seen (at x : ℕ) (s : Step) : Type 0 where
+  pub due : (m : List ℕ) (n : ℕ) → 12 ≤ n → Sight n (drop at (bitsOf m)) x → at + 12 ≤ 8 * length m → s ≡ stepAs noteIn (instructionDue (bitsOf m) at)
 
 -- no instruction has more payload bits than a note
 pub instruction-width : (k : ℕ) → 1 ≤ k → width k ≤ 9
@@ -49,30 +54,17 @@ value-in x = omega arith
 duration-in : (x : ℕ) → durationOf (code x) ≡ x / 2 ^ 54 % 8
 duration-in x = omega arith
 
--- a note that the table has, one with a wrong value, one with a wrong duration
+-- a note that the table has
 note-good : (x : ℕ) → x / 2 ^ 57 % 16 ≤ 12 → x / 2 ^ 54 % 8 ≤ 5 → allowed 1 (code x) ≡ true
 unfolding allowed
 note-good x h l = rw (value-in x, duration-in x, le-leb (x / 2 ^ 57 % 16) 12 h, le-leb (x / 2 ^ 54 % 8) 5 l) refl
-
-note-value : (x : ℕ) → 12 < x / 2 ^ 57 % 16 → allowed 1 (code x) ≡ false
-unfolding allowed
-note-value x h = rw (value-in x, lt-leb (x / 2 ^ 57 % 16) 12 h) refl
-
-note-duration : (x : ℕ) → x / 2 ^ 57 % 16 ≤ 12 → 5 < x / 2 ^ 54 % 8 → allowed 1 (code x) ≡ false
-unfolding allowed
-note-duration x h l = rw (value-in x, duration-in x, le-leb (x / 2 ^ 57 % 16) 12 h, lt-leb (x / 2 ^ 54 % 8) 5 l) refl
-
--- style 3 is not in the table
-style-bad : (x : ℕ) → x / 2 ^ 59 ≡ 15 → allowed 3 (x / 2 ^ 59 % 2 ^ 2) ≡ false
-unfolding allowed
-style-bad x h = rw h refl
 
 -- a style's width
 style-width : 2 ≡ width 3
 unfolding width
 style-width = refl
 
--- and that is all that is missing, where it is no note
+-- style 3 is all that is missing, where it is no note
 other-good : (x w : ℕ) → (x / 2 ^ 61 ≡ 1 → ⊥) → (x / 2 ^ 59 ≡ 15 → ⊥) → w ≡ width (x / 2 ^ 61) → allowed (x / 2 ^ 61) (x / 2 ^ (64 - (3 + w)) % 2 ^ w) ≡ true
 unfolding allowed
 other-good x w h s e =
@@ -101,10 +93,6 @@ module _ (at x : ℕ) where
     rest-there : (w : ℕ) → w ≤ 9 → at + 3 + w ≤ length (bitsOf m)
     rest-there w h = rw (length-bitsOf m) (omega arith)
 
-    wrong-id : isInstruction (x / 2 ^ 61) ≡ false → Bad 6 (place at) ≡ stepAs noteIn (instructionDue (bitsOf m) at)
-    unfolding instructionDue
-    wrong-id f = rw (element-bad 3 isInstruction 6 (bitsOf m) at (bits-there 3 (omega arith)) (rw id-is f))
-
     -- an instruction of kind k, w payload bits wide
     module _ (k w : ℕ) (ek : x / 2 ^ 61 ≡ k) (some : 1 ≤ k) (most : k ≤ 5) (ew : w ≡ width k) where
       narrow : w ≤ 9
@@ -118,38 +106,17 @@ module _ (at x : ℕ) where
       code-is : field (bitsOf m) (at + 3) w ≡ x / 2 ^ (64 - (3 + w)) % 2 ^ w
       code-is = part-is 3 w (omega (arith, narrow))
 
-      wrong-code : allowed k (x / 2 ^ (64 - (3 + w)) % 2 ^ w) ≡ false → Bad 6 (place (at + 3)) ≡ stepAs noteIn (instructionDue (bitsOf m) at)
-      unfolding instructionDue
-      wrong-code f = rw (id-good, ← ew, element-bad w (allowed k) 6 (bitsOf m) (at + 3) (rest-there w narrow) (rw code-is f))
-
       right-code : allowed k (x / 2 ^ (64 - (3 + w)) % 2 ^ w) ≡ true → Good (noteIn (entry k (x / 2 ^ (64 - (3 + w)) % 2 ^ w))) (place (at + 3 + w)) ≡ stepAs noteIn (instructionDue (bitsOf m) at)
       unfolding instructionDue
       right-code f = rw (id-good, ← ew, element-good w (allowed k) 6 (bitsOf m) (at + 3) (rest-there w narrow) (rw code-is f), code-is)
 
-  -- ---- the returns
+  -- ---- a note or a pause, and any other
 
-  pub seen-zero : x / 2 ^ 61 ≡ 0 → Seen at x (Bad 6 (place at))
-  seen-zero h = record { due = λ m n l s w. wrong-id m n l s w (rw h refl) }
-
-  pub seen-above : 5 < x / 2 ^ 61 → Seen at x (Bad 6 (place at))
-  seen-above h = record { due = λ m n l s w. wrong-id m n l s w (rw (le-leb 1 (x / 2 ^ 61) (omega arith), lt-leb (x / 2 ^ 61) 5 h) refl) }
-
-  module _ (note : x / 2 ^ 61 ≡ 1) where
-    pub seen-value : 12 < x / 2 ^ 57 % 16 → Seen at x (Bad 6 (place (at + 3)))
-    seen-value h = record { due = λ m n l s w. wrong-code m n l s w 1 9 note (omega arith) (omega arith) note-width (note-value x h) }
-
-    module _ (value : x / 2 ^ 57 % 16 ≤ 12) where
-      pub seen-duration : 5 < x / 2 ^ 54 % 8 → Seen at x (Bad 6 (place (at + 3)))
-      seen-duration h = record { due = λ m n l s w. wrong-code m n l s w 1 9 note (omega arith) (omega arith) note-width (note-duration x value h) }
-
-      pub seen-note : x / 2 ^ 54 % 8 ≤ 5 → Seen at x (Good 1 (place (at + 12)))
-      seen-note h =
-          let v = note-of 1 (code x) (omega arith) in
-          let e : at + 3 + 9 ≡ at + 12 = omega arith in
-          record { due = λ m n l s w. rw (← v, ← e) (right-code m n l s w 1 9 note (omega arith) (omega arith) note-width (note-good x value h)) }
-
-  pub seen-style : x / 2 ^ 59 ≡ 15 → Seen at x (Bad 6 (place (at + 3)))
-  seen-style h = record { due = λ m n l s w. wrong-code m n l s w 3 2 (omega arith) (omega arith) (omega arith) style-width (style-bad x h) }
+  pub seen-note : x / 2 ^ 61 ≡ 1 → x / 2 ^ 57 % 16 ≤ 12 → x / 2 ^ 54 % 8 ≤ 5 → Seen at x (Good 1 (place (at + 12)))
+  seen-note note value h =
+      let v = note-of 1 (code x) (omega arith) in
+      let e : at + 3 + 9 ≡ at + 12 = omega arith in
+      record { due = λ m n l s w. rw (← v, ← e) (right-code m n l s w 1 9 note (omega arith) (omega arith) note-width (note-good x value h)) }
 
   pub seen-other : {w : ℕ} → (x / 2 ^ 61 ≡ 1 → ⊥) → (x / 2 ^ 61 ≡ 0 → ⊥) → x / 2 ^ 61 ≤ 5 → (x / 2 ^ 59 ≡ 15 → ⊥) → (w ≡ width (x / 2 ^ 61)) × (w ≤ 14) → Seen at x (Good 0 (place (at + 3 + w)))
   seen-other {w} h z l y ew =
@@ -158,5 +125,3 @@ module _ (at x : ℕ) where
       let fits : p < 65536 = lt-of-lt-of-le small (pow-mono {j = 16} (omega (arith, ew .1))) in
       let v : noteIn (entry (x / 2 ^ 61) p) ≡ 0 = note-of (x / 2 ^ 61) p fits ∙ (rw (ne-eqb (x / 2 ^ 61) 1 h) refl) in
       record { due = λ m n g s t. rw (← v) (right-code m n g s t (x / 2 ^ 61) w refl (omega arith) l (ew .0) (other-good x w h y (ew .0))) }
-
-pub ruleset seeing = (seen-zero, seen-above, seen-value, seen-duration, seen-note, seen-style, seen-other)

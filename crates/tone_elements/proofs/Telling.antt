@@ -1,4 +1,4 @@
--- Four instructions that were told without a branch, where none of them is faulty, are those that are due.
+-- Instructions that were told without a branch, where none of them is faulty and the end octet is left, are those that are due.
 use Prim.Native.Nat.{ℕ, zero, suc, _+_, _-_, _*_, _/_, _%_, _^_, _≤_, _<_}
 use native.Mathlib.Omega.{arith}
 use native.Mathlib.Nat.{mul-one, mod-lt, mod-eq-of-lt, add-mul, mul-assoc, mod-add-div, add-mul-mod-self-left}
@@ -7,20 +7,27 @@ use mathlib.Core.Bool.{Bool, true, false, _&&_}
 use mathlib.Core.List.{List}
 use lib.ListN.{length, getD, drop}
 use lib.Dec.{leb, eqb}
+use mir.Val.{Fits}
+use mir.Syntax.{w32, w64}
 use lib.Pow.{pow-add, pow-pos}
 use borrow.Author.Tests.{eqb-true, eqb-false, ne-eqb, leb-true}
 use Rattle.bits.specs.Choice.{pick}
 use Rattle.bits.specs.Bits.{bitsOf}
 use Rattle.bits.specs.Places.{place}
 use Rattle.bits.specs.Window.{Sight}
-use Rattle.bits.proofs.Choice.{both}
+use Rattle.bits.proofs.Choice.{both, pick-elim}
 use Rattle.tone.specs.Table.{width}
+use Rattle.tone.specs.Reading.{got, instructionDue}
+use Rattle.tone_tell.specs.declared.Told.{Told}
+use Rattle.tone_tell.specs.Answers.{ToldOf}
+use Rattle.tone_tell.proofs.Packed.{bits-least}
 use Rattle.tone_tell.specs.Telling.{kindOn, kindBits, bitsOn, noteOn, begins, faultOn, behind, over}
 use Rattle.tone_elements.specs.declared.Step.{Step}
 use Rattle.tone_elements.specs.declared.Step.the-variants.{Good}
-use Rattle.tone_elements.specs.Answers.{Seen}
-use Rattle.tone_elements.proofs.Seeing.{instruction-width, seen-note, seen-other}
-use Rattle.tone_elements.proofs.Walks.{FewWalk, counted, few-begins, few-done, few-back, few-on}
+use Rattle.tone_elements.specs.Answers.{stepAs, noteIn}
+use Rattle.tone_elements.proofs.Seeing.{Seen, instruction-width, seen-note, seen-other}
+use Rattle.tone_elements.proofs.Steps.{step-good}
+use Rattle.tone_elements.proofs.Walks.{BodyWalk, body-begins, body-done, body-rest, goes-on, note-one, InSight, sight-begins, sight-near, sight-here, sight-next}
 
 -- ---- one instruction
 
@@ -107,38 +114,79 @@ shifted-on x d y e =
     ∙ mod-product (x * 2 ^ d) (2 ^ bitsOn y) (2 ^ 64)
     ∙ ap (λ (t : ℕ). t % 2 ^ 64) (mul-assoc x (2 ^ d) (2 ^ bitsOn y) ∙ ap (λ (t : ℕ). x * t) (sym (pow-add 2 d (bitsOn y))))
 
--- ---- four of them
+-- ---- as many as one sight holds
 
-module _ (m : List ℕ) (at x : ℕ) (room : at + 48 ≤ 8 * length m) (sees : Sight 57 (drop at (bitsOf m)) x) where
-  -- the walk over them, with y on top of what is left
-  record Top (left c p y : ℕ) : Type 0 where
-    walk : FewWalk m (counted m 4 at) at p left c
+module _ (m : List ℕ) (at x : ℕ) (sees : Sight 57 (drop at (bitsOf m)) x) where
+  -- the walk over them: n are still to be told, from y, which is on top of what is left
+  record Top (due : Step) (p y left c n : ℕ) : Type 0 where
+    walk : BodyWalk m due p left c
+    seen : InSight at p n
     top : y ≡ x * 2 ^ (p - at) % 2 ^ 64
 
-  one-more : {left c p y : ℕ} → Top left c p y → 0 < left → faultOn y ≡ 0 → Top (left - 1) (c + noteOn y) (p + bitsOn y) (behind y)
-  one-more {left} {c} {p} {y} t h f =
-      let s : Seen p y (Good (noteOn y) (place (p + bitsOn y))) = told-seen p y f in
-      let a : at ≤ p = few-back (t .walk) h in
-      let e : p - at + bitsOn y ≡ p + bitsOn y - at = omega arith in
-      record {
-        walk = few-on (t .walk) h room sees (subst (λ (z : ℕ). Seen p z (Good (noteOn y) (place (p + bitsOn y)))) (t .top) s) refl;
-        top = shifted-on x (p - at) y (t .top) ∙ ap (λ (z : ℕ). x * 2 ^ z % 2 ^ 64) e;
-      }
+  module _ {due : Step} {p y left c n : ℕ} (t : Top due p y left c (suc n)) (h : 0 < left) (f : faultOn y ≡ 0) (room : p + bitsOn y + 8 ≤ 8 * length m) where
+    small : y < 2 ^ 64
+    small = rw (t .top) (mod-lt (x * 2 ^ (p - at)) (pow-pos 64))
 
-  pub four-told : {v w u : ℕ} → at ≤ 8 * length m → (w ≡ over bitsOn 4 x) × (v ≡ over noteOn 4 x) × (u ≡ over faultOn 4 x) × (w ≤ 252) → u ≡ 0 → Good v (place (at + w)) ≡ counted m 4 at
-  four-told {v} {w} {u} inside e none =
-      let f : over faultOn 4 x ≡ 0 = sym (e .2) ∙ none in
-      let z : at - at ≡ 0 = omega arith in
-      let o : x * 2 ^ 0 ≡ x = mul-one x in
-      let t₀ : Top 4 0 at x = record { walk = few-begins m 4 at inside (omega arith); top = rw (z, o) (sym (mod-eq-of-lt (sees .small))) } in
-      let t₁ = one-more t₀ (omega arith) (omega arith) in
-      let t₂ = one-more t₁ (omega arith) (omega arith) in
-      let t₃ = one-more t₂ (omega arith) (omega arith) in
-      let t₄ = one-more t₃ (omega arith) (omega arith) in
-      let b : at + w ≡ at + bitsOn x + bitsOn (behind x) + bitsOn (behind (behind x)) + bitsOn (behind (behind (behind x))) = omega (arith, e .0) in
-      let n : v ≡ 0 + noteOn x + noteOn (behind x) + noteOn (behind (behind x)) + noteOn (behind (behind (behind x))) = omega (arith, e .1) in
-      rw (b, n) (few-done (t₄ .walk) (omega arith))
+    -- the next one is the one that is due: it has five bits or more, so that with the end octet it has the twelve that are looked at
+    judged : Good (noteOn y) (place (p + bitsOn y)) ≡ stepAs noteIn (instructionDue (bitsOf m) p)
+    judged =
+        let s = subst (λ (z : ℕ). Seen p z (Good (noteOn y) (place (p + bitsOn y)))) (t .top) (told-seen p y f) in
+        s .due m (57 - (p - at)) (omega (arith, sight-near (t .seen) (omega arith))) (sight-here (t .seen) (omega arith) m (t .walk .inside) sees) (omega (arith, bits-least y small, room))
 
--- four are as many as are due
-pub as-due : (m : List ℕ) (at : ℕ) {n : ℕ} {s : Step} → n ≡ 4 → s ≡ counted m 4 at → s ≡ counted m n at
-as-due m at e q = rw e q
+    read : (e : ℕ) × (instructionDue (bitsOf m) p ≡ got e (p + bitsOn y)) × (noteOn y ≡ noteIn e)
+    read = step-good noteIn (instructionDue (bitsOf m) p) judged
+
+    one-more : Top due (p + bitsOn y) (behind y) (left - 1) (c + noteOn y) n
+    one-more =
+        let a = t .seen .behind in
+        let e : p - at + bitsOn y ≡ p + bitsOn y - at = omega arith in
+        let z : suc n - 1 ≡ n = omega arith in
+        record {
+          walk = goes-on (t .walk) h (read .1) (read .2) (rw (read .2) (note-one (read .0)));
+          seen = subst (λ (k : ℕ). InSight at (p + bitsOn y) k) z (sight-next (t .seen) (omega arith) m (t .walk .inside) (read .1));
+          top = shifted-on x (p - at) y (t .top) ∙ ap (λ (d : ℕ). x * 2 ^ d % 2 ^ 64) e;
+        }
+
+  walk-told : (n : ℕ) {due : Step} {p y left c : ℕ} → Top due p y left c n → n ≤ left → over faultOn n y ≡ 0 → p + over bitsOn n y + 8 ≤ 8 * length m
+      → BodyWalk m due (p + over bitsOn n y) (left - n) (c + over noteOn n y)
+  walk-told zero {due} {p} {y} {left} {c} t l f r =
+      let e₁ : p ≡ p + 0 = omega arith in
+      let e₂ : left ≡ left - 0 = omega arith in
+      let e₃ : c ≡ c + 0 = omega arith in
+      rw (← e₁, ← e₂, ← e₃) (t .walk)
+  walk-told (suc n) {due} {p} {y} {left} {c} t l f r =
+      let o = one-more t (omega arith) (omega arith) (omega arith) in
+      let w = walk-told n o (omega arith) (omega arith) (omega arith) in
+      let e₁ : p + bitsOn y + over bitsOn n (behind y) ≡ p + (bitsOn y + over bitsOn n (behind y)) = omega arith in
+      let e₂ : left - 1 - n ≡ left - suc n = omega arith in
+      let e₃ : c + noteOn y + over noteOn n (behind y) ≡ c + (noteOn y + over noteOn n (behind y)) = omega arith in
+      rw (← e₁, ← e₂, ← e₃) w
+
+-- no more notes than instructions
+notes-told : (n y : ℕ) → over noteOn n y ≤ n
+unfolding noteOn
+notes-told zero y = omega arith
+notes-told (suc n) y =
+    let one : pick (eqb (kindOn y) 1) 1 0 ≤ 1 = pick-elim (λ (k : ℕ). k ≤ 1) (eqb (kindOn y) 1) (λ _. omega arith) (λ _. omega arith) in
+    omega (arith, notes-told n (behind y))
+
+-- a turn of k instructions
+module _ {m : List ℕ} {due : Step} {p left c k x : ℕ} {t : Told} (w : BodyWalk m due p left c) (l : (1 ≤ k) × (k ≤ left) × (k ≤ 4)) (q : ToldOf k x t) where
+  pub turn-notes : Fits w32 (c + t .notes)
+  turn-notes = record { fits = omega (arith, q .notes, notes-told k x, l .1, w .fewer) }
+
+  pub turn-bits : Fits w64 (t .bits + 8)
+  turn-bits = record { fits = omega (arith, q .most, l .2) }
+
+  module _ {r : ℕ} (e : r + p ≡ 8 * length m) (room : t .bits + 8 ≤ r) where
+    pub turn-place : length m < 2 ^ 60 → Fits w64 (p + t .bits)
+    turn-place h = record { fits = omega (arith, e) }
+
+    pub turn-on : Sight 57 (drop p (bitsOf m)) x → t .faults ≡ 0 → BodyWalk m due (p + t .bits) (left - k) (c + t .notes)
+    turn-on sees none =
+        let z : p - p ≡ 0 = omega arith in
+        let o : x * 2 ^ 0 ≡ x = mul-one x in
+        let b : Top m p x sees due p x left c k = record { walk = w; seen = sight-begins p k (l .2); top = rw (z, o) (sym (mod-eq-of-lt (sees .small))) } in
+        rw (q .bits, q .notes) (walk-told m p x sees k b (l .1) (sym (q .faults) ∙ none) (omega (arith, e, room, q .bits)))
+
+pub ruleset turns = (body-begins, body-done, body-rest, turn-notes, turn-bits, turn-place, turn-on)

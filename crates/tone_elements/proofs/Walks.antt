@@ -8,8 +8,6 @@ use mathlib.Core.List.{List, [], _∷_, _++_}
 use lib.ListN.{length, drop}
 use lib.Seq.{drop-drop}
 use lib.Dec.{eqb}
-use mir.Val.{Fits}
-use mir.Syntax.{w32}
 use Rattle.bits.specs.Bits.{bitsOf}
 use Rattle.bits.specs.declared.BitPlace.{BitPlace}
 use Rattle.bits.specs.Window.{Sight}
@@ -20,11 +18,11 @@ use Rattle.tone_elements.specs.declared.Step.{Step}
 use Rattle.tone_elements.specs.declared.Step.the-variants.{Good, Bad}
 use Rattle.tone.specs.Table.{kind}
 use Rattle.tone.specs.Reading.{Got, got, bad, onward, instructionDue, bodyDue}
-use Rattle.tone_elements.specs.Answers.{stepAs, stepOf, noteIn, notes, Seen}
+use Rattle.tone_elements.specs.Answers.{stepAs, stepOf, noteIn, notes}
 use Rattle.tone.proofs.Exact.{Exact}
 use Rattle.tone.proofs.Rows.{instruction-exact, body-exact, length-entryBits}
 use Rattle.tone_elements.proofs.Seeing.{instruction-width}
-use Rattle.tone_elements.proofs.Steps.{step-there, step-good, step-bad, step-cong, step-map}
+use Rattle.tone_elements.proofs.Steps.{step-there, step-bad, step-cong, step-map}
 
 -- a reader stays within the message
 pub stays : {A : Type 0} {r : List Bool → ℕ → Got A} {G : A → Type 0} {b : ℕ → A → List Bool} → Exact r G b
@@ -80,7 +78,7 @@ module _ {m : List ℕ} {due : Step} {p left c : ℕ} (w : BodyWalk m due p left
     unfolding bodyDue
     refuses b = sym (w .goes ∙ (rw (one-less left h, b)))
 
-    goes-on : {e q t : ℕ} → instructionDue (bitsOf m) p ≡ got e q → t ≡ noteIn e → t ≤ 1 → BodyWalk m due q (left - 1) (c + t)
+    pub goes-on : {e q t : ℕ} → instructionDue (bitsOf m) p ≡ got e q → t ≡ noteIn e → t ≤ 1 → BodyWalk m due q (left - 1) (c + t)
     goes-on {e} {q} {t} there v l =
         record {
           inside = stays instruction-exact m p (w .inside) there;
@@ -137,54 +135,11 @@ module _ {at p left : ℕ} (s : InSight at p left) (h : 0 < left) where
         let most = instruction-most (bitsOf m) p (rw (length-bitsOf m) inside) g in
         record { behind = omega (arith, s .behind, most .0); near = omega (arith, s .near, most .1) }
 
--- ---- up to four instructions from one sight
+-- ---- instructions in a row
 
 -- an instruction counts for one note at most
-note-one : (e : ℕ) → noteIn e ≤ 1
+pub note-one : (e : ℕ) → noteIn e ≤ 1
 note-one e = pick-elim (λ (x : ℕ). x ≤ 1) (eqb (kind e) 1) (λ _. omega arith) (λ _. omega arith)
-
--- the walk within a sight that was taken at a place
-pub record FewWalk (m : List ℕ) (due : Step) (at p left c : ℕ) : Type 0 where
-  pub walk : BodyWalk m due p left c
-  pub seen : InSight at p left
-
-pub few-begins : (m : List ℕ) (n at : ℕ) → at ≤ 8 * length m → n ≤ 4 → FewWalk m (counted m n at) at at n 0
-few-begins m n at h l = record { walk = body-begins m n at h (omega arith); seen = sight-begins at n l }
-
-pub few-done : {m : List ℕ} {due : Step} {at left c : ℕ} {q : BitPlace} → FewWalk m due at (q .0) left c → left ≤ 0 → Good c q ≡ due
-few-done w h = body-done (w .walk) h
-
-module _ {m : List ℕ} {due : Step} {at p left c : ℕ} (w : FewWalk m due at p left c) (h : 0 < left) where
-  pub few-near : p - at ≤ 36
-  few-near = sight-near (w .seen) h
-
-  pub few-back : at ≤ p
-  few-back = w .seen .behind
-
-  module _ {x : ℕ} {s : Step} (room : at + 48 ≤ 8 * length m) (sees : Sight 57 (drop at (bitsOf m)) x) (q : Seen p (x * 2 ^ (p - at) % 2 ^ 64) s) where
-    -- what was answered of it is what is due
-    judged : s ≡ stepAs noteIn (instructionDue (bitsOf m) p)
-    judged = q .due m (57 - (p - at)) (omega (arith, few-near)) (sight-here (w .seen) h m (w .walk .inside) sees) (omega (arith, w .seen .near))
-
-    pub few-bad : {k : ℕ} {f : BitPlace} → s ≡ Bad k f → Bad k f ≡ due
-    few-bad g = refuses (w .walk) h (step-bad noteIn (instructionDue (bitsOf m) p) (sym g ∙ judged) .1)
-
-    module _ {v : ℕ} {f : BitPlace} (g : s ≡ Good v f) where
-      read : (e : ℕ) × (instructionDue (bitsOf m) p ≡ got e (f .0)) × (v ≡ noteIn e)
-      read = step-good noteIn (instructionDue (bitsOf m) p) (sym g ∙ judged)
-
-      small : v ≤ 1
-      small = rw (read .2) (note-one (read .0))
-
-      pub few-fits : Fits w32 (c + v)
-      few-fits = record { fits = omega (arith, small, w .walk .fewer) }
-
-      pub few-on : FewWalk m due at (f .0) (left - 1) (c + v)
-      few-on = record { walk = goes-on (w .walk) h (read .1) (read .2) small; seen = sight-next (w .seen) h m (w .walk .inside) (read .1) }
-
-pub ruleset sights = (few-begins, few-done, few-near, few-back, few-bad, few-fits, few-on)
-
--- ---- a body, up to four instructions at a turn
 
 -- a body of j + k instructions is one of j and one of k
 pub body-more : (j k : ℕ) (l : List Bool) (p : ℕ) → bodyDue (j + k) l p ≡ onward (bodyDue j l p) (λ b q. onward (bodyDue k l q) (λ r t. got (b ++ r) t) bad) bad
@@ -220,43 +175,3 @@ notes-more (e ∷ a) b = rw (notes-more a b) (sym (add-assoc (noteIn e) (notes a
 pub notes-most : (b : List ℕ) → notes b ≤ length b
 notes-most [] = omega arith
 notes-most (e ∷ b) = omega (arith, note-one e, notes-most b)
-
--- so many instructions at once
-body-steps : (j k c : ℕ) (l : List Bool) (p : ℕ) {b : List ℕ} {q : ℕ} → bodyDue j l p ≡ got b q → stepAs (λ r. c + notes r) (bodyDue (j + k) l p) ≡ stepAs (λ r. c + notes b + notes r) (bodyDue k l q)
-body-steps j k c l p {b} {q} h =
-    rw (body-more j k l p, h) (step-map (λ r. c + notes r) (λ r. b ++ r) (bodyDue k l q)
-    ∙ step-cong (bodyDue k l q) (λ r. ap (λ (x : ℕ). c + x) (notes-more b r) ∙ sym (add-assoc c (notes b) (notes r))))
-
--- the instructions of a turn, and those after it
-split-off : (left k : ℕ) → k ≤ left → left ≡ k + (left - k)
-split-off left k h = omega arith
-
--- a turn of k instructions
-module _ {m : List ℕ} {due : Step} {p left c k : ℕ} {s : Step} (w : BodyWalk m due p left c) (l : (1 ≤ k) × (k ≤ left) × (k ≤ 4)) (q : s ≡ counted m k p) where
-  pub turn-bad : {i : ℕ} {f : BitPlace} → s ≡ Bad i f → Bad i f ≡ due
-  turn-bad g =
-      let b = step-bad notes (bodyDue k (bitsOf m) p) (sym g ∙ q) in
-      sym (w .goes ∙ (rw (split-off left k (l .1), body-more k (left - k) (bitsOf m) p, b .1)))
-
-  module _ {v : ℕ} {f : BitPlace} (g : s ≡ Good v f) where
-    turned : (b : List ℕ) × (bodyDue k (bitsOf m) p ≡ got b (f .0)) × (v ≡ notes b)
-    turned = step-good notes (bodyDue k (bitsOf m) p) (sym g ∙ q)
-
-    none-more : v ≤ k
-    none-more =
-        let size = body-exact k .sound (bitsOf m) p (rw (length-bitsOf m) (w .inside)) (turned .1) .good .size in
-        omega (arith, turned .2, notes-most (turned .0), size)
-
-    pub turn-fits : Fits w32 (c + v)
-    turn-fits = record { fits = omega (arith, none-more, l .1, w .fewer) }
-
-    pub turn-on : BodyWalk m due (f .0) (left - k) (c + v)
-    turn-on =
-        record {
-          inside = stays (body-exact k) m p (w .inside) (turned .1);
-          fewer = omega (arith, none-more, l .1, w .fewer);
-          goes = w .goes ∙ ap (λ (x : ℕ). countedOn m x p c) (split-off left k (l .1))
-              ∙ body-steps k (left - k) c (bitsOf m) p (turned .1) ∙ step-cong (bodyDue (left - k) (bitsOf m) (f .0)) (λ b. ap (λ (x : ℕ). c + x + notes b) (sym (turned .2)));
-        }
-
-pub ruleset turns = (body-begins, body-done, body-rest, turn-bad, turn-fits, turn-on)

@@ -49,10 +49,6 @@ abbrev pub notes : List ℕ → ℕ
 notes [] = 0
 notes (e ∷ b) = noteIn e + notes b
 
--- s is what is due of an instruction at a place, in every message that has 12 bits there, on top of x: none has more
-pub record Seen (at x : ℕ) (s : Step) : Type 0 where
-  pub due : (m : List ℕ) (n : ℕ) → 12 ≤ n → Sight n (drop at (bitsOf m)) x → at + 12 ≤ placeAfter (length m) → s ≡ stepAs noteIn (instructionDue (bitsOf m) at)
-
 -- whether UNICODE is announced, or the refusal
 abbrev pub commandOf : Got Bool → Command
 commandOf (got u p) = Announced u (place p)

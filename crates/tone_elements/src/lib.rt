@@ -9,7 +9,7 @@ ghost use Rattle.tone.specs.Table.{width as widthOf, allowed as allowedOf};
 ghost use Rattle.tone.specs.Tone.{perCharacter, characterBits, allowedCharacter};
 ghost use Rattle.tone.specs.Reading.{element, anyOf, filled, soundPart, parts as partsDue, command, text as textDue, title as titleDue, titled as titledDue, front};
 ghost use Rattle.tone.specs.Reading.{headerDue, instructionDue, bodyDue, ending as endingDue};
-ghost use Rattle.tone_elements.specs.Answers.{Within, allKnown, stepAs, stepOf, commandOf, noteIn, notes as notesOf, charactersOf, openingOf, Seen, SomeEntry, EntryAt, Passed};
+ghost use Rattle.tone_elements.specs.Answers.{Within, allKnown, stepAs, stepOf, commandOf, noteIn, notes as notesOf, charactersOf, openingOf, SomeEntry, EntryAt, Passed};
 ghost use Rattle.tone_elements.specs.Answers.{Sure, BothAllowed, AllowedAt};
 ghost use mathlib.Core.Bool.{Bool};
 ghost use mathlib.Core.List.{List};
@@ -209,108 +209,7 @@ pub fn note_in(cell: u32) -> u32
     if cell / 65536 == 1 { 1 } else { 0 }
 }
 
-// The instruction on top of a sight, where it is whole. The number is 1 for a note or pause, 0 for any other.
-fn seen(at: BitPlace, x: u64) -> Step
-    requires { ⌜ at .0 < 2 ^ 63 ⌝ }
-    ensures { λ r. ⌜ Seen (at .0) x r ⌝ }
-{
-    let kind = (x >> 61) as u32;
-    if kind == 1 {
-        if 12 < (x >> 57) % 16 {
-            return Step::Bad {
-                number: 6,
-                at: BitPlace(at.0 + 3),
-            };
-        }
-        if 5 < (x >> 54) % 8 {
-            return Step::Bad {
-                number: 6,
-                at: BitPlace(at.0 + 3),
-            };
-        }
-        return Step::Good {
-            value: 1,
-            next: BitPlace(at.0 + 12),
-        };
-    }
-    if kind == 0 {
-        return Step::Bad { number: 6, at };
-    }
-    if 5 < kind {
-        return Step::Bad { number: 6, at };
-    }
-    // Style 3 is not in the table.
-    if x >> 59 == 15 {
-        return Step::Bad {
-            number: 6,
-            at: BitPlace(at.0 + 3),
-        };
-    }
-    Step::Good {
-        value: 0,
-        next: BitPlace(at.0 + 3 + width(kind) as usize),
-    }
-}
-
-// Up to four instructions from one sight, where none of them is cut short: none has more than 12 bits. The number is how
-// many of them are notes or pauses.
-fn few(msg: &[u8], at: BitPlace, n: u32) -> Step
-    requires { ⌜ Within (now msg) (at .0) ⌝ }
-    requires { ⌜ (n ≤ 4) × (at .0 + 48 ≤ placeAfter (length (now msg))) ⌝ }
-    ensures { λ r. ⌜ r ≡ stepAs notesOf (bodyDue n (bitsOf (now (msg .entry))) (at .0)) ⌝ }
-{
-    let s = bits::sight(msg, at);
-    let mut place = at;
-    let mut left = n;
-    let mut notes: u32 = 0;
-    while 0 < left {
-        match seen(place, s << (place.0 - at.0) as u32) {
-            Step::Bad { number, at: fault } => {
-                return Step::Bad { number, at: fault };
-            }
-            Step::Good { value, next } => {
-                notes += value;
-                place = next;
-                left -= 1;
-            }
-        }
-    }
-    Step::Good {
-        value: notes,
-        next: place,
-    }
-}
-
-// Four instructions from one sight, told without a branch for their kinds. Where one of them is faulty, it is looked for.
-fn four(msg: &[u8], at: BitPlace) -> Step
-    requires { ⌜ Within (now msg) (at .0) ⌝ }
-    requires { ⌜ at .0 + 48 ≤ placeAfter (length (now msg)) ⌝ }
-    ensures { λ r. ⌜ r ≡ stepAs notesOf (bodyDue 4 (bitsOf (now (msg .entry))) (at .0)) ⌝ }
-{
-    let told = tone_tell::four(bits::sight(msg, at));
-    if told.faults == 0 {
-        return Step::Good {
-            value: told.notes,
-            next: BitPlace(at.0 + told.bits as usize),
-        };
-    }
-    few(msg, at, 4)
-}
-
-// Up to four instructions from one sight.
-fn several(msg: &[u8], at: BitPlace, n: u32) -> Step
-    requires { ⌜ Within (now msg) (at .0) ⌝ }
-    requires { ⌜ (n ≤ 4) × (at .0 + 48 ≤ placeAfter (length (now msg))) ⌝ }
-    ensures { λ r. ⌜ r ≡ stepAs notesOf (bodyDue n (bitsOf (now (msg .entry))) (at .0)) ⌝ }
-{
-    if n == 4 {
-        return four(msg, at);
-    }
-    few(msg, at, n)
-}
-
-// `n` instructions one by one, as the message's end is near, with `c` notes so far. The number is how many notes and pauses
-// there are then.
+// `n` instructions one by one, with `c` notes so far. The number is how many notes and pauses there are then.
 fn singly(msg: &[u8], at: BitPlace, n: u32, c: u32) -> Step
     requires { ⌜ Within (now msg) (at .0) ⌝ }
     requires { ⌜ c + n ≤ 255 ⌝ }
@@ -345,8 +244,9 @@ pub fn turn(more: u32) -> u32
     if more < 4 { more } else { 4 }
 }
 
-// `n` instructions. The number is how many of them are notes or pauses. Four are judged at a turn: one load costs less than
-// four.
+// `n` instructions. The number is how many of them are notes or pauses. Four are told at a turn, from one load and without a
+// branch for their kinds. Where one of them is faulty, or where less than the end octet is left behind them, those to come
+// are judged one by one.
 pub fn body(msg: &[u8], at: BitPlace, n: u32) -> Step
     requires { ⌜ Within (now msg) (at .0) ⌝ }
     requires { ⌜ n ≤ 255 ⌝ }
@@ -356,20 +256,17 @@ pub fn body(msg: &[u8], at: BitPlace, n: u32) -> Step
     let mut more = n;
     let mut notes: u32 = 0;
     while 0 < more {
-        if left(msg, place) < 48 {
+        let k = turn(more);
+        let told = tone_tell::tell(bits::sight(msg, place), k);
+        if told.faults != 0 {
             return singly(msg, place, more, notes);
         }
-        let k = turn(more);
-        match several(msg, place, k) {
-            Step::Bad { number, at: fault } => {
-                return Step::Bad { number, at: fault };
-            }
-            Step::Good { value, next } => {
-                notes += value;
-                place = next;
-                more -= k;
-            }
+        if left(msg, place) < told.bits as usize + 8 {
+            return singly(msg, place, more, notes);
         }
+        place = BitPlace(place.0 + told.bits as usize);
+        notes += told.notes;
+        more -= k;
     }
     Step::Good {
         value: notes,

@@ -5,9 +5,12 @@ use mathlib.Core.Path.{_≡_, refl, sym, ap, _∙_}
 use mathlib.Core.Bool.{Bool, true, false}
 use mir.Val.{boolByte}
 use lib.ListN.{length, getD, List·getD-eq-default}
-use lib.Dec.{eqb}
+use lib.Dec.{leb, eqb}
+use borrow.Author.Tests.{leb-true}
 use Rattle.bits.specs.Choice.{pick}
-use Rattle.bits.proofs.Below.{same-each, NoneBelow, none-below}
+use Rattle.bits.proofs.Below.{at-each, same-each, NoneBelow, none-below}
+use Rattle.tone_tell.specs.declared.Told.{Told}
+use Rattle.tone_tell.specs.Answers.{ToldOf}
 use Rattle.tone_tell.specs.Telling.{kindBits, bitsOn, noteOn, begins, faultOn, faultRows, behind, over}
 
 -- eight octets of widths, by the eight kinds
@@ -50,11 +53,30 @@ unfolding behind
 taken-away x e = ap (λ (w : ℕ). x * 2 ^ w % 2 ^ 64) e
 
 -- one after the other, four numbers add up
-pub four-over : (f : ℕ → ℕ) (x : ℕ) {x₁ x₂ x₃ a b c d : ℕ} → x₁ ≡ behind x → x₂ ≡ behind x₁ → x₃ ≡ behind x₂
-    → a ≡ 0 + f x → b ≡ a + f x₁ → c ≡ b + f x₂ → d ≡ c + f x₃ → d ≡ over f 4 x
-four-over f x e₁ e₂ e₃ a b c d =
-    let g₁ = ap f e₁ in
-    let h₂ = e₂ ∙ ap behind e₁ in
+four-over : (f : ℕ → ℕ) (x : ℕ) {x₀ x₁ x₂ x₃ z a b c d : ℕ} → x₀ ≡ x → x₁ ≡ behind x₀ → x₂ ≡ behind x₁ → x₃ ≡ behind x₂
+    → z ≡ 0 → a ≡ z + f x₀ → b ≡ a + f x₁ → c ≡ b + f x₂ → d ≡ c + f x₃ → d ≡ over f 4 x
+four-over f x e₀ e₁ e₂ e₃ z a b c d =
+    let g₀ = ap f e₀ in
+    let h₁ = e₁ ∙ ap behind e₀ in
+    let g₁ = ap f h₁ in
+    let h₂ = e₂ ∙ ap behind h₁ in
     let g₂ = ap f h₂ in
     let g₃ = ap f (e₃ ∙ ap behind h₂) in
-    omega (arith, g₁, g₂, g₃)
+    omega (arith, g₀, g₁, g₂, g₃)
+
+-- what taking one more away leaves
+abbrev Next : Told → Told → Type 0
+Next t r = (r .rest ≡ behind (t .rest)) × (r .bits ≡ t .bits + bitsOn (t .rest)) × (r .notes ≡ t .notes + noteOn (t .rest)) × (r .faults ≡ t .faults + faultOn (t .rest))
+
+pub four-told : (x : ℕ) {t₀ t₁ t₂ t₃ t₄ : Told} → (t₀ .rest ≡ x) × (t₀ .bits ≡ 0) × (t₀ .notes ≡ 0) × (t₀ .faults ≡ 0) → Next t₀ t₁ → Next t₁ t₂ → Next t₂ t₃ → Next t₃ t₄ → t₄ .bits ≤ 252 → ToldOf 4 x t₄
+four-told x b a₁ a₂ a₃ a₄ l = record {
+  bits = four-over bitsOn x (b .0) (a₁ .0) (a₂ .0) (a₃ .0) (b .1) (a₁ .1) (a₂ .1) (a₃ .1) (a₄ .1);
+  notes = four-over noteOn x (b .0) (a₁ .0) (a₂ .0) (a₃ .0) (b .2) (a₁ .2) (a₂ .2) (a₃ .2) (a₄ .2);
+  faults = four-over faultOn x (b .0) (a₁ .0) (a₂ .0) (a₃ .0) (b .3) (a₁ .3) (a₂ .3) (a₃ .3) (a₄ .3);
+  most = l;
+}
+
+-- every kind takes five bits or more
+pub bits-least : (x : ℕ) → x < 2 ^ 64 → 5 ≤ bitsOn x
+unfolding bitsOn
+bits-least x h = leb-true 5 (getD kindBits (x / 2 ^ 61) 0) (at-each (λ k. leb 5 (getD kindBits k 0)) 8 refl (x / 2 ^ 61) (omega arith))

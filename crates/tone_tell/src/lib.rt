@@ -3,7 +3,8 @@
 ghost use mathlib.Core.Path.{_≡_};
 ghost use Prim.Native.Nat.{_+_, _≤_};
 ghost use lib.ListN.{getD};
-ghost use Rattle.tone_tell.specs.Telling.{bitsOn, noteOn, faultOn, faultRows, behind, over};
+ghost use Rattle.tone_tell.specs.Telling.{bitsOn, noteOn, faultOn, faultRows, behind};
+ghost use Rattle.tone_tell.specs.Answers.{ToldOf};
 
 // What was told: what is left on top, and the bits, the notes and the faults of the instructions that were taken away.
 pub struct Told {
@@ -67,15 +68,46 @@ fn next(t: Told) -> Told
     }
 }
 
-// Tells the four instructions on top. Where one of them is faulty, the numbers of those behind it mean nothing.
-pub fn four(x: u64) -> Told
-    ensures { λ r. ⌜ (r .bits ≡ over bitsOn 4 x) × (r .notes ≡ over noteOn 4 x) × (r .faults ≡ over faultOn 4 x) × (r .bits ≤ 252) ⌝ }
+// Nothing was taken away.
+fn begin(x: u64) -> Told
+    ensures { λ r. ⌜ (r .rest ≡ x) × (r .bits ≡ 0) × (r .notes ≡ 0) × (r .faults ≡ 0) ⌝ }
 {
-    let begin = Told {
+    Told {
         rest: x,
         bits: 0,
         notes: 0,
         faults: 0,
-    };
-    next(next(next(next(begin))))
+    }
+}
+
+// Tells the four instructions on top.
+fn four(x: u64) -> Told
+    ensures { λ r. ⌜ ToldOf 4 x r ⌝ }
+{
+    next(next(next(next(begin(x)))))
+}
+
+// Tells the `n` instructions on top, one by one.
+fn few(x: u64, n: u32) -> Told
+    requires { ⌜ n ≤ 4 ⌝ }
+    ensures { λ r. ⌜ ToldOf n x r ⌝ }
+{
+    let mut told = begin(x);
+    let mut left = n;
+    while 0 < left {
+        told = next(told);
+        left -= 1;
+    }
+    told
+}
+
+// Tells the `n` instructions on top, most often four. Where one of them is faulty, the numbers of those behind it mean nothing.
+pub fn tell(x: u64, n: u32) -> Told
+    requires { ⌜ n ≤ 4 ⌝ }
+    ensures { λ r. ⌜ ToldOf n x r ⌝ }
+{
+    if n == 4 {
+        return four(x);
+    }
+    few(x, n)
 }

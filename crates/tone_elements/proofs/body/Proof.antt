@@ -1,8 +1,9 @@
 -- `tone_elements::body` meets its contract. What is left to read falls with each turn.
+use borrow.Author.Needs.{needs}
 use Rattle.tone_elements.proofs.body.Statement.{statement}
 use Rattle.tone_elements.proofs.body.Tie as tie
-use Rattle.tone_elements.proofs.Walks.{BodyWalk, counted, turns}
-use borrow.Author.Needs.{needs}
+use Rattle.tone_elements.proofs.Walks.{BodyWalk, counted}
+use Rattle.tone_elements.proofs.Telling.{turn-on, turns}
 
 abbrev Inv-loop : tie.InvT-loop
 Inv-loop msg n place₀ more₀ notes₀ place more notes = BodyWalk msg (counted msg n (place₀ .0)) (place .0) more notes
@@ -13,8 +14,14 @@ abbrev μ-loop : tie.MeasureT-loop
 loop-holds : tie.Need-loop-holds Inv-loop μ-loop
 loop-holds c = search (turns, needs)
 
-left-requires : tie.Need-left-requires Inv-loop μ-loop
-left-requires c κs = search (turns, needs)
+turn-requires : tie.Need-turn-requires Inv-loop μ-loop
+turn-requires c κs = search (turns, needs)
+
+sight-requires : tie.Need-sight-requires Inv-loop μ-loop
+sight-requires c κs = search (turns, needs)
+
+tell-requires : tie.Need-tell-requires Inv-loop μ-loop
+tell-requires c κs = search (turns, needs)
 
 singly-requires : tie.Need-singly-requires Inv-loop μ-loop
 singly-requires c κs = search (turns, needs)
@@ -22,20 +29,26 @@ singly-requires c κs = search (turns, needs)
 returns : tie.Need-returns Inv-loop μ-loop
 returns c = search (turns, needs)
 
-turn-requires : tie.Need-turn-requires Inv-loop μ-loop
-turn-requires c κs = search (turns, needs)
+left-requires : tie.Need-left-requires Inv-loop μ-loop
+left-requires c κs = search (turns, needs)
 
-several-requires : tie.Need-several-requires Inv-loop μ-loop
-several-requires c κs = search (turns, needs)
+cast-if2 : tie.Need-cast-if2 Inv-loop μ-loop
+cast-if2 c = search (turns, needs)
 
-enum-known-number : tie.Need-enum-known-number Inv-loop μ-loop
-enum-known-number c = search (turns, needs)
+add-if2 : tie.Need-add-if2 Inv-loop μ-loop
+add-if2 c = search (turns, needs)
+
+singly-requires-2 : tie.Need-singly-requires-2 Inv-loop μ-loop
+singly-requires-2 c κs = search (turns, needs)
 
 returns-2 : tie.Need-returns-2 Inv-loop μ-loop
 returns-2 c = search (turns, needs)
 
-enum-known-value : tie.Need-enum-known-value Inv-loop μ-loop
-enum-known-value c = search (turns, needs)
+cast-t11 : tie.Need-cast-t11 Inv-loop μ-loop
+cast-t11 c = search (turns, needs)
+
+add-t12 : tie.Need-add-t12 Inv-loop μ-loop
+add-t12 c = search (turns, needs)
 
 add-notes : tie.Need-add-notes Inv-loop μ-loop
 add-notes c = search (turns, needs)
@@ -47,7 +60,10 @@ loop-less : tie.Need-loop-less Inv-loop μ-loop
 loop-less c = search (turns, needs)
 
 loop-again : tie.Need-loop-again Inv-loop μ-loop
-loop-again c = search (turns, needs)
+loop-again c =
+    let seen = c .before .before .before .before .before .before .before .before in
+    let begun = seen .before .before .before .before in
+    turn-on (begun .loop .inv) (seen .before .before .turn .ensures) (seen .tell .ensures) (c .before .before .before .before .before .left .ensures) (search needs) (seen .before .sight .ensures) (search needs)
 
 returns-3 : tie.Need-returns-3 Inv-loop μ-loop
 returns-3 c = search (turns, needs)
@@ -59,14 +75,18 @@ body-spec =
     Inv-loop
     μ-loop
     loop-holds
-    left-requires
+    turn-requires
+    sight-requires
+    tell-requires
     singly-requires
     returns
-    turn-requires
-    several-requires
-    enum-known-number
+    left-requires
+    cast-if2
+    add-if2
+    singly-requires-2
     returns-2
-    enum-known-value
+    cast-t11
+    add-t12
     add-notes
     sub-more
     loop-less
