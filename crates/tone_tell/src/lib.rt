@@ -4,7 +4,7 @@ ghost use mathlib.Core.Path.{_≡_};
 ghost use Prim.Native.Nat.{_+_, _≤_};
 ghost use lib.ListN.{getD};
 ghost use Rattle.tone_tell.specs.Telling.{bitsOn, noteOn, faultOn, faultRows, behind};
-ghost use Rattle.tone_tell.specs.Answers.{ToldOf};
+ghost use Rattle.tone_tell.specs.Answers.{ToldOf, NotesAlone, Sure};
 
 // What was told: what is left on top, and the bits, the notes and the faults of the instructions that were taken away.
 pub struct Told {
@@ -101,13 +101,36 @@ fn few(x: u64, n: u32) -> Told
     told
 }
 
+// Are the four instructions on top notes or pauses? Where they are, each stands twelve bits behind the one before.
+fn notes_alone(x: u64) -> bool
+    ensures { λ r. ⌜ Sure r (NotesAlone x) ⌝ }
+{
+    note_on(x) + note_on(x << 12) + note_on(x << 24) + note_on(x << 36) == 4
+}
+
+// Tells four notes or pauses, of which none waits for the one before.
+fn four_notes(x: u64) -> Told
+    requires { ⌜ NotesAlone x ⌝ }
+    ensures { λ r. ⌜ ToldOf 4 x r ⌝ }
+{
+    Told {
+        rest: x << 48,
+        bits: 48,
+        notes: 4,
+        faults: fault_on(x) + fault_on(x << 12) + fault_on(x << 24) + fault_on(x << 36),
+    }
+}
+
 // Tells the `n` instructions on top, most often four. Where one of them is faulty, the numbers of those behind it mean nothing.
 pub fn tell(x: u64, n: u32) -> Told
     requires { ⌜ n ≤ 4 ⌝ }
     ensures { λ r. ⌜ ToldOf n x r ⌝ }
 {
-    if n == 4 {
-        return four(x);
+    if n != 4 {
+        return few(x, n);
     }
-    few(x, n)
+    if notes_alone(x) {
+        return four_notes(x);
+    }
+    four(x)
 }
