@@ -32,11 +32,11 @@ unfolding continues
 continues-sum at [] end h = omega (arith, eqb-true at end h)
 continues-sum at (r ∷ rs) end h = omega (arith, continues-sum (at + r .length) rs end (both (eqb (r .start) at) (continues (at + r .length) rs end) h .1))
 
--- the rows that are left, and whether they continue each other, is what is left to be told. `at` is a start that was found
--- equal, below 65,536, and a length more
+-- the rows that are left, and whether they continue each other, is what is left to be told
 pub record Continuing (p : List ℕ) (rows n at row left : ℕ) : Type 0 where
   pub whole : continues 0 (rowsAt n p rows) rows ≡ continues at (rowsAt left p row) rows
   pub inside : row + 4 * left ≤ length p
+  -- a start that was found equal is below 65,536, and `at` is a length more
   pub small : at < 131072
 
 module _ (p : List ℕ) (rows n : ℕ) where

@@ -192,8 +192,7 @@ pub fn message(pack: &[u8], n: u32) -> &[u8]
 
 // ---- writing
 
-// What lengths add up to. A pack that is not too long has at most 16,382 rows. The bound here is loose: any below 2^32
-// keeps the sum within 64 bits.
+// What lengths add up to. The bound is loose: a pack that is not too long has at most 16,382 rows, and any below 2^32 would do.
 fn sum_of(lengths: &[u32]) -> OctetCount
     requires { ⌜ length (now lengths) ≤ 65535 ⌝ }
     ensures { λ r. ⌜ r .0 ≡ sum (now (lengths .entry)) ⌝ }
