@@ -730,9 +730,9 @@ static void fuzz_pack_read(struct input *in)
     struct ohakelm_pack other = guide_pack_read(first.theirs, count);
     check(same_pack(pack, other), "both read packs alike");
     check_lent(&first);
-    bool short_or_wrong = count < 4 || pack.refusal == OHAKELM_PACK_SIZE ||
-                          pack.refusal == OHAKELM_PACK_ROWS;
-    if (!short_or_wrong)
+    bool size_or_rows = count < 4 || count > OHAKELM_LARGEST_PACK ||
+                        pack.refusal == OHAKELM_PACK_SIZE || pack.refusal == OHAKELM_PACK_ROWS;
+    if (!size_or_rows)
         check_messages(count, pack);
     if (pack.refusal == 0)
         check_pack_again(count, pack);

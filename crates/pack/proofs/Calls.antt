@@ -17,20 +17,20 @@ use Rattle.bits.specs.declared.OctetCount.{OctetCount}
 use Rattle.tone.specs.Tone.{Tone}
 use Rattle.tone.specs.Writing.{toneOctets}
 use Rattle.tone.specs.Reading.{readTone}
-use Rattle.inside.specs.Inside.{join, lengths, sum, cut}
+use Rattle.inside.specs.Inside.{number, join, lengths, sum, cut}
 use Rattle.inside.proofs.Stretches.{length-join, length-cut, lengths-cut, sum-ahead, join-cut, cut-join, nth-cut}
 use Rattle.written.specs.declared.Writing.{Writing}
 use Rattle.written.specs.declared.Writing.the-variants.{Written}
 use Rattle.written.specs.Written.{writeAnswer, octetsAfter}
-use Rattle.written.proofs.Unique.{writes-written}
+use Rattle.written.proofs.Unique.{fills-written}
 use Rattle.pack.specs.declared.Reading.{Reading}
 use Rattle.pack.specs.declared.Reading.the-variants.{Read}
 use Rattle.pack.specs.declared.Finding.{Finding}
 use Rattle.pack.specs.declared.Finding.the-variants.{Found}
-use Rattle.pack.specs.Pack.{mostOctets, packOf, packLength, messagesOf, packOctets, AllFormed, Packable, Row, lengthsIn, firstRow, count, rowsIn, messagesIn, readInTurn, readPack, noRow, nthRow, writePack}
+use Rattle.pack.specs.Pack.{mostPack, packOf, packLength, messagesOf, packOctets, AllFormed, Packable, Row, lengthsIn, firstRow, count, rowsIn, messagesIn, readInTurn, readPack, noRow, nthRow, writePack}
 use Rattle.pack.specs.Promises.{readAnswer, ReadPromise, findAnswer, FindPromise, stretchOf, stretchStart, MessagePromise, WritePromise}
 use Rattle.pack.proofs.Rules.{length-packOf, length-rowsAt, demanded, turn-nth, Met, met, read-count, lengths-add-up}
-use Rattle.pack.proofs.Nth.{a-message, nth-start}
+use Rattle.pack.proofs.Nth.{a-message, nth-rowsAt, nth-start}
 use Rattle.pack.proofs.Order.{room-enough}
 use Rattle.pack.proofs.Demand2.{turn-written, turn-exactly, lengths-there, messages-there, pack-is-accepted, pack-is-written, pack-is-packable}
 
@@ -89,7 +89,8 @@ module _ (p : List ℕ) {ts : List Tone} (e : readPack p ≡ accepted ts) (n : �
 -- ---- a pack of tones, and its nth message
 
 module _ (ts : List Tone) (k : Packable ts) (n : ℕ) (h : n < length ts) where
-  abbrev octetsAhead : ℕ
+  -- the octets of the messages ahead
+  abbrev pub octetsAhead : ℕ
   octetsAhead = length (join (take n (messagesOf ts)))
 
   begins : stretchStart (nthRow (packOctets ts) n) ≡ octetsAhead
@@ -120,6 +121,14 @@ module _ (ts : List Tone) (k : Packable ts) (n : ℕ) (h : n < length ts) where
       sym (List·getD-map (λ (x : Row). x .length) (rowsIn (packOctets ts)) n noRow) ∙ ap (λ (ns : List ℕ). getD ns n 0) (lengths-there ts k) ∙ List·getD-map length (messagesOf ts) n [] in
       q .answer ∙ ap findAnswer a ∙ ap₂ (λ (x y : ℕ). Found (octetCount x) (octetCount y)) s l
 
+-- `find` n answers what the nth row in the octets says
+pub row-is-message : (p : List ℕ) {k : ℕ} (n : ℕ) {r : Finding} → ReadPromise p (Read k) → n < k → FindPromise p n r
+    → r ≡ Found (octetCount (number p (firstRow p + 4 * n))) (octetCount (number p (firstRow p + 4 * n + 2)))
+row-is-message p n h j q =
+    let s = read-says p h in
+    let c : n < count p = omega (arith, read-count p (met p (s .1)), s .2) in
+    q .answer ∙ ap findAnswer (a-message p n (s .1) (rw (← s .2) j) ∙ ap accepted (nth-rowsAt (count p) p (firstRow p) n c))
+
 -- ---- `write`
 
 -- what an accepting answer says: the messages are those of well-formed tones, and the buffer begins with their pack
@@ -135,10 +144,10 @@ pub record Wrote (octets ns out out′ : List ℕ) (n : OctetCount) : Type 0 whe
 pub write-says : (octets ns out out′ : List ℕ) {n : OctetCount} → Octets octets → WritePromise octets ns out out′ (Written n) → Wrote octets ns out out′ n
 unfolding writePack packOctets
 write-says octets ns out out′ {n} o h =
-    let w = writes-written h in
-    let a = demanded (leb (packLength octets ns) mostOctets) 1 (demand (eqb (sum ns) (length octets)) 27 inner) (w .1) in
+    let w = fills-written h in
+    let a = demanded (leb (packLength octets ns) mostPack) 1 (demand (eqb (sum ns) (length octets)) 27 inner) (w .1) in
     let b = demanded (eqb (sum ns) (length octets)) 27 inner (a .1) in
-    go w (leb-true (packLength octets ns) mostOctets (a .0)) (eqb-true (sum ns) (length octets) (b .0)) (readInTurn 0 (cut ns octets)) refl (b .1)
+    go w (leb-true (packLength octets ns) mostPack (a .0)) (eqb-true (sum ns) (length octets) (b .0)) (readInTurn 0 (cut ns octets)) refl (b .1)
   where
     last : Outcome (List ℕ)
     last = demand (leb (packLength octets ns) (length out)) 11 (accepted (packOf octets ns))
@@ -146,7 +155,7 @@ write-says octets ns out out′ {n} o h =
     inner : Outcome (List ℕ)
     inner = andThen (readInTurn 0 (cut ns octets)) (λ _. last)
 
-    go : (w : (w : List ℕ) × (writePack octets ns (length out) ≡ accepted w) × (n .0 ≡ length w) × (out′ ≡ over w out)) → packLength octets ns ≤ mostOctets → sum ns ≡ length octets
+    go : (w : (w : List ℕ) × (writePack octets ns (length out) ≡ accepted w) × (n .0 ≡ length w) × (out′ ≡ over w out)) → packLength octets ns ≤ mostPack → sum ns ≡ length octets
         → (x : Outcome (List Tone)) → readInTurn 0 (cut ns octets) ≡ x → andThen x (λ _. last) ≡ accepted (w .0) → Wrote octets ns out out′ n
     go w small adds (accepted ts) q e =
         let t = turn-exactly 0 ns octets o q in
@@ -216,23 +225,29 @@ message-of-write octets ns out out′ p s i o h g j q =
     let c : cut ns octets ≡ ms = ap₂ cut (sym (w .rows)) (sym (w .messages) ∙ sym (append-nil (join ms))) ∙ cut-join ms [] in
     message-of-pack (w .tones) (w .packable) i (rw l j) p s (g ∙ written-front octets ns out out′ o h) q .0 ∙ ap (λ (x : List (List ℕ)). getD x i []) (sym c)
 
+-- messages that `message` hands back, one for each number
+abbrev pub TakenOut : RefT (List ℕ) → ℕ → List (List ℕ) → Type 0
+TakenOut p k ms = (i : ℕ) → i < k → (r : RefT (List ℕ)) × MessagePromise p i r × (getD ms i [] ≡ now r)
+
 -- the messages that are taken out of a pack one by one are all of its messages
-pub taken-out : (p : List ℕ) {k : ℕ} (ms : List (List ℕ)) → ReadPromise p (Read k) → length ms ≡ k → ((i : ℕ) → i < k → getD ms i [] ≡ stretchOf (nthRow p i) p) → ms ≡ messagesIn p
-taken-out p {k} ms h l each =
+pub taken-out : (p : RefT (List ℕ)) {k : ℕ} (ms : List (List ℕ)) → ReadPromise (now p) (Read k) → length ms ≡ k → TakenOut p k ms → ms ≡ messagesIn (now p)
+taken-out q {k} ms h l each =
+    let p = now q in
     let s = read-says p h in
     let m = met p (s .1) in
     let n : length (messagesIn p) ≡ k = length-cut (lengthsIn (rowsIn p)) p ∙ length-map (rowsIn p) (λ (r : Row). r .length) ∙ length-rowsAt (count p) p (firstRow p) ∙ sym (read-count p m) ∙ sym (s .2) in
-    ext-getD [] ms (messagesIn p) (l ∙ sym n) (λ i j. each i (rw (← l) j) ∙ nth-stretch p (s .1) i (rw (← s .2, ← l) j))
+    ext-getD [] ms (messagesIn p) (l ∙ sym n) (λ i j. each i (rw (← l) j) .2 ∙ each i (rw (← l) j) .1 .octets ∙ nth-stretch p (s .1) i (rw (← s .2, ← l) j))
 
 -- `write` of the messages that `read` and `message` gave, into enough room, gives the same octets
-pub write-of-read : (p : List ℕ) {k : ℕ} (ms : List (List ℕ)) (out out′ : List ℕ) {r : Writing} → Octets p → ReadPromise p (Read k) → length ms ≡ k
-    → ((i : ℕ) → i < k → getD ms i [] ≡ stretchOf (nthRow p i) p) → length p ≤ length out → WritePromise (join ms) (lengths ms) out out′ r
-    → (r ≡ Written (octetCount (length p))) × (out′ ≡ over p out)
-write-of-read p ms out out′ {r} o h l each room w =
+pub write-of-read : (p : RefT (List ℕ)) {k : ℕ} (ms : List (List ℕ)) (out out′ : List ℕ) {r : Writing} → Octets (now p) → ReadPromise (now p) (Read k) → length ms ≡ k
+    → TakenOut p k ms → length (now p) ≤ length out → WritePromise (join ms) (lengths ms) out out′ r
+    → (r ≡ Written (octetCount (length (now p)))) × (out′ ≡ over (now p) out)
+write-of-read q ms out out′ {r} o h l each room w =
+    let p = now q in
     let s = read-says p h in
     let k = pack-is-packable p (s .0) o (s .1) in
     let e : packOctets (s .0) ≡ p = pack-is-written p (s .0) o (s .1) in
     let t : messagesIn p ≡ messagesOf (s .0) = ap messagesIn (sym e) ∙ messages-there (s .0) k in
-    let g : ms ≡ messagesOf (s .0) = taken-out p ms h l each ∙ t in
+    let g : ms ≡ messagesOf (s .0) = taken-out q ms h l each ∙ t in
     let d = write-pack (s .0) out out′ k (rw e room) (subst (λ (x : List (List ℕ)). WritePromise (join x) (lengths x) out out′ r) g w) in
     (d .0 ∙ ap (λ (x : List ℕ). Written (octetCount (length x))) e, d .1 ∙ ap (λ (x : List ℕ). over x out) e)

@@ -20,7 +20,7 @@ use Rattle.tone.proofs.Demand2.{accepted-is-written, written-is-accepted}
 use Rattle.inside.specs.Inside.{number, pair, join, lengths, sum, cut}
 use Rattle.inside.proofs.Pairs.{number-pair, pair-number}
 use Rattle.inside.proofs.Stretches.{length-join, length-cut, lengths-cut, join-cut, cut-join, AllOctets, octets-cut}
-use Rattle.pack.specs.Pack.{mostOctets, rowsFrom, packOf, packLength, messagesOf, packOctets, AllFormed, Packable, Row, rowAt, rowsAt, lengthsIn, firstRow, count, rowsIn, messagesIn, continues, readInTurn, readPack}
+use Rattle.pack.specs.Pack.{mostPack, rowsFrom, packOf, packLength, messagesOf, packOctets, AllFormed, Packable, Row, rowAt, rowsAt, lengthsIn, firstRow, count, rowsIn, messagesIn, continues, readInTurn, readPack}
 use Rattle.pack.proofs.Turning.{continues-sum}
 use Rattle.pack.proofs.Rules.{length-rowsFrom, length-packOf, length-rowsAt, First, turn-first, Met, met, read-count, lengths-add-up}
 
@@ -135,10 +135,10 @@ module _ (ts : List Tone) (k : Packable ts) where
   pub pack-is-accepted : readPack p ≡ accepted ts
   unfolding readPack
   pack-is-accepted =
-      let a : length p ≤ mostOctets = omega (arith, long, k .size) in
+      let a : length p ≤ mostPack = omega (arith, long, k .size) in
       let b : 4 ≤ length p = omega (arith, long) in
       let c : firstRow p + 4 * count p + 4 ≡ length p = omega (arith, long, first-there, count-there) in
-      rw (le-leb (length p) mostOctets a, le-leb 4 (length p) b, eq-eqb (firstRow p + 4 * count p + 4) (length p) c, rows-continue, messages-there) (turn-written 0 ts (k .each))
+      rw (le-leb (length p) mostPack a, le-leb 4 (length p) b, eq-eqb (firstRow p + 4 * count p + 4) (length p) c, rows-continue, messages-there) (turn-written 0 ts (k .each))
 
 -- ---- what is accepted was written
 

@@ -24,7 +24,7 @@ use Rattle.pack.specs.declared.Judged.the-variants.{Sound, Faulty}
 use Rattle.pack.specs.declared.Reading.the-variants.{Read, Refused}
 use Rattle.pack.specs.declared.Finding.{Finding}
 use Rattle.pack.specs.declared.Finding.the-variants.{Found, Refused as Missing}
-use Rattle.pack.specs.Pack.{mostOctets, Row, rowAt, rowsAt, lengthsIn, firstRow, count, rowsIn, continues, readInTurn, readPack, noRow, nthRow}
+use Rattle.pack.specs.Pack.{mostPack, Row, rowAt, rowsAt, lengthsIn, firstRow, count, rowsIn, continues, readInTurn, readPack, noRow, nthRow}
 use Rattle.pack.specs.Answers.{turnOf, rowsJudged, judgedOf}
 use Rattle.pack.specs.Promises.{readAnswer, readNumbers, ReadPromise, findAnswer, findNumbers, FindPromise, stretchOf, stretchStart, MessagePromise}
 use Rattle.pack.proofs.Rules.{Met, met, read-count}
@@ -55,20 +55,20 @@ pub ruleset in-rows = (rows-apart, rows-continue, rows-judged)
 -- ---- judge
 
 module _ (p : List ℕ) where
-  pub judge-long : mostOctets < length p → Faulty 1 (place 0) ≡ judgedOf p (readPack p)
+  pub judge-long : mostPack < length p → Faulty 1 (place 0) ≡ judgedOf p (readPack p)
   unfolding readPack
-  judge-long h = rw (lt-leb (length p) mostOctets h) refl
+  judge-long h = rw (lt-leb (length p) mostPack h) refl
 
-  module _ (a : length p ≤ mostOctets) where
+  module _ (a : length p ≤ mostPack) where
     pub judge-short : length p < 4 → Faulty 2 (place 0) ≡ judgedOf p (readPack p)
     unfolding readPack
-    judge-short h = rw (le-leb (length p) mostOctets a, lt-leb 4 (length p) h) refl
+    judge-short h = rw (le-leb (length p) mostPack a, lt-leb 4 (length p) h) refl
 
     module _ (b : 4 ≤ length p) {rows n : ℕ} (e : (rows ≡ number p (length p - 2)) × (rows < 65536)) (f : (n ≡ number p (length p - 4)) × (n < 65536)) where
       -- what is left behind the pack's size, by the numbers that the code has
       behind-size : readPack p ≡ demand (eqb (rows + 4 * n + 4) (length p)) 26 (rowsJudged p rows n)
       unfolding readPack
-      behind-size = rw (le-leb (length p) mostOctets a, le-leb 4 (length p) b, e .0, f .0) refl
+      behind-size = rw (le-leb (length p) mostPack a, le-leb 4 (length p) b, e .0, f .0) refl
 
       pub judge-sum : (rows + 4 * n + 4 ≡ length p → ⊥) → Faulty 26 (place 0) ≡ judgedOf p (readPack p)
       judge-sum h = rw (behind-size, ne-eqb (rows + 4 * n + 4) (length p) h) refl

@@ -12,7 +12,7 @@ use mir.Val.{Fits}
 use mir.Syntax.{w32, w64}
 use borrow.Author.Tests.{le-leb, lt-leb, eq-eqb, ne-eqb}
 use Rattle.bits.specs.Lent.{over}
-use Rattle.bits.specs.Outcome.{Outcome, accepted, refused, demand}
+use Rattle.bits.specs.Outcome.{Outcome, accepted, refused, andThen, demand}
 use Rattle.bits.specs.Places.{place, octetCount}
 use Rattle.bits.specs.declared.BitPlace.{BitPlace}
 use Rattle.bits.specs.declared.OctetCount.{OctetCount}
@@ -22,7 +22,7 @@ use Rattle.inside.specs.declared.Inside.the-variants.{Fine, Fault}
 use Rattle.written.specs.declared.Writing.the-variants.{Written, Refused}
 use Rattle.inside.specs.Inside.{pair, sum, cut}
 use Rattle.written.proofs.Unique.{written, unwritten}
-use Rattle.pack.specs.Pack.{mostOctets, rowsFrom, packOf, packLength, readInTurn, writePack}
+use Rattle.pack.specs.Pack.{mostPack, rowsFrom, packOf, packLength, readInTurn, writePack}
 use Rattle.pack.specs.Answers.{turnOf}
 use Rattle.pack.specs.Promises.{WritePromise}
 use Rattle.pack.proofs.Turning.{wider}
@@ -160,22 +160,22 @@ pub ruleset fillings = (filled-octets, filled-rows-room, filled-count-room, fill
 -- ---- write
 
 module _ (octets ns out : List ℕ) where
-  pub write-long : mostOctets < packLength octets ns → WritePromise octets ns out out (Refused 1 (place 0))
+  pub write-long : mostPack < packLength octets ns → WritePromise octets ns out out (Refused 1 (place 0))
   unfolding writePack
-  write-long h = unwritten (writePack octets ns (length out)) out (rw (lt-leb (packLength octets ns) mostOctets h) refl)
+  write-long h = unwritten (writePack octets ns (length out)) out (rw (lt-leb (packLength octets ns) mostPack h) refl)
 
   pub write-octets-long : 65531 < length octets → WritePromise octets ns out out (Refused 1 (place 0))
   write-octets-long h = write-long (omega arith)
 
-  module _ (a : packLength octets ns ≤ mostOctets) {total : ℕ} (s : total ≡ sum ns) where
+  module _ (a : packLength octets ns ≤ mostPack) {total : ℕ} (s : total ≡ sum ns) where
     pub write-apart : (total ≡ length octets → ⊥) → WritePromise octets ns out out (Refused 27 (place 0))
     unfolding writePack
-    write-apart h = unwritten (writePack octets ns (length out)) out (rw (le-leb (packLength octets ns) mostOctets a, ← s, ne-eqb total (length octets) h) refl)
+    write-apart h = unwritten (writePack octets ns (length out)) out (rw (le-leb (packLength octets ns) mostPack a, ← s, ne-eqb total (length octets) h) refl)
 
     module _ (b : total ≡ length octets) {j : Inside} (q : j ≡ turnOf (readInTurn 0 (cut ns octets))) where
       pub write-bad : {n : ℕ} {f : BitPlace} → j ≡ Fault n f → WritePromise octets ns out out (Refused n f)
       unfolding writePack
-      write-bad {n} {f} g = unwritten (writePack octets ns (length out)) out (rw (le-leb (packLength octets ns) mostOctets a, ← s, eq-eqb total (length octets) b, there) refl)
+      write-bad {n} {f} g = unwritten (writePack octets ns (length out)) out (rw (le-leb (packLength octets ns) mostPack a, ← s, eq-eqb total (length octets) b, there) refl)
         where
           there : readInTurn 0 (cut ns octets) ≡ refused n (f .0)
           there = go (readInTurn 0 (cut ns octets)) (sym g ∙ q)
@@ -188,9 +188,9 @@ module _ (octets ns out : List ℕ) where
         -- nothing is left but the room
         write-turns : writePack octets ns (length out) ≡ demand (leb (packLength octets ns) (length out)) 11 (accepted (packOf octets ns))
         unfolding writePack
-        write-turns = rw (le-leb (packLength octets ns) mostOctets a, ← s, eq-eqb total (length octets) b) (go (readInTurn 0 (cut ns octets)) (sym g ∙ q))
+        write-turns = rw (le-leb (packLength octets ns) mostPack a, ← s, eq-eqb total (length octets) b) (go (readInTurn 0 (cut ns octets)) (sym g ∙ q))
           where
-            go : (x : Outcome (List Tone)) → Fine ≡ turnOf x → Rattle.bits.specs.Outcome.andThen x (λ _. demand (leb (packLength octets ns) (length out)) 11 (accepted (packOf octets ns))) ≡ demand (leb (packLength octets ns) (length out)) 11 (accepted (packOf octets ns))
+            go : (x : Outcome (List Tone)) → Fine ≡ turnOf x → andThen x (λ _. demand (leb (packLength octets ns) (length out)) 11 (accepted (packOf octets ns))) ≡ demand (leb (packLength octets ns) (length out)) 11 (accepted (packOf octets ns))
             go (accepted ts) e = refl
             go (refused n f) e = let z : _≡_ {A = ℕ} 0 1 = cc in absurd (omega arith)
 

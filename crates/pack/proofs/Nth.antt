@@ -11,7 +11,7 @@ use Rattle.bits.specs.Outcome.{Outcome, accepted, refused}
 use Rattle.bits.proofs.Choice.{both}
 use Rattle.tone.specs.Tone.{Tone}
 use Rattle.inside.specs.Inside.{sum}
-use Rattle.pack.specs.Pack.{mostOctets, Row, rowAt, rowsAt, lengthsIn, firstRow, count, rowsIn, continues, readPack, noRow, nthRow}
+use Rattle.pack.specs.Pack.{mostPack, Row, rowAt, rowsAt, lengthsIn, firstRow, count, rowsIn, continues, readPack, noRow, nthRow}
 use Rattle.pack.proofs.Turning.{continues-sum}
 use Rattle.pack.proofs.Rules.{length-rowsAt, Met, met, read-count}
 
@@ -92,5 +92,5 @@ module _ (p : List ℕ) (n : ℕ) {r : Row} (e : nthRow p n ≡ accepted r) wher
   pub row-inside : r .start + r .length ≤ length p
   row-inside = let h = nth-ends 0 (rowsIn p) (firstRow p) n (nth-met .rows) nth-among in rw (nth-there p n e .row) (omega (arith, h, nth-met .adds))
 
-  pub row-short : length p ≤ mostOctets
+  pub row-short : length p ≤ mostPack
   row-short = nth-met .most

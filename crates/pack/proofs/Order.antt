@@ -88,6 +88,29 @@ module _ (p : List ℕ) where
       unfolding readPack
       then-messages h = rw (le-leb (length p) 65535 a, le-leb 4 (length p) b, eq-eqb (firstRow p + 4 * count p + 4) (length p) c, h) refl
 
+-- the first bad message's refusal, its place moved by the octets ahead of it, whatever follows it
+pub first-bad-pack : (p : List ℕ) (ms : List (List ℕ)) (m : List ℕ) (rest : List (List ℕ)) {ts : List Tone} {n f : ℕ} → 4 ≤ length p → length p ≤ 65535 → firstRow p + 4 * count p + 4 ≡ length p
+    → continues 0 (rowsIn p) (firstRow p) ≡ true → messagesIn p ≡ ms ++ (m ∷ rest) → readInTurn 0 ms ≡ accepted ts → readTone m ≡ refused n f → readPack p ≡ refused n (8 * length (join ms) + f)
+first-bad-pack p ms m rest {n = n} {f = f} b a c h e x y =
+    let z : 0 + length (join ms) ≡ length (join ms) = omega arith in
+    then-messages p a b c h ∙ ap (readInTurn 0) e ∙ first-bad 0 ms m rest x y ∙ ap (λ (k : ℕ). refused n (8 * k + f)) z
+
+-- a pack is refused on a message's own grounds, 1 and 2 among them, or with 26 or 27
+pub pack-number : (p : List ℕ) {n f : ℕ} → readPack p ≡ refused n f → Among 1 10 n ⊎ ((n ≡ 26) ⊎ (n ≡ 27))
+unfolding readPack
+pack-number p {n} {f} =
+    pick-elim Named (leb (length p) 65535) (λ _.
+    pick-elim Named (leb 4 (length p)) (λ _.
+    pick-elim Named (eqb (firstRow p + 4 * count p + 4) (length p)) (λ _.
+    pick-elim Named (continues 0 (rowsIn p) (firstRow p)) (λ _ e. inl (turn-number 0 (messagesIn p) e))
+    (λ _ e. let z : 27 ≡ n = cc in inr (inr (sym z))))
+    (λ _ e. let z : 26 ≡ n = cc in inr (inl (sym z))))
+    (λ _ e. let z : 2 ≡ n = cc in inl (inl (omega (arith, z), omega (arith, z)))))
+    (λ _ e. let z : 1 ≡ n = cc in inl (inl (omega (arith, z), omega (arith, z))))
+  where
+    Named : Outcome (List Tone) → Type 0
+    Named x = x ≡ refused n f → Among 1 10 n ⊎ ((n ≡ 26) ⊎ (n ≡ 27))
+
 -- ---- writing
 
 module _ (octets ns : List ℕ) (room : ℕ) where

@@ -13,7 +13,7 @@ use Rattle.tone.specs.Tone.{Tone}
 use Rattle.tone.specs.Reading.{readTone}
 use Rattle.inside.specs.Inside.{number, pair, sum, cut, movedBy}
 use Rattle.inside.proofs.Stretches.{length-cut}
-use Rattle.pack.specs.Pack.{mostOctets, rowsFrom, packOf, packLength, Row, rowAt, rowsAt, lengthsIn, firstRow, count, rowsIn, messagesIn, continues, readInTurn, readPack}
+use Rattle.pack.specs.Pack.{mostPack, rowsFrom, packOf, packLength, Row, rowAt, rowsAt, lengthsIn, firstRow, count, rowsIn, messagesIn, continues, readInTurn, readPack}
 use Rattle.pack.proofs.Turning.{continues-sum}
 
 -- ---- lengths
@@ -79,7 +79,7 @@ turn-nth none start (m ∷ ms) {ts} e (suc n) h =
 
 -- what each demand of reading says of it
 pub record Met (p : List ℕ) (ts : List Tone) : Type 0 where
-  pub most : length p ≤ mostOctets
+  pub most : length p ≤ mostPack
   pub least : 4 ≤ length p
   pub adds : firstRow p + 4 * count p + 4 ≡ length p
   pub rows : continues 0 (rowsIn p) (firstRow p) ≡ true
@@ -91,11 +91,11 @@ met p e =
     let w = readInTurn 0 (messagesIn p) in
     let z = demand (continues 0 (rowsIn p) (firstRow p)) 27 w in
     let y = demand (eqb (firstRow p + 4 * count p + 4) (length p)) 26 z in
-    let a = demanded (leb (length p) mostOctets) 1 (demand (leb 4 (length p)) 2 y) e in
+    let a = demanded (leb (length p) mostPack) 1 (demand (leb 4 (length p)) 2 y) e in
     let b = demanded (leb 4 (length p)) 2 y (a .1) in
     let c = demanded (eqb (firstRow p + 4 * count p + 4) (length p)) 26 z (b .1) in
     let d = demanded (continues 0 (rowsIn p) (firstRow p)) 27 w (c .1) in
-    record { most = leb-true (length p) mostOctets (a .0); least = leb-true 4 (length p) (b .0); adds = eqb-true (firstRow p + 4 * count p + 4) (length p) (c .0); rows = d .0; turns = d .1 }
+    record { most = leb-true (length p) mostPack (a .0); least = leb-true 4 (length p) (b .0); adds = eqb-true (firstRow p + 4 * count p + 4) (length p) (c .0); rows = d .0; turns = d .1 }
 
 -- the answer is the count
 pub read-count : (p : List ℕ) {ts : List Tone} → Met p ts → length ts ≡ count p

@@ -5,11 +5,11 @@ use Rattle.tone.specs.Table as table
 use Rattle.tone.specs.Tone as tone
 use Rattle.tone.specs.Reading as reading
 use Rattle.pack.specs.Pack.{packOf, packOctets, continues, readInTurn, readPack, nthRow, writePack}
-use Rattle.pack.specs.Samples.{Samples}
+use Rattle.pack.specs.Samples.{PackSamples}
 
-pub samples : Samples
+pub pack-samples : PackSamples
 unfolding field bitsN table.width table.allowed tone.allowedCharacter reading.element reading.filled reading.whetherUnicode reading.soundPart reading.parts reading.command reading.character reading.text reading.title reading.counted reading.titled reading.typed reading.front reading.headerDue reading.instructionDue reading.bodyDue reading.patternsDue reading.ending reading.rest reading.wholeTone reading.readTone packOf packOctets continues readInTurn readPack nthRow writePack
-samples = record {
+pack-samples = record {
   most = refl;
   empty = refl;
   emptyReads = refl;

@@ -36,6 +36,7 @@ continues-sum at (r ∷ rs) end h = omega (arith, continues-sum (at + r .length)
 pub record Continuing (p : List ℕ) (rows n at row left : ℕ) : Type 0 where
   pub whole : continues 0 (rowsAt n p rows) rows ≡ continues at (rowsAt left p row) rows
   pub inside : row + 4 * left ≤ length p
+  -- a start that was found equal is below 65,536, and `at` is a length more
   pub small : at < 131072
 
 module _ (p : List ℕ) (rows n : ℕ) where

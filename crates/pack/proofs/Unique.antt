@@ -7,7 +7,7 @@ use Rattle.bits.specs.declared.BitPlace.{BitPlace}
 use Rattle.written.specs.declared.Writing.{Writing}
 use Rattle.written.specs.declared.Writing.the-variants.{Refused}
 use Rattle.written.specs.Written.{numbers}
-use Rattle.written.proofs.Unique.{writes-decided, writes-refused}
+use Rattle.written.proofs.Unique.{fills-decided, fills-refused}
 use Rattle.pack.specs.declared.Reading.{Reading}
 use Rattle.pack.specs.declared.Finding.{Finding}
 use Rattle.pack.specs.Promises.{ReadPromise, FindPromise, MessagePromise, WritePromise, numbersOfReading, numbersOfFinding}
@@ -27,8 +27,8 @@ message-decided p q = (p .octets ∙ sym (q .octets), ap₂ (λ (b o : ℕ). (b,
 -- `write`: the answer, its numbers and every octet of the lent buffer
 pub write-decided : (octets ns : List ℕ) {out out₁ out₂ : List ℕ} {r s : Writing} → WritePromise octets ns out out₁ r → WritePromise octets ns out out₂ s
     → (r ≡ s) × (numbers r ≡ numbers s) × (out₁ ≡ out₂)
-write-decided octets ns p q = writes-decided p q
+write-decided octets ns p q = fills-decided p q
 
 -- what `write` refuses leaves the buffer as it was
 pub write-keeps : (octets ns : List ℕ) {out out′ : List ℕ} {n : ℕ} {p : BitPlace} → WritePromise octets ns out out′ (Refused n p) → out′ ≡ out
-write-keeps octets ns h = writes-refused h .1
+write-keeps octets ns h = fills-refused h .1

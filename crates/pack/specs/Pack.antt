@@ -11,8 +11,8 @@ use Rattle.tone.specs.Reading.{readTone}
 use Rattle.inside.specs.Inside.{number, pair, join, lengths, sum, cut, movedBy}
 
 -- the most octets that a pack has
-abbrev pub mostOctets : ℕ
-mostOctets = 65535
+abbrev pub mostPack : ℕ
+mostPack = 65535
 
 -- ---- the writing of a pack
 
@@ -45,7 +45,7 @@ AllFormed (t ∷ ts) = WellFormed t × AllFormed ts
 -- tones that a pack can hold: each is well formed, and the pack is not too long
 pub record Packable (ts : List Tone) : Type 0 where
   pub each : AllFormed ts
-  pub size : packLength (join (messagesOf ts)) (lengths (messagesOf ts)) ≤ mostOctets
+  pub size : packLength (join (messagesOf ts)) (lengths (messagesOf ts)) ≤ mostPack
 
 -- ---- what stands where in a pack
 
@@ -101,7 +101,7 @@ readInTurn start (m ∷ ms) =
 -- reading a pack: 1, 2, 26, 27, then the messages' own
 unfoldable pub readPack : List ℕ → Outcome (List Tone)
 readPack p =
-    demand (leb (length p) mostOctets) 1
+    demand (leb (length p) mostPack) 1
     (demand (leb 4 (length p)) 2
     (demand (eqb (firstRow p + 4 * count p + 4) (length p)) 26
     (demand (continues 0 (rowsIn p) (firstRow p)) 27
@@ -122,7 +122,7 @@ nthRow p n = andThen (readPack p) (λ ts. demand (ltb n (length ts)) 12 (accepte
 -- into so much room: 1, 27, the messages' own, 11
 unfoldable pub writePack : List ℕ → List ℕ → ℕ → Outcome (List ℕ)
 writePack octets ns room =
-    demand (leb (packLength octets ns) mostOctets) 1
+    demand (leb (packLength octets ns) mostPack) 1
     (demand (eqb (sum ns) (length octets)) 27
     (andThen (readInTurn 0 (cut ns octets)) (λ _.
     demand (leb (packLength octets ns) room) 11

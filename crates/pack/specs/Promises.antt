@@ -8,7 +8,7 @@ use Rattle.bits.specs.Outcome.{Outcome, accepted, refused}
 use Rattle.bits.specs.Places.{place, octetCount}
 use Rattle.tone.specs.Tone.{Tone}
 use Rattle.written.specs.declared.Writing.{Writing}
-use Rattle.written.specs.Written.{Writes}
+use Rattle.written.specs.Written.{Fills}
 use Rattle.pack.specs.declared.Reading.{Reading}
 use Rattle.pack.specs.declared.Reading.the-variants.{Read, Refused}
 use Rattle.pack.specs.declared.Finding.{Finding}
@@ -94,4 +94,4 @@ pub record MessagePromise (p : RefT (List ℕ)) (n : ℕ) (r : RefT (List ℕ)) 
 
 -- `write` of messages back to back and a row of lengths into the buffer `out` answers r and leaves out′ in the buffer
 abbrev pub WritePromise : List ℕ → List ℕ → List ℕ → List ℕ → Writing → Type 0
-WritePromise octets ns out out′ r = Writes (writePack octets ns (length out)) out out′ r
+WritePromise octets ns out out′ r = Fills (writePack octets ns (length out)) out out′ r

@@ -4,7 +4,7 @@ use mathlib.Core.Path.{_≡_}
 use mathlib.Core.List.{List, [], _∷_, _++_}
 use lib.ListN.{length, take}
 use Rattle.bits.specs.Outcome.{Outcome, accepted, refused}
-use Rattle.pack.specs.Pack.{mostOctets, packOctets, rowsFrom, readPack, nthRow, writePack}
+use Rattle.pack.specs.Pack.{mostPack, packOctets, rowsFrom, readPack, nthRow, writePack}
 use Rattle.pack.specs.Promises.{readNumbers, findNumbers, stretchOf}
 
 -- P1 and P3 of document 01, of ten and of nine octets
@@ -32,9 +32,9 @@ reads p refusal place messages = readNumbers (readPack p) ≡ record { refusal =
 abbrev pub finds : List ℕ → ℕ → ℕ → ℕ → ℕ → ℕ → Type 0
 finds p n refusal place start octets = findNumbers (nthRow p n) ≡ record { refusal = refusal; place = place; start = start; length = octets }
 
-pub record Samples : Type 0 where
+pub record PackSamples : Type 0 where
   -- the bound, and the empty list: four octets of 0
-  pub most : mostOctets ≡ 65535
+  pub most : mostPack ≡ 65535
   pub empty : packOctets [] ≡ 0 ∷ 0 ∷ 0 ∷ 0 ∷ []
   pub emptyReads : reads (0 ∷ 0 ∷ 0 ∷ 0 ∷ []) 0 0 0
   pub emptyHasNone : finds (0 ∷ 0 ∷ 0 ∷ 0 ∷ []) 0 12 0 0 0

@@ -33,7 +33,7 @@ pub enum Finding {
 }
 
 // A pack that was judged: how many messages it has, and where its rows begin; or the refusal.
-pub enum Judged {
+enum Judged {
     Sound { messages: usize, rows: OctetCount },
     Faulty { number: u32, at: BitPlace },
 }
@@ -192,10 +192,10 @@ pub fn message(pack: &[u8], n: u32) -> &[u8]
 
 // ---- writing
 
-// What lengths add up to.
-fn sum_of(lengths: &[u32]) -> usize
+// What lengths add up to. The bound is loose: a pack that is not too long has at most 16,382 rows, and any below 2^32 would do.
+fn sum_of(lengths: &[u32]) -> OctetCount
     requires { ⌜ length (now lengths) ≤ 65535 ⌝ }
-    ensures { λ r. ⌜ r ≡ sum (now (lengths .entry)) ⌝ }
+    ensures { λ r. ⌜ r .0 ≡ sum (now (lengths .entry)) ⌝ }
 {
     let mut total: usize = 0;
     let mut i: usize = 0;
@@ -203,7 +203,7 @@ fn sum_of(lengths: &[u32]) -> usize
         total += lengths[i] as usize;
         i += 1;
     }
-    total
+    OctetCount(total)
 }
 
 // Judges messages that lie back to back and have these lengths, in turn.
@@ -228,12 +228,12 @@ fn judge_lengths(octets: &[u8], lengths: &[u32]) -> Inside
 }
 
 // Puts a row behind so many octets.
-fn put_row(out: &mut [u8], at: OctetCount, start: usize, n: usize)
-    requires { ⌜ (at .0 + 4 ≤ length (now out)) × (start < 65536) × (n < 65536) ⌝ }
-    ensures { λ _. ⌜ now (out .exit) ≡ sets (now (out .entry)) (at .0) (pair start ++ pair n) ⌝ }
+fn put_row(out: &mut [u8], at: OctetCount, start: OctetCount, n: OctetCount)
+    requires { ⌜ (at .0 + 4 ≤ length (now out)) × (start .0 < 65536) × (n .0 < 65536) ⌝ }
+    ensures { λ _. ⌜ now (out .exit) ≡ sets (now (out .entry)) (at .0) (pair (start .0) ++ pair (n .0)) ⌝ }
 {
-    inside::put_number(out, at, start);
-    inside::put_number(out, OctetCount(at.0 + 2), n);
+    inside::put_number(out, at, start.0);
+    inside::put_number(out, OctetCount(at.0 + 2), n.0);
 }
 
 // Puts a row for each length behind so many octets.
@@ -246,7 +246,7 @@ fn fill_rows(lengths: &[u32], from: OctetCount, out: &mut [u8])
     let mut i: usize = 0;
     while i < lengths.len() {
         let n = lengths[i] as usize;
-        put_row(out, OctetCount(at), start, n);
+        put_row(out, OctetCount(at), OctetCount(start), OctetCount(n));
         start += n;
         at += 4;
         i += 1;
@@ -272,6 +272,7 @@ fn fill(octets: &[u8], lengths: &[u32], out: &mut [u8])
 pub fn write(octets: &[u8], lengths: &[u32], out: &mut [u8]) -> Writing
     ensures { λ r. ⌜ WritePromise (now (octets .entry)) (now (lengths .entry)) (now (out .entry)) (now (out .exit)) r ⌝ }
 {
+    // tested first, so that the sum behind it cannot wrap
     if 65531 < octets.len() {
         return Writing::Refused {
             number: 1,
@@ -285,7 +286,7 @@ pub fn write(octets: &[u8], lengths: &[u32], out: &mut [u8]) -> Writing
             place: BitPlace(0),
         };
     }
-    if sum_of(lengths) != octets.len() {
+    if sum_of(lengths).0 != octets.len() {
         return Writing::Refused {
             number: 27,
             place: BitPlace(0),

@@ -9,13 +9,13 @@ use Rattle.pack_answers.specs.declared.StretchAnswer.{StretchAnswer}
 use Rattle.pack_answers.specs.Promise.{PackReadExport, PackMessageExport, PackWriteExport}
 
 -- `read_pack`: every number
-pub read-pack-decided : {p : List ℕ} {r s : PackAnswer} → PackReadExport p r → PackReadExport p s → r ≡ s
-read-pack-decided p q = p .answer ∙ sym (q .answer)
+pub pack-read-decided : {p : List ℕ} {r s : PackAnswer} → PackReadExport p r → PackReadExport p s → r ≡ s
+pack-read-decided p q = p .answer ∙ sym (q .answer)
 
 -- `find_message`: every number
-pub find-message-decided : {p : List ℕ} {n : ℕ} {r s : StretchAnswer} → PackMessageExport p n r → PackMessageExport p n s → r ≡ s
-find-message-decided p q = p .answer ∙ sym (q .answer)
+pub pack-message-decided : {p : List ℕ} {n : ℕ} {r s : StretchAnswer} → PackMessageExport p n r → PackMessageExport p n s → r ≡ s
+pack-message-decided p q = p .answer ∙ sym (q .answer)
 
 -- `write_pack`: every number and every octet of the buffer
-pub write-pack-decided : (octets ns : List ℕ) {out out₁ out₂ : List ℕ} {r s : WrittenAnswer} → PackWriteExport octets ns out out₁ r → PackWriteExport octets ns out out₂ s → (r ≡ s) × (out₁ ≡ out₂)
-write-pack-decided octets ns p q = numbers-decided p q
+pub pack-write-decided : (octets ns : List ℕ) {out out₁ out₂ : List ℕ} {r s : WrittenAnswer} → PackWriteExport octets ns out out₁ r → PackWriteExport octets ns out out₂ s → (r ≡ s) × (out₁ ≡ out₂)
+pack-write-decided octets ns p q = numbers-decided p q

@@ -4,7 +4,7 @@ use mathlib.Core.Path.{_≡_}
 use mathlib.Core.List.{List}
 use lib.ListN.{length, take, drop}
 use Rattle.written.specs.declared.WrittenAnswer.{WrittenAnswer}
-use Rattle.written.specs.Written.{WritesNumbers}
+use Rattle.written.specs.Written.{FillsNumbers}
 use Rattle.pack.specs.Pack.{readPack, nthRow, writePack}
 use Rattle.pack.specs.Promises.{ReadNumbers, readNumbers, FindNumbers, findNumbers, stretchOf}
 use Rattle.pack_answers.specs.declared.PackAnswer.{PackAnswer}
@@ -29,4 +29,4 @@ pub record PackMessageExport (p : List ℕ) (n : ℕ) (r : StretchAnswer) : Type
 
 -- `write_pack`: every number and every octet of the buffer
 abbrev pub PackWriteExport : List ℕ → List ℕ → List ℕ → List ℕ → WrittenAnswer → Type 0
-PackWriteExport octets ns out out′ r = WritesNumbers (writePack octets ns (length out)) out out′ r
+PackWriteExport octets ns out out′ r = FillsNumbers (writePack octets ns (length out)) out out′ r

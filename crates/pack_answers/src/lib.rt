@@ -31,11 +31,14 @@ pub fn read_pack(pack: &[u8]) -> PackAnswer
             place: place.0,
             messages: 0,
         },
-        Reading::Read { messages } => PackAnswer {
-            refusal: 0,
-            place: 0,
-            messages: messages as usize,
-        },
+        Reading::Read { messages } => {
+            let count = messages as usize;
+            PackAnswer {
+                refusal: 0,
+                place: 0,
+                messages: count,
+            }
+        }
     }
 }
 

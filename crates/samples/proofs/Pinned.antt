@@ -1,6 +1,7 @@
 -- Every sample beside P1 to P12 holds of the rules.
 use Rattle.bitmap.proofs.Samples.{bitmap-samples}
 use Rattle.bitmap_kinds.proofs.Samples.{kind-samples}
+use Rattle.pack.proofs.Samples.{pack-samples}
 use Rattle.list_rules.proofs.Samples as lengths
 use Rattle.samples.specs.Pinned.{Pinned}
 use Rattle.samples.proofs.Message.{messages}
@@ -31,5 +32,6 @@ pinned = record {
   bounds = bounds;
   bitmaps = bitmap-samples;
   kinds = kind-samples;
+  packs = pack-samples;
   texts = texts;
 }

@@ -1,6 +1,7 @@
 -- Samples beside P1 to P12, in the order of document 01, one collection with a single claim: each number, code and bound of the rules by its own figures.
 use Rattle.bitmap.specs.Samples.{BitmapSamples}
 use Rattle.bitmap_kinds.specs.Samples.{KindSamples}
+use Rattle.pack.specs.Samples.{PackSamples}
 use Rattle.list_rules.specs.Samples.{Durations}
 use Rattle.samples.specs.Message.{Messages}
 use Rattle.samples.specs.Table.{Readings, Writings}
@@ -30,4 +31,5 @@ pub record Pinned : Type 0 where
   pub bounds : Bounds
   pub bitmaps : BitmapSamples
   pub kinds : KindSamples
+  pub packs : PackSamples
   pub texts : Texts

@@ -37,7 +37,7 @@ octetsAfter (accepted w) old = over w old
 octetsAfter (refused n p) old = old
 
 -- the answer, its numbers, and every octet lent
-pub record Writes (o : Outcome (List ℕ)) (out out′ : List ℕ) (r : Writing) : Type 0 where
+pub record Fills (o : Outcome (List ℕ)) (out out′ : List ℕ) (r : Writing) : Type 0 where
   pub answer : r ≡ writeAnswer o
   pub said : numbers r ≡ writeNumbers o
   pub leaves : out′ ≡ octetsAfter o out
@@ -49,6 +49,6 @@ abbrev pub answerAs : Numbers → WrittenAnswer
 answerAs n = record { refusal = n .refusal; place = n .place; octets = n .octets }
 
 -- every number, and every octet lent
-pub record WritesNumbers (o : Outcome (List ℕ)) (out out′ : List ℕ) (r : WrittenAnswer) : Type 0 where
+pub record FillsNumbers (o : Outcome (List ℕ)) (out out′ : List ℕ) (r : WrittenAnswer) : Type 0 where
   pub answer : r ≡ answerAs (writeNumbers o)
   pub leaves : out′ ≡ octetsAfter o out

@@ -1,5 +1,6 @@
 -- `pack::continues` meets its contract.
 use borrow.Author.Needs.{needs}
+use native.Mathlib.Omega.{arith}
 use Rattle.pack.proofs.continues.Statement.{statement}
 use Rattle.pack.proofs.continues.Tie as tie
 use Rattle.pack.proofs.Turning.{Continuing, continuing-turn, continuing-not, continuings}
@@ -17,7 +18,7 @@ number-at-requires : tie.Need-number-at-requires Inv-loop μ-loop
 number-at-requires c κs = search (continuings, needs)
 
 returns : tie.Need-returns Inv-loop μ-loop
-returns c = continuing-not (c .before .before .before .before .before .args .pack .now) _ _ (c .before .before .before .loop .inv) (search needs) (search needs) (c .if1 .taken)
+returns c = continuing-not (c .before .before .before .before .before .args .pack .now) _ _ (c .before .before .before .loop .inv) (search needs) {a = c .before .number-at .result} (search needs) (λ e. omega (arith, e, c .if1 .taken))
 
 add-t10 : tie.Need-add-t10 Inv-loop μ-loop
 add-t10 c = search (continuings, needs)

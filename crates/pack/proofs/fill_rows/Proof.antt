@@ -4,7 +4,7 @@ use Rattle.pack.proofs.fill_rows.Statement.{statement}
 use Rattle.pack.proofs.fill_rows.Tie as tie
 use Prim.Native.Nat.{_-_}
 use lib.ListN.{length}
-use Rattle.pack.proofs.Filling.{Rowing, rowings}
+use Rattle.pack.proofs.Filling.{Rowing, rowing-turn, rowings}
 
 abbrev Inv-loop : tie.InvT-loop
 Inv-loop lengths out₀ start₀ at₀ i₀ out start at i = Rowing lengths out₀ at₀ out start at i
@@ -40,7 +40,7 @@ loop-less : tie.Need-loop-less Inv-loop μ-loop
 loop-less c = search (rowings, needs)
 
 loop-again : tie.Need-loop-again Inv-loop μ-loop
-loop-again c = search (rowings, needs)
+loop-again c = rowing-turn _ _ _ (c .before .before .before .before .before .before .loop .inv) (search needs) (search needs)
 
 same-length : tie.Need-same-length Inv-loop μ-loop
 same-length c = search (rowings, needs)

@@ -1,5 +1,6 @@
 -- `pack::judge` meets its contract.
 use borrow.Author.Needs.{needs}
+use native.Mathlib.Omega.{arith}
 use Rattle.pack.proofs.judge.Statement.{statement}
 use Rattle.pack.proofs.judge.Tie as tie
 use Rattle.pack.proofs.Exits.{judge-sum, judgings}
@@ -29,7 +30,7 @@ add-if3-2 : tie.Need-add-if3-2
 add-if3-2 c = search needs
 
 returns-3 : tie.Need-returns-3
-returns-3 c = judge-sum _ (search needs) (search needs) {rows = c .before .before .number-at .result} {n = c .before .number-at2 .result} (search needs) (search needs) (c .if3 .taken)
+returns-3 c = judge-sum _ (search needs) (search needs) {rows = c .before .before .number-at .result} {n = c .before .number-at2 .result} (search needs) (search needs) (λ e. omega (arith, e, c .if3 .taken))
 
 judge-rows-requires : tie.Need-judge-rows-requires
 judge-rows-requires c κs = search needs

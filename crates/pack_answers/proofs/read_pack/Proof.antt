@@ -13,8 +13,8 @@ enum-known-number c = search needs
 enum-known-messages : tie.Need-enum-known-messages
 enum-known-messages c = search needs
 
-cast-t7 : tie.Need-cast-t7
-cast-t7 c = search needs
+cast-count : tie.Need-cast-count
+cast-count c = search needs
 
 returns : tie.Need-returns
 returns c = search (answers, needs)
@@ -25,4 +25,4 @@ returns-2 c = search (answers, needs)
 pub read-pack-spec : {M : Type 1} → statement M
 read-pack-spec =
     tie.close
-    (tie.spec read-requires enum-known-number enum-known-messages cast-t7 returns returns-2)
+    (tie.spec read-requires enum-known-number enum-known-messages cast-count returns returns-2)
