@@ -1,6 +1,6 @@
 // Runs cases of every export and prints what each answers, a line for each call: all fields of the answer in the order in
 // which the header include/ohakelm.h has them, and what was lent. What it must print was worked out from the rules and the
-// header alone, by a program of another language that shares nothing with the library.
+// header alone, by a program of another language that shares nothing with the library; of packs by hand.
 //
 // The cases are lines of standard input, each a letter, a space and words with one space between:
 //
