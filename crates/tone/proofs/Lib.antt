@@ -4,6 +4,7 @@ pub mod Fronts
 pub mod Rows
 pub mod Grounds
 pub mod Demand2
+pub mod Stretch
 pub mod Refusals
 pub mod Tables
 pub mod Positions
