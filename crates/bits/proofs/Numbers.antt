@@ -1,14 +1,14 @@
 -- Bits and the numbers that they spell.
 use Prim.Native.Nat.{ℕ, zero, suc, _+_, _-_, _*_, _/_, _%_, _^_, _≤_, _<_}
 use native.Mathlib.Omega.{arith}
-use native.Mathlib.Nat.{mod-lt, pow-suc, zero-div, zero-mod, one-mul, mod-eq-of-lt}
+use native.Mathlib.Nat.{mod-lt, pow-suc, zero-div, zero-mod, one-mul, mod-eq-of-lt, add-comm, add-mul, mul-right-comm, mul-mod-left, add-zero, add-mul-div-right, add-mul-mod-self-right}
 use native.Mathlib.Numerals.{one-add}
 use mathlib.Core.Path.{_≡_, refl, sym, ap, ap₂, _∙_}
 use mathlib.Core.Bool.{Bool, true, false}
 use mathlib.Core.List.{List, [], _∷_, _++_, append-assoc}
 use lib.ListN.{length, take, drop, replicate, length-append, length-drop, take-append-drop}
 use lib.Seq.{length-take-le, drop-append-le, take-append-le, drop-drop}
-use lib.Pow.{pow-pos, pow-lt, pow-add, high, low, split, shr-lt}
+use lib.Pow.{pow-pos, pow-lt, pow-add, high, low, split, shr-lt, shl-shr, shr-shr, mod-pow-add}
 use lib.Arith.{digits-lt}
 use lib.Bits.{bitAnd, and-mask}
 use lib.Dec.{eqb}
@@ -134,3 +134,38 @@ shl-one k w h = rw (one-mul (2 ^ w)) (mod-eq-of-lt (pow-lt h))
 -- a mask of w bits
 pub mask : (k y w : ℕ) → w < k → (bitAnd y ((1 * 2 ^ w) % 2 ^ k - 1) ≡ y % 2 ^ w) × (bitAnd y ((1 * 2 ^ w) % 2 ^ k - 1) < 2 ^ w)
 mask k y w h = rw (shl-one k w h, and-mask y w) (refl, mod-lt y (pow-pos w))
+
+-- ---- moved up
+
+-- a number that is moved up and down again
+pub moved-down : (x k d : ℕ) → k ≤ d → x * 2 ^ k / 2 ^ d ≡ x / 2 ^ (d - k)
+moved-down x k d h =
+    let e : d ≡ k + (d - k) = omega arith in
+    ap (λ (y : ℕ). x * 2 ^ k / 2 ^ y) e ∙ sym (shr-shr (x * 2 ^ k) k (d - k)) ∙ ap (λ (y : ℕ). y / 2 ^ (d - k)) (shl-shr x k)
+
+-- two numbers of n and of c bits side by side, moved up by k: the upper one takes in the first k bits of the lower
+module _ (n c x y k : ℕ) (h : k ≤ n) (l : k ≤ c) (s : y < 2 ^ c) where
+  -- nothing is carried
+  joined : (x * 2 ^ k + y / 2 ^ (c - k)) % 2 ^ n ≡ x * 2 ^ k % 2 ^ n + y / 2 ^ (c - k)
+  joined =
+      let u = y / 2 ^ (c - k) in
+      let j = n - k in
+      let ec : k + (c - k) ≡ c = omega arith in
+      let en : n ≡ j + k = omega arith in
+      let b : u < 2 ^ k = shr-lt k (c - k) (rw ec s) in
+      let z : x * 2 ^ k % 2 ^ (j + k) ≡ x % 2 ^ j * 2 ^ k = mod-pow-add (x * 2 ^ k) j k ∙ (rw (shl-shr x k, mul-mod-left x (2 ^ k), add-zero (x % 2 ^ j * 2 ^ k))) in
+      rw en (mod-pow-add (x * 2 ^ k + u) j k ∙ (rw (high x k b, low x k b, z)))
+
+  pub joined-lt : x * 2 ^ k % 2 ^ n + y / 2 ^ (c - k) < 2 ^ n
+  joined-lt = rw (← joined) (mod-lt (x * 2 ^ k + y / 2 ^ (c - k)) (pow-pos n))
+
+  -- both
+  pub moved-pair : (x * 2 ^ c + y) * 2 ^ k % 2 ^ (n + c) ≡ (x * 2 ^ k % 2 ^ n + y / 2 ^ (c - k)) * 2 ^ c + y * 2 ^ k % 2 ^ c
+  moved-pair =
+      let e : (x * 2 ^ c + y) * 2 ^ k ≡ y * 2 ^ k + x * 2 ^ k * 2 ^ c = add-mul (x * 2 ^ c) y (2 ^ k) ∙ ap (λ (z : ℕ). z + y * 2 ^ k) (mul-right-comm x (2 ^ c) (2 ^ k)) ∙ add-comm (x * 2 ^ k * 2 ^ c) (y * 2 ^ k) in
+      let q : (y * 2 ^ k + x * 2 ^ k * 2 ^ c) / 2 ^ c ≡ x * 2 ^ k + y / 2 ^ (c - k) = add-mul-div-right (y * 2 ^ k) (x * 2 ^ k) (pow-pos c) ∙ ap (λ (z : ℕ). z + x * 2 ^ k) (moved-down y k c l) ∙ add-comm (y / 2 ^ (c - k)) (x * 2 ^ k) in
+      rw e (mod-pow-add (y * 2 ^ k + x * 2 ^ k * 2 ^ c) n c ∙ (rw (q, joined, add-mul-mod-self-right (y * 2 ^ k) (x * 2 ^ k) (2 ^ c))))
+
+  -- the upper one alone
+  pub moved-top : (x * 2 ^ c + y) * 2 ^ k % 2 ^ (n + c) / 2 ^ c ≡ x * 2 ^ k % 2 ^ n + y / 2 ^ (c - k)
+  moved-top = rw moved-pair (high (x * 2 ^ k % 2 ^ n + y / 2 ^ (c - k)) c (mod-lt (y * 2 ^ k) (pow-pos c)))

@@ -1,9 +1,9 @@
 -- The bits at a place, seen through a few octets at once.
-use Prim.Native.Nat.{ℕ, _+_, _-_, _/_, _%_, _^_, _≤_, _<_}
+use Prim.Native.Nat.{ℕ, _+_, _-_, _*_, _/_, _%_, _^_, _≤_, _<_}
 use mathlib.Core.Path.{_≡_}
 use mathlib.Core.Bool.{Bool}
 use mathlib.Core.List.{List, [], _∷_, _++_}
-use lib.ListN.{length, getD}
+use lib.ListN.{length, getD, drop}
 use lib.Bits.{bitAnd, bitOr}
 use Rattle.bits.specs.Bits.{field}
 
@@ -24,6 +24,12 @@ pub record Look (b : List Bool) (x : ℕ) : Type 0 where
 pub record Sight (n : ℕ) (b : List Bool) (x : ℕ) : Type 0 where
   pub at : (o w : ℕ) → o + w ≤ n → o + w ≤ length b → field b o w ≡ x / 2 ^ (64 - (o + w)) % 2 ^ w
   pub small : x < 2 ^ 64
+
+-- two numbers hold the first 121 of the bits b: what stands behind the first k of them is put together from both
+pub record Sights (b : List Bool) (first second : ℕ) : Type 0 where
+  pub front : Sight 64 b first
+  pub behind : (k : ℕ) → k ≤ 63 → k ≤ length b → Sight 57 (drop k b) (first * 2 ^ k % 2 ^ 64 + second / 2 ^ (64 - k))
+  pub small : second < 2 ^ 64
 
 -- a number of lanes of which `low` has all bits but the highest: with this the highest bit of a lane is set where the lane is not 0
 abbrev pub fills : ℕ → ℕ → ℕ

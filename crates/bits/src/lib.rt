@@ -3,7 +3,7 @@ ghost use mathlib.Core.List.{[], _∷_};
 ghost use Prim.Native.Nat.{_+_, _-_, _*_, _/_, _%_, _^_, _≤_, _<_};
 ghost use lib.ListN.{length, getD, drop};
 ghost use Rattle.bits.specs.Bits.{bitsN, bitsOf, num, field, placeAfter, octetsBefore, octetsTo, fillerTo};
-ghost use Rattle.bits.specs.Window.{four, eight, Look, Sight};
+ghost use Rattle.bits.specs.Window.{four, eight, Look, Sight, Sights};
 ghost use Rattle.bits.specs.Sink.{written, InHand, Stored, Put, Sealed};
 
 // A place in a message: how many bits stand ahead of it.
@@ -132,6 +132,35 @@ pub fn full_sight(s: &[u8], at: BitPlace) -> u64
         return eight;
     }
     (eight << o) + (wide(s[i.0 + 8]) >> (8 - o)) as u64
+}
+
+// The 121 bits at a place, in two numbers: the first 64, and the others on top of the second.
+pub struct TwoSights {
+    pub first: u64,
+    pub second: u64,
+}
+
+// The 121 bits at a place, where sixteen octets are there. It is two loads. The second word is moved down in two shifts, so that none is by 64.
+pub fn two_sights(s: &[u8], at: BitPlace) -> TwoSights
+    requires { ⌜ octetsBefore (at .0) + 16 ≤ length (now s) ⌝ }
+    ensures { λ r. ⌜ Sights (drop (at .0) (bitsOf (now (s .entry)))) (r .first) (r .second) ⌝ }
+{
+    let i = octets_before(at);
+    let o = at.0 % 8;
+    let a = wide_word(s, i);
+    let b = wide_word(s, OctetCount(i.0 + 8));
+    TwoSights {
+        first: (a << o) + ((b >> 1) >> (63 - o)),
+        second: b << o,
+    }
+}
+
+// The 57 bits that stand `k` bits behind the place of two sights, on top of a number.
+pub fn sight_behind(v: TwoSights, k: u32) -> u64
+    requires { ⌜ k ≤ 63 ⌝ }
+    ensures { λ r. ⌜ r ≡ v .first * 2 ^ k % 2 ^ 64 + v .second / 2 ^ (64 - k) ⌝ }
+{
+    (v.first << k) + ((v.second >> 1) >> (63 - k))
 }
 
 // The octet at a place, out of two octets of which the second is there too.
