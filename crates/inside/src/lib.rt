@@ -7,6 +7,7 @@ ghost use Rattle.bits.specs.Bits.{placeAfter};
 ghost use Rattle.tone.specs.Reading.{readTone};
 ghost use Rattle.inside.specs.Inside.{number, pair, movedBy};
 ghost use Rattle.inside.specs.Answers.{insideOf};
+ghost use Rattle.tone_sound.specs.Turning.{Marks};
 use bits::BitPlace;
 use bits::OctetCount;
 use tone_judge::Judged;
@@ -55,13 +56,20 @@ pub fn moved(at: BitPlace, start: OctetCount) -> BitPlace
     BitPlace(bits::place_after(start).0 + at.0)
 }
 
-// Judges the tone message that is a stretch of something larger, from one octet up to another.
-pub fn judge_inside(whole: &[u8], start: OctetCount, end: OctetCount) -> Inside
-    requires { ⌜ (start .0 ≤ end .0) × (end .0 ≤ length (now whole)) × (start .0 ≤ 65535) ⌝ }
+// Judges the tone message that is a stretch of something larger, from one octet up to another. Where it is not surely sound, it is
+// judged by itself, which finds the fault and its place.
+pub fn judge_inside(whole: &[u8], start: OctetCount, end: OctetCount, marks: &[u8; 512]) -> Inside
+    requires { ⌜ Marks (now marks) ⌝ }
+    requires { ⌜ (start .0 ≤ end .0) × (end .0 ≤ length (now whole)) × (length (now whole) ≤ 65535) ⌝ }
     ensures { λ r. ⌜ r ≡ insideOf (movedBy (start .0) (readTone (take (end .0 - start .0) (drop (start .0) (now (whole .entry)))))) ⌝ }
 {
     let from = start.0;
     let to = end.0;
+    if to - from <= 4096 {
+        if tone_sound::sound(whole, start, end, marks) {
+            return Inside::Fine;
+        }
+    }
     match tone_judge::judge(&whole[from..to]) {
         Judged::Sound {
             song: _,

@@ -65,12 +65,13 @@ fn judge_messages(pack: &[u8], rows: OctetCount, n: usize) -> Inside
     requires { ⌜ continuesBy 0 (rowsAt n (now pack) (rows .0)) (rows .0) ≡ true ⌝ }
     ensures { λ r. ⌜ r ≡ turnOf (readInTurn 0 (cut (lengthsIn (rowsAt n (now (pack .entry)) (rows .0))) (now (pack .entry)))) ⌝ }
 {
+    let marks = tone_sound::marks();
     let mut at: usize = 0;
     let mut row = rows.0;
     let mut left = n;
     while 0 < left {
         let end = at + inside::number_at(pack, OctetCount(row + 2));
-        match inside::judge_inside(pack, OctetCount(at), OctetCount(end)) {
+        match inside::judge_inside(pack, OctetCount(at), OctetCount(end), &marks) {
             Inside::Fault { number, at: fault } => {
                 return Inside::Fault { number, at: fault };
             }
@@ -211,11 +212,12 @@ fn judge_lengths(octets: &[u8], lengths: &[u32]) -> Inside
     requires { ⌜ (sum (now lengths) ≡ length (now octets)) × (length (now octets) ≤ 65535) ⌝ }
     ensures { λ r. ⌜ r ≡ turnOf (readInTurn 0 (cut (now (lengths .entry)) (now (octets .entry)))) ⌝ }
 {
+    let marks = tone_sound::marks();
     let mut at: usize = 0;
     let mut i: usize = 0;
     while i < lengths.len() {
         let end = at + lengths[i] as usize;
-        match inside::judge_inside(octets, OctetCount(at), OctetCount(end)) {
+        match inside::judge_inside(octets, OctetCount(at), OctetCount(end), &marks) {
             Inside::Fault { number, at: fault } => {
                 return Inside::Fault { number, at: fault };
             }

@@ -2,6 +2,7 @@
 use Prim.Native.Nat.{ℕ}
 use native.Mathlib.Omega.{arith}
 use mathlib.Core.Path.{_≡_, refl, sym, ap, _∙_}
+use mathlib.Core.Bool.{Bool}
 use mathlib.Core.List.{List}
 use lib.ListN.{length}
 use Rattle.bits.specs.declared.BitPlace.{BitPlace}
@@ -11,8 +12,10 @@ use Rattle.tone_elements.specs.declared.Step.{Step}
 use Rattle.tone_elements.specs.declared.Step.the-variants.{Good, Bad}
 use Rattle.tone_elements.specs.declared.Characters.{Characters}
 use Rattle.tone_elements.specs.declared.Characters.the-variants.{Present, Faulty}
+use Rattle.tone_elements.specs.declared.Opening.the-variants.{Opened, Closed}
+use Rattle.tone.specs.Tone.{Front}
 use Rattle.tone.specs.Reading.{Got, got, bad, onward}
-use Rattle.tone_elements.specs.Answers.{stepAs, stepOf, charactersOf}
+use Rattle.tone_elements.specs.Answers.{stepAs, stepOf, charactersOf, openingOf}
 
 -- a value was read there
 pub step-good : {A : Type 0} (f : A → ℕ) (x : Got A) {v : ℕ} {q : BitPlace} → Good v q ≡ stepAs f x → (a : A) × (x ≡ got a (q .0)) × (v ≡ f a)
@@ -87,3 +90,25 @@ characters-bad (bad n′ p e′) {q} {n} e =
     let e₁ : n ≡ n′ = cc in
     let e₂ : q ≡ place p = cc in
     (e′, rw (e₁, e₂) refl)
+
+-- ---- the front of a message
+
+-- a front that was opened
+pub record FrontThere (x : Got Front) (s : ℕ) (u : Bool) (o c at : ℕ) : Type 0 where
+  pub front : Front
+  pub there : x ≡ got front at
+  pub song : s ≡ front .song
+  pub unicode : u ≡ front .unicode
+  pub octets : o ≡ length (front .title)
+  pub count : c ≡ front .count
+
+pub open-good : (x : Got Front) {s : ℕ} {u : Bool} {o : OctetCount} {c : ℕ} {q : BitPlace} → Opened s q o c u ≡ openingOf x → FrontThere x s u (o .0) c (q .0)
+open-good (got f p) {s} {u} {o} {c} {q} e =
+    let z : q ≡ place p = cc in
+    let y : o ≡ octetCount (length (f .title)) = cc in
+    record { front = f; there = rw z refl; song = cc; unicode = cc; octets = ap (λ (x : OctetCount). x .0) y; count = cc }
+open-good (bad n p e′) e = let z : _≡_ {A = ℕ} 0 1 = cc in absurd (omega arith)
+
+pub open-bad : (x : Got Front) {n : ℕ} {q : BitPlace} → Closed n q ≡ openingOf x → (e : ℕ) × (x ≡ bad n (q .0) e)
+open-bad (got f p) e = let z : _≡_ {A = ℕ} 0 1 = cc in absurd (omega arith)
+open-bad (bad n′ p e′) {n} {q} e = let e₁ : n ≡ n′ = cc in let e₂ : q ≡ place p = cc in (e′, rw (e₁, e₂) refl)

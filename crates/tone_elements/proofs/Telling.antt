@@ -71,7 +71,7 @@ fine-other z g n = go (eqb (z / 128) 3) refl
         (leb-true 1 (z / 128) (b .0), leb-true (z / 128) 5 (b .1), λ y. d (omega (arith, y)))
 
 -- an instruction without a fault is seen as it was told
-told-seen : (at x : ℕ) → faultOn x ≡ 0 → Seen at x (Good (noteOn x) (place (at + bitsOn x)))
+pub told-seen : (at x : ℕ) → faultOn x ≡ 0 → Seen at x (Good (noteOn x) (place (at + bitsOn x)))
 unfolding faultOn noteOn bitsOn
 told-seen at x f = go (eqb (kindOn x) 1) refl
   where

@@ -35,6 +35,7 @@ use Rattle.tone_judge.specs.declared.Total.{Total}
 use Rattle.tone_judge.specs.Wishes.{granted, noWish, noCut, cutOf}
 use Rattle.tone_judge.specs.Answers.{totalAs, plainly, totalOf, tallyAs, wholeOf, judgedFor, judgedOf}
 use Rattle.tone_elements.proofs.Steps.{step-there, step-bad}
+use Rattle.tone_elements.proofs.Steps.{FrontThere, open-good, open-bad}
 use Rattle.tone_elements.proofs.Walks.{stays}
 
 -- ---- what an answer says of the reading behind it
@@ -55,28 +56,6 @@ record PatternsThere (f : List Pattern → Total) (x : Got (List Pattern)) (v : 
 counted-there : (f : List Pattern → Total) (x : Got (List Pattern)) {v : Total} {q : BitPlace} → Counted q v ≡ tallyAs f x → PatternsThere f x v (q .0)
 counted-there f (got ps p) {q = q} e = let z : q ≡ place p = cc in record { patterns = ps; there = rw z refl; total = cc }
 counted-there f (bad n p e′) e = let z : _≡_ {A = ℕ} 0 1 = cc in absurd (omega arith)
-
--- ---- the front
-
--- a front that was opened
-record FrontThere (x : Got Front) (s : ℕ) (u : Bool) (o c at : ℕ) : Type 0 where
-  front : Front
-  there : x ≡ got front at
-  song : s ≡ front .song
-  unicode : u ≡ front .unicode
-  octets : o ≡ length (front .title)
-  count : c ≡ front .count
-
-open-good : (x : Got Front) {s : ℕ} {u : Bool} {o : OctetCount} {c : ℕ} {q : BitPlace} → Opened s q o c u ≡ openingOf x → FrontThere x s u (o .0) c (q .0)
-open-good (got f p) {s} {u} {o} {c} {q} e =
-    let z : q ≡ place p = cc in
-    let y : o ≡ octetCount (length (f .title)) = cc in
-    record { front = f; there = rw z refl; song = cc; unicode = cc; octets = ap (λ (x : OctetCount). x .0) y; count = cc }
-open-good (bad n p e′) e = let z : _≡_ {A = ℕ} 0 1 = cc in absurd (omega arith)
-
-open-bad : (x : Got Front) {n : ℕ} {q : BitPlace} → Closed n q ≡ openingOf x → (e : ℕ) × (x ≡ bad n (q .0) e)
-open-bad (got f p) e = let z : _≡_ {A = ℕ} 0 1 = cc in absurd (omega arith)
-open-bad (bad n′ p e′) {n} {q} e = let e₁ : n ≡ n′ = cc in let e₂ : q ≡ place p = cc in (e′, rw (e₁, e₂) refl)
 
 -- ---- a tone where it stands
 

@@ -4,6 +4,15 @@ use Rattle.inside.proofs.judge_inside.Statement.{statement}
 use Rattle.inside.proofs.judge_inside.Tie as tie
 use Rattle.inside.proofs.Moving.{insides}
 
+sub-if1 : tie.Need-sub-if1
+sub-if1 c = search needs
+
+sound-requires : tie.Need-sound-requires
+sound-requires c κs = search needs
+
+returns : tie.Need-returns
+returns c = search (insides, needs)
+
 sub-judge : tie.Need-sub-judge
 sub-judge c = search needs
 
@@ -25,16 +34,19 @@ enum-known-number c = search needs
 moved-requires : tie.Need-moved-requires
 moved-requires c κs = search (insides, needs)
 
-returns : tie.Need-returns
-returns c = search (insides, needs)
-
 returns-2 : tie.Need-returns-2
 returns-2 c = search (insides, needs)
+
+returns-3 : tie.Need-returns-3
+returns-3 c = search (insides, needs)
 
 pub judge-inside-spec : {M : Type 1} → statement M
 judge-inside-spec =
     tie.close
     (tie.spec
+    sub-if1
+    sound-requires
+    returns
     sub-judge
     part-judge-start
     part-judge-end
@@ -42,5 +54,5 @@ judge-inside-spec =
     enum-told
     enum-known-number
     moved-requires
-    returns
-    returns-2)
+    returns-2
+    returns-3)

@@ -5,12 +5,16 @@ use Rattle.pack.proofs.judge_lengths.Tie as tie
 use Prim.Native.Nat.{_-_}
 use lib.ListN.{length}
 use Rattle.pack.proofs.Turning.{AlongLengths, along-lengths}
+use lib.ListN.{length}
 
 abbrev Inv-loop : tie.InvT-loop
-Inv-loop octets lengths at₀ i₀ at i = AlongLengths octets lengths at i
+Inv-loop octets lengths marks at₀ i₀ at i = AlongLengths octets lengths at i
 
 abbrev μ-loop : tie.MeasureT-loop
-μ-loop octets lengths at₀ i₀ at i = length lengths - i
+μ-loop octets lengths marks at₀ i₀ at i = length lengths - i
+
+marks-requires : tie.Need-marks-requires Inv-loop μ-loop
+marks-requires c κs = search (along-lengths, needs)
 
 loop-holds : tie.Need-loop-holds Inv-loop μ-loop
 loop-holds c = search (along-lengths, needs)
@@ -28,7 +32,7 @@ add-end : tie.Need-add-end Inv-loop μ-loop
 add-end c = search (along-lengths, needs)
 
 judge-inside-requires : tie.Need-judge-inside-requires Inv-loop μ-loop
-judge-inside-requires c κs = search (along-lengths, needs)
+judge-inside-requires c κs = (search needs, search (along-lengths, needs))
 
 enum-known-number : tie.Need-enum-known-number Inv-loop μ-loop
 enum-known-number c = search (along-lengths, needs)
@@ -57,6 +61,7 @@ judge-lengths-spec =
     (tie.spec
     Inv-loop
     μ-loop
+    marks-requires
     loop-holds
     mul-end
     shared-slice-read-end

@@ -5,16 +5,19 @@ use Rattle.pack.proofs.judge_messages.Tie as tie
 use Rattle.pack.proofs.Turning.{AlongRows, along-rows}
 
 abbrev Inv-loop : tie.InvT-loop
-Inv-loop pack n at₀ row₀ left₀ at row left = AlongRows pack row₀ n at row left
+Inv-loop pack n marks at₀ row₀ left₀ at row left = AlongRows pack row₀ n at row left
 
 abbrev μ-loop : tie.MeasureT-loop
-μ-loop pack n at₀ row₀ left₀ at row left = left
+μ-loop pack n marks at₀ row₀ left₀ at row left = left
+
+marks-requires : tie.Need-marks-requires Inv-loop μ-loop
+marks-requires c κs = search (along-rows, needs)
 
 loop-holds : tie.Need-loop-holds Inv-loop μ-loop
 loop-holds c = search (along-rows, needs)
 
-add-t12 : tie.Need-add-t12 Inv-loop μ-loop
-add-t12 c = search (along-rows, needs)
+add-t14 : tie.Need-add-t14 Inv-loop μ-loop
+add-t14 c = search (along-rows, needs)
 
 number-at-requires : tie.Need-number-at-requires Inv-loop μ-loop
 number-at-requires c κs = search (along-rows, needs)
@@ -23,7 +26,7 @@ add-end : tie.Need-add-end Inv-loop μ-loop
 add-end c = search (along-rows, needs)
 
 judge-inside-requires : tie.Need-judge-inside-requires Inv-loop μ-loop
-judge-inside-requires c κs = search (along-rows, needs)
+judge-inside-requires c κs = (search needs, search (along-rows, needs))
 
 enum-known-number : tie.Need-enum-known-number Inv-loop μ-loop
 enum-known-number c = search (along-rows, needs)
@@ -55,8 +58,9 @@ judge-messages-spec =
     (tie.spec
     Inv-loop
     μ-loop
+    marks-requires
     loop-holds
-    add-t12
+    add-t14
     number-at-requires
     add-end
     judge-inside-requires

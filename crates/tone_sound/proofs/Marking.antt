@@ -1,0 +1,102 @@
+-- What one instruction is told by: its mark and its width, shown by tests that are computed.
+use Prim.Native.Nat.{ℕ, _+_, _-_, _*_, _/_, _%_, _^_, _≤_, _<_}
+use native.Mathlib.Omega.{arith}
+use native.Mathlib.Nat.{mod-lt, eq-or-lt-of-le}
+use mathlib.Core.Path.{_≡_, refl, sym, ap, _∙_}
+use mathlib.Core.Bool.{Bool, true, false}
+use mathlib.Core.Logic.{_⊎_, inl, inr}
+use mathlib.Core.List.{List}
+use lib.ListN.{getD}
+use lib.Dec.{leb, eqb, lit<}
+use lib.Bits.{bitOr}
+use mir.Val.{Fits}
+use mir.Syntax.{w64}
+use borrow.Author.Tests.{leb-true, eqb-true}
+use Rattle.bits.specs.Choice.{pick}
+use Rattle.bits.proofs.Choice.{pick-elim}
+use Rattle.bits.proofs.Below.{passes, at-each, same-each}
+use Rattle.tone_tell.specs.Telling.{begins}
+use Rattle.tone_sound.specs.Turning.{turn, clear, Mark, Marks, markOf, markIn, wideIn, widthIn, onward}
+
+-- ---- marks
+
+-- a row that passes the test has the mark of each nine bits
+pub marks-are : {row : List ℕ} → passes (λ z. eqb (getD row z 0) (markOf z)) 512 ≡ true → Marks row
+marks-are {row} h = record { each = same-each (λ z. getD row z 0) markOf 512 h }
+
+mark-either : (b : Bool) → Mark (pick b clear 49)
+mark-either true = (omega arith, omega arith)
+mark-either false = (omega arith, omega arith)
+
+mark-there : (z : ℕ) → Mark (markOf z)
+unfolding markOf
+mark-there z = mark-either (begins (2 * z))
+
+pub mark-in : (y : ℕ) → Mark (markIn y)
+unfolding markIn
+mark-in y = mark-there (turn 3 y % 512)
+
+-- one mark or the other
+which : {v : ℕ} → Mark v → (v ≡ 48) ⊎ (v ≡ 49)
+which {v} m = go (eq-or-lt-of-le (m .1))
+  where
+    go : (v ≡ 49) ⊎ (v < 49) → (v ≡ 48) ⊎ (v ≡ 49)
+    go (inl e) = inr e
+    go (inr l) = inl (omega (arith, m .0, l))
+
+-- marks put together are a mark, which is clear only where both are
+pub marks-together : {a b : ℕ} → Mark a → Mark b → Mark (bitOr a b) × (bitOr a b ≡ clear → (a ≡ clear) × (b ≡ clear))
+marks-together {a} {b} ma mb = go (which ma) (which mb)
+  where
+    go : (a ≡ 48) ⊎ (a ≡ 49) → (b ≡ 48) ⊎ (b ≡ 49) → Mark (bitOr a b) × (bitOr a b ≡ clear → (a ≡ clear) × (b ≡ clear))
+    go (inl e) (inl f) = rw (e, f) ((omega arith, omega arith), λ _. (refl, refl))
+    go (inl e) (inr f) = rw (e, f) ((omega arith, omega arith), λ z. absurd (omega (arith, z)))
+    go (inr e) (inl f) = rw (e, f) ((omega arith, omega arith), λ z. absurd (omega (arith, z)))
+    go (inr e) (inr f) = rw (e, f) ((omega arith, omega arith), λ z. absurd (omega (arith, z)))
+
+-- ---- widths
+
+-- what holds of the packed number for each of the eight kinds
+each-kind : (f : ℕ → Bool) → passes f 8 ≡ true → (y : ℕ) → f (y / 8 % 8) ≡ true
+each-kind f h y = at-each f 8 h (y / 8 % 8) (omega arith)
+
+abbrev packed : ℕ → ℕ
+packed k = 0x3F3F070805050C3F / 2 ^ (8 * k)
+
+pub width-least : (y : ℕ) → 1 ≤ packed (y / 8 % 8) % 64
+width-least y = leb-true 1 (packed (y / 8 % 8) % 64) (each-kind (λ k. leb 1 (packed k % 64)) refl y)
+
+pub wide-most : (y : ℕ) → packed (y / 8 % 8) ≤ 2 ^ 62 - 1
+wide-most y = leb-true (packed (y / 8 % 8)) (2 ^ 62 - 1) (each-kind (λ k. leb (packed k) (2 ^ 62 - 1)) refl y)
+
+pub wide-fits : (y : ℕ) {t : ℕ} → t ≤ 3 * 2 ^ 62 → Fits w64 (t + packed (y / 8 % 8))
+wide-fits y h = record { fits = omega (arith, wide-most y) }
+
+-- its lowest octet is the width
+pub wide-octet : (y : ℕ) → wideIn y % 256 ≡ widthIn y
+unfolding wideIn
+wide-octet y = eqb-true (packed (y / 8 % 8) % 256) (packed (y / 8 % 8) % 64) (each-kind (λ k. eqb (packed k % 256) (packed k % 64)) refl y)
+
+-- ---- what `next` answers
+
+module _ (y : ℕ) (row : List ℕ) (m : Marks row) {r : ℕ} (e : r ≡ turn 3 y) where
+  mark-looked-up : getD row (r % 512) 0 ≡ markIn y
+  unfolding markIn
+  mark-looked-up = m .each (r % 512) (mod-lt r (lit< tt)) ∙ ap (λ (u : ℕ). markOf (u % 512)) e
+
+  pub next-marks : (t : ℕ) → bitOr t (getD row (r % 512) 0) ≡ bitOr t (markIn y)
+  next-marks t = ap (bitOr t) mark-looked-up
+
+  pub next-mark : {t : ℕ} → Mark t → Mark (bitOr t (getD row (r % 512) 0))
+  next-mark {t} h = rw mark-looked-up (marks-together h (mark-in y) .0)
+
+pub next-bits : (y : ℕ) {r : ℕ} → r ≡ turn (packed (y / 8 % 8) % 64) y → r ≡ onward y
+unfolding onward wideIn
+next-bits y e = e
+
+pub next-widths : (y t : ℕ) → t + packed (y / 8 % 8) ≡ t + wideIn y
+unfolding wideIn
+next-widths y t = refl
+
+pub next-most : (y t : ℕ) → t + packed (y / 8 % 8) ≤ t + 2 ^ 62
+next-most y t = omega (arith, wide-most y)

@@ -1,0 +1,38 @@
+-- What the code answers of a tone that it tells.
+use Prim.Native.Nat.{ℕ, _-_, _%_, _≤_}
+use mathlib.Core.Path.{_≡_}
+use mathlib.Core.List.{List}
+use lib.ListN.{length}
+use Rattle.bits.specs.Bits.{bitsOf, placeAfter}
+use Rattle.tone.specs.Tone.{Pattern, Tone, noneKnown}
+use Rattle.tone.specs.Reading.{got, bodyDue, patternsDue, wholeTone}
+use Rattle.tone_sound.specs.declared.Told.{Told}
+use Rattle.tone_sound.specs.Turning.{turn, clear, Mark, widthIn, along, AllClear}
+
+-- n instructions on top of x were told: their bits, and where no mark was met, each is one of the table
+pub record ToldOf (n x : ℕ) (r : Told) : Type 0 where
+  pub widths : r .widths % 256 ≡ along widthIn n (turn 6 x)
+  pub marks : r .marks ≡ clear → AllClear n (turn 6 x)
+  pub mark : Mark (r .marks)
+
+-- n instructions stand from one place up to another
+pub record Past (m : List ℕ) (at n p : ℕ) : Type 0 where
+  pub body : List ℕ
+  pub reads : bodyDue n (bitsOf m) at ≡ got body p
+  pub inside : p ≤ placeAfter (length m)
+
+-- of n instructions all but `left` do
+pub record Gone (m : List ℕ) (at n p left : ℕ) : Type 0 where
+  pub fewer : left ≤ n
+  pub past : Past m at (n - left) p
+
+-- n patterns stand from one place up to another
+pub record PatternsPast (m : List ℕ) (at n p : ℕ) : Type 0 where
+  pub patterns : List Pattern
+  pub reads : patternsDue n noneKnown (bitsOf m) at ≡ got patterns p
+  pub inside : p ≤ placeAfter (length m)
+
+-- a tone stands from one octet up to another
+pub record StandsAt (m : List ℕ) (start end : ℕ) : Type 0 where
+  pub tone : Tone
+  pub reads : wholeTone (bitsOf m) (placeAfter start) ≡ got tone (placeAfter end)

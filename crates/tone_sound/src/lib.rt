@@ -1,0 +1,316 @@
+// Whether a tone is well formed that lies among other octets, told as fast as can be: where it is sure, it says yes, else nothing
+// is said of the tone. The kinds of instructions come in an order that the processor cannot foresee, so none is told by a branch:
+// the bits are turned round, so that the kind of the next one stands where a shift wants it, and faults are looked up.
+ghost use mathlib.Core.Path.{_≡_};
+ghost use mathlib.Core.Bool.{false};
+ghost use Prim.Native.Nat.{_+_, _*_, _/_, _%_, _^_, _≤_, _<_};
+ghost use lib.ListN.{length};
+ghost use lib.Bits.{bitOr};
+ghost use Rattle.bits.specs.Bits.{octetsBefore};
+ghost use Rattle.tone.specs.Tone.{recallable};
+ghost use Rattle.tone_elements.specs.Answers.{Within, Sure};
+ghost use Rattle.tone_sound.specs.Turning.{turn, onward, wideIn, markIn, clear, Mark, Marks};
+ghost use Rattle.tone_sound.specs.Answers.{ToldOf, Past, Gone, PatternsPast, StandsAt};
+use bits::BitPlace;
+use bits::OctetCount;
+use tone_elements::Opening;
+use tone_elements::Step;
+
+// ---- instructions
+
+// Instructions that were told: the bits, turned so that the next one's kind is in place; widths, added up in the lowest octet; and
+// the marks that were met, put together.
+struct Told {
+    bits: u64,
+    widths: u64,
+    marks: u8,
+}
+
+// A mark for each nine bits, by an id a line and the six bits behind it: 0 where they begin an instruction of the table, else 1.
+// The last bit of a duration decides nothing.
+const MARKS: [u8; 512] = *b"1111111111111111111111111111111111111111111111111111111111111111\
+    0001000100010001000100010001000100010001000100010001111111111111\
+    0000000000000000000000000000000000000000000000000000000000000000\
+    0000000000000000000000000000000000000000000000001111111111111111\
+    0000000000000000000000000000000000000000000000000000000000000000\
+    0000000000000000000000000000000000000000000000000000000000000000\
+    1111111111111111111111111111111111111111111111111111111111111111\
+    1111111111111111111111111111111111111111111111111111111111111111";
+
+// The marks, for a caller who tells many: an array is laid out anew at each use.
+pub fn marks() -> [u8; 512]
+    ensures { λ r. ⌜ Marks r ⌝ }
+{
+    MARKS
+}
+
+// The bits turned to the left: those that leave on top come in below.
+fn turned(x: u64, n: u32) -> u64
+    requires { ⌜ (1 ≤ n) × (n ≤ 63) ⌝ }
+    ensures { λ r. ⌜ r ≡ turn n x ⌝ }
+{
+    (x << n) + (x >> (64 - n))
+}
+
+// Tells one instruction more. Of the packed number only the lowest octet is its width, and of a sum of few the lowest octet is the
+// sum of theirs.
+fn next(t: Told, marks: &[u8; 512]) -> Told
+    requires { ⌜ Marks (now marks) ⌝ }
+    requires { ⌜ (t .widths ≤ 3 * 2 ^ 62) × Mark (t .marks) ⌝ }
+    ensures { λ r. ⌜ (r .bits ≡ onward (t .bits)) × (r .widths ≡ t .widths + wideIn (t .bits)) × (r .marks ≡ bitOr (t .marks) (markIn (t .bits))) ⌝ }
+    ensures { λ r. ⌜ (r .widths ≤ t .widths + 2 ^ 62) × Mark (r .marks) ⌝ }
+{
+    let y = t.bits;
+    let w = 0x3F3F_0708_0505_0C3Fu64 >> (8 * (y / 8 % 8));
+    let z = (turned(y, 3) % 512) as usize;
+    Told {
+        bits: turned(y, (w % 64) as u32),
+        widths: t.widths + w,
+        marks: t.marks | marks[z],
+    }
+}
+
+// Nothing is told yet of a sight.
+fn begin(x: u64) -> Told
+    ensures { λ r. ⌜ (r .bits ≡ turn 6 x) × (r .widths ≡ 0) × (r .marks ≡ clear) ⌝ }
+{
+    Told {
+        bits: turned(x, 6),
+        widths: 0,
+        marks: b'0',
+    }
+}
+
+// Tells the four instructions on top of a sight.
+fn four(x: u64, marks: &[u8; 512]) -> Told
+    requires { ⌜ Marks (now marks) ⌝ }
+    ensures { λ r. ⌜ ToldOf 4 x r ⌝ }
+{
+    next(next(next(next(begin(x), marks), marks), marks), marks)
+}
+
+// Tells the first `n` of them.
+fn few(x: u64, n: u32, marks: &[u8; 512]) -> Told
+    requires { ⌜ Marks (now marks) ⌝ }
+    requires { ⌜ n ≤ 4 ⌝ }
+    ensures { λ r. ⌜ ToldOf n x r ⌝ }
+{
+    let mut told = begin(x);
+    let mut left = n;
+    while 0 < left {
+        told = next(told, marks);
+        left -= 1;
+    }
+    told
+}
+
+// ---- a body
+
+// What instructions take up: their bits, and whether each is surely one of the table.
+struct Span {
+    bits: usize,
+    sure: bool,
+}
+
+// The eight instructions at a place where sixteen octets are there: the second four need no load of their own.
+fn eight(whole: &[u8], at: BitPlace, marks: &[u8; 512]) -> Span
+    requires { ⌜ Marks (now marks) ⌝ }
+    requires { ⌜ octetsBefore (at .0) + 16 ≤ length (now whole) ⌝ }
+    ensures { λ r. ⌜ Sure (r .sure) (Past (now (whole .entry)) (at .0) 8 (at .0 + r .bits)) × (r .bits ≤ 510) ⌝ }
+{
+    let seen = bits::two_sights(whole, at);
+    let one = four(seen.first, marks);
+    let two = four(bits::sight_behind(seen, (one.widths % 64) as u32), marks);
+    Span {
+        bits: (one.widths % 256 + two.widths % 256) as usize,
+        sure: (one.marks | two.marks) == b'0',
+    }
+}
+
+// The `n` instructions at a place. They are sure where the end octet's bits are left behind them, for then the bits that were
+// looked at are there.
+fn some(whole: &[u8], at: BitPlace, n: u32, marks: &[u8; 512]) -> Span
+    requires { ⌜ Marks (now marks) ⌝ }
+    requires { ⌜ Within (now whole) (at .0) ⌝ }
+    requires { ⌜ n ≤ 4 ⌝ }
+    ensures { λ r. ⌜ Sure (r .sure) (Past (now (whole .entry)) (at .0) n (at .0 + r .bits)) × (r .bits ≤ 255) ⌝ }
+{
+    let told = few(bits::sight(whole, at), n, marks);
+    let taken = (told.widths % 256) as usize;
+    if bits::place_after(OctetCount(whole.len())).0 - at.0 < taken + 8 {
+        return Span {
+            bits: taken,
+            sure: false,
+        };
+    }
+    Span {
+        bits: taken,
+        sure: told.marks == b'0',
+    }
+}
+
+// Where one has come to among instructions: the place, how many are left, and whether all up to there are surely of the table.
+struct Way {
+    at: BitPlace,
+    left: u32,
+    sure: bool,
+}
+
+// Nothing is sure.
+fn lost(at: BitPlace) -> Way
+    ensures { λ r. ⌜ r .sure ≡ false ⌝ }
+{
+    Way {
+        at,
+        left: 0,
+        sure: false,
+    }
+}
+
+// Goes over `n` instructions by eights, as far as there are as many.
+fn by_eights(whole: &[u8], at: BitPlace, n: u32, marks: &[u8; 512]) -> Way
+    requires { ⌜ Marks (now marks) ⌝ }
+    requires { ⌜ Within (now whole) (at .0) ⌝ }
+    requires { ⌜ n ≤ 255 ⌝ }
+    ensures { λ r. ⌜ Sure (r .sure) (Gone (now (whole .entry)) (at .0) n (r .at .0) (r .left)) ⌝ }
+{
+    let mut place = at;
+    let mut left = n;
+    while 8 <= left {
+        if whole.len() - bits::octets_before(place).0 < 16 {
+            return Way {
+                at: place,
+                left,
+                sure: true,
+            };
+        }
+        let span = eight(whole, place, marks);
+        if !span.sure {
+            return lost(place);
+        }
+        place = BitPlace(place.0 + span.bits);
+        left -= 8;
+    }
+    Way {
+        at: place,
+        left,
+        sure: true,
+    }
+}
+
+// Goes over the rest of them, up to four at a time.
+fn by_fours(whole: &[u8], at: BitPlace, n: u32, marks: &[u8; 512]) -> Way
+    requires { ⌜ Marks (now marks) ⌝ }
+    requires { ⌜ Within (now whole) (at .0) ⌝ }
+    requires { ⌜ n ≤ 255 ⌝ }
+    ensures { λ r. ⌜ Sure (r .sure) (Past (now (whole .entry)) (at .0) n (r .at .0)) ⌝ }
+{
+    let mut place = at;
+    let mut left = n;
+    while 0 < left {
+        let k = tone_elements::turn(left);
+        let span = some(whole, place, k, marks);
+        if !span.sure {
+            return lost(place);
+        }
+        place = BitPlace(place.0 + span.bits);
+        left -= k;
+    }
+    Way {
+        at: place,
+        left,
+        sure: true,
+    }
+}
+
+// Goes over all of them.
+fn body(whole: &[u8], at: BitPlace, n: u32, marks: &[u8; 512]) -> Way
+    requires { ⌜ Marks (now marks) ⌝ }
+    requires { ⌜ Within (now whole) (at .0) ⌝ }
+    requires { ⌜ n ≤ 255 ⌝ }
+    ensures { λ r. ⌜ Sure (r .sure) (Past (now (whole .entry)) (at .0) n (r .at .0)) ⌝ }
+{
+    let way = by_eights(whole, at, n, marks);
+    if !way.sure {
+        return way;
+    }
+    by_fours(whole, way.at, way.left, marks)
+}
+
+// ---- the tone
+
+// Does a header recall nothing, or what is known?
+fn may_stand(known: [bool; 4], cell: u32) -> bool
+    ensures { λ r. ⌜ r ≡ recallable known cell ⌝ }
+{
+    if cell % 256 == 0 {
+        let id = (cell / 4096 % 4) as usize;
+        return known[id];
+    }
+    true
+}
+
+// Goes over the `n` patterns at a place.
+fn patterns(whole: &[u8], at: BitPlace, n: u32, marks: &[u8; 512]) -> Way
+    requires { ⌜ Marks (now marks) ⌝ }
+    requires { ⌜ Within (now whole) (at .0) ⌝ }
+    ensures { λ r. ⌜ Sure (r .sure) (PatternsPast (now (whole .entry)) (at .0) n (r .at .0)) ⌝ }
+{
+    let mut known = [false; 4];
+    let mut place = at;
+    let mut left = n;
+    while 0 < left {
+        match tone_elements::header(whole, place) {
+            Step::Bad { number: _, at: _ } => {
+                return lost(place);
+            }
+            Step::Good { value, next } => {
+                if !may_stand(known, value) {
+                    return lost(place);
+                }
+                let way = body(whole, next, value % 256, marks);
+                if !way.sure {
+                    return lost(place);
+                }
+                known[(value / 4096 % 4) as usize] = true;
+                place = way.at;
+                left -= 1;
+            }
+        }
+    }
+    Way {
+        at: place,
+        left,
+        sure: true,
+    }
+}
+
+// Does a tone stand between two octets, and nothing else? Where it is not sure of that, it says no.
+pub fn sound(whole: &[u8], start: OctetCount, end: OctetCount, marks: &[u8; 512]) -> bool
+    requires { ⌜ Marks (now marks) ⌝ }
+    requires { ⌜ (start .0 ≤ end .0) × (end .0 ≤ length (now whole)) × (length (now whole) < 2 ^ 60) ⌝ }
+    ensures { λ r. ⌜ Sure r (StandsAt (now (whole .entry)) (start .0) (end .0)) ⌝ }
+{
+    match tone_elements::open(whole, bits::place_after(start)) {
+        Opening::Closed { number: _, at: _ } => false,
+        Opening::Opened {
+            song: _,
+            next,
+            octets: _,
+            count,
+            unicode: _,
+        } => {
+            let way = patterns(whole, next, count, marks);
+            if !way.sure {
+                return false;
+            }
+            match tone_elements::ending(whole, way.at) {
+                Step::Bad { number: _, at: _ } => false,
+                Step::Good {
+                    value: _,
+                    next: reached,
+                } => reached.0 == bits::place_after(end).0,
+            }
+        }
+    }
+}
