@@ -18,6 +18,20 @@ pub fn width(window: u64) -> usize {
     (WIDTHS >> ((window >> 58) & 0x38)) as usize & 63
 }
 
+/// How far left a window is turned for `width_of_turned`. Its first id is then at the
+/// head of the six lowest bits, where it is worth eight times its number.
+pub const TURN: u32 = 6;
+
+/// Bits of the element at the front of a window that was turned. There is a step less
+/// to wait for than in `width`.
+///
+/// They are the lowest octet alone. What is above it may stay in a sum of widths until
+/// all are added: up to eight of them are less than 256 together.
+#[inline(always)]
+pub fn width_of_turned(turned: u64) -> u64 {
+    WIDTHS >> (turned & 0x38)
+}
+
 /// Marks in `CLASSES` what is no instruction. Four marks together stay larger
 /// than four notes.
 pub const NO_INSTRUCTION: u8 = 128;

@@ -19,9 +19,9 @@ pub fn pack_read(pack: &[u8]) -> Pack {
     read_answer(judge(pack, judge_within))
 }
 
-/// The same with a branch for the kind of each instruction, as tones are judged. It
-/// pays where the processor foresees them: in tones of notes alone, and in a small pack
-/// that is read again and again. So the benchmark shows it beside the other.
+/// The same with a branch for the kind of each instruction, as tones are judged. What
+/// it takes depends on how many of the branches the processor foresees. So the
+/// benchmark shows it beside the other.
 pub fn pack_read_by_branches(pack: &[u8]) -> Pack {
     read_answer(judge(pack, judge_alone_within))
 }

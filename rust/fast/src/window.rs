@@ -12,6 +12,13 @@ pub fn window(octets: &[u8], place: usize) -> u64 {
     word << (place % 8)
 }
 
+/// The same with all 64 bits.
+#[inline(always)]
+pub fn full_window(octets: &[u8], place: usize) -> u64 {
+    // The bits that the first may lack are among those of the second.
+    window(octets, place) | window(octets, place + 8) >> 8
+}
+
 /// Eight octets as a number. A shorter slice gives 0; none is passed.
 #[inline(always)]
 fn word_of(eight: &[u8]) -> u64 {
@@ -22,7 +29,7 @@ fn word_of(eight: &[u8]) -> u64 {
 }
 
 /// The octets from `first` on, fewer than eight, with zeros after them.
-#[inline(never)]
+#[cold]
 fn window_near_end(octets: &[u8], first: usize) -> u64 {
     if first >= octets.len() {
         return 0;
@@ -41,21 +48,6 @@ fn word_at(octets: &[u8], place: usize) -> Option<u64> {
     let ninth = ninth.first().map_or(0, |&octet| octet as u64);
     let shift = place % 8;
     Some(word_of(eight) << shift | ninth >> (8 - shift))
-}
-
-/// The bits from a place on in two words, of the second one at least 57. Past the end
-/// there are zeros.
-#[inline(always)]
-pub fn words(octets: &[u8], place: usize) -> (u64, u64) {
-    let (one, two) = match octets.get(place / 8..place / 8 + 16) {
-        Some(sixteen) => (word_of(&sixteen[..8]), word_of(&sixteen[8..])),
-        None => (
-            window(octets, place / 8 * 8),
-            window(octets, place / 8 * 8 + 64),
-        ),
-    };
-    let shift = place % 8;
-    (one << shift | two >> 1 >> (63 - shift), two << shift)
 }
 
 /// Overwrites `width` bits, 1 to 17, at a place.

@@ -5,10 +5,10 @@
 //! the notes. So the width of each instruction is looked up. What is read behind the
 //! end of the message does no harm: places only grow, and the last one must be right.
 
-use crate::codes::{class, width, BASIC, LARGEST_TONE, NO_INSTRUCTION, TEMPORARY};
+use crate::codes::{class, width_of_turned, BASIC, LARGEST_TONE, NO_INSTRUCTION, TEMPORARY, TURN};
 use crate::judge::{header, Header, PLAIN_FRONT, UNICODE_FRONT};
 use crate::title;
-use crate::window::{window, words};
+use crate::window::{full_window, window};
 
 /// A part of one instruction of five bits. Ahead of the patterns are 34.
 const SMALLEST_TONE: usize = 8;
@@ -66,33 +66,42 @@ fn title_passed(octets: &[u8], start: usize) -> Option<usize> {
 }
 
 /// The place behind a body, and the classes of its instructions in one number.
+///
+/// A window is turned on by each instruction, so the bits of four come round to its
+/// end. There they become the bits that follow the window, and 64 are in order again.
+/// To read a new window would take longer, for it begins where the four end.
 #[inline(always)]
 fn body_passed(octets: &[u8], mut place: usize, count: usize) -> (usize, u8) {
     let mut classes = 0;
-    for _ in 0..count / 8 {
-        let (one, two) = words(octets, place);
-        let four = passed(one, 4, &mut classes);
-        // The next four, from both words. With what is no instruction among the four
-        // the shifts may be too wide, and then it does not matter what they give.
-        let behind = one << (four & 63) | two >> (four.wrapping_neg() & 63);
-        place += four + passed(behind, 4, &mut classes);
+    let mut turned = full_window(octets, place).rotate_left(TURN);
+    let (mut used, mut change) = (0u64, 0);
+    for _ in 0..count / 4 {
+        // The next id does not change, so its width is looked up meanwhile. With what
+        // is no instruction among the four the shift may be wrong. Then it does not
+        // matter what it gives.
+        turned ^= change >> (used.wrapping_neg() & 63) << TURN;
+        // Changes the bits of this window into those that follow. Four instructions
+        // have 48 bits at most.
+        change = turned.rotate_right(TURN) ^ window(octets, place + 64);
+        used = passed(&mut turned, 4, &mut classes);
+        place += (used & 0xFF) as usize;
     }
-    for _ in 0..count % 8 / 4 {
-        place += passed(window(octets, place), 4, &mut classes);
-    }
-    place += passed(window(octets, place), count % 4, &mut classes);
-    (place, classes)
+    let mut rest = window(octets, place).rotate_left(TURN);
+    used = passed(&mut rest, count % 4, &mut classes);
+    (place + (used & 0xFF) as usize, classes)
 }
 
-/// The width of up to four instructions at the front of a window.
+/// Turns a window on by up to four instructions. Answers their width, which is the
+/// lowest octet. No bit is looked at that came round: of four the last one begins at
+/// bit 36 at most, and its class takes ten bits.
 #[inline(always)]
-fn passed(mut window: u64, count: usize, classes: &mut u8) -> usize {
-    let mut used = 0;
+fn passed(turned: &mut u64, count: usize, classes: &mut u8) -> u64 {
+    let mut used = 0u64;
     for _ in 0..count {
-        *classes |= class(window);
-        let width = width(window);
-        used += width;
-        window <<= width;
+        *classes |= class(turned.rotate_right(TURN));
+        let width = width_of_turned(*turned);
+        used = used.wrapping_add(width);
+        *turned = turned.rotate_left(width as u32 & 63);
     }
     used
 }
