@@ -115,8 +115,8 @@ extern "C" {
  * refusal or a rule is new or another; CHANGELOG.md says what a caller must
  * change then. The third is raised where none is. A header goes with an archive
  * of the same first two numbers. */
-#define OHAKELM_VERSION_STRING "0.9.0"
-#define OHAKELM_VERSION 900 /* first * 10000 + second * 100 + third */
+#define OHAKELM_VERSION_STRING "0.9.1"
+#define OHAKELM_VERSION 901 /* first * 10000 + second * 100 + third */
 
 /* Answers the OHAKELM_VERSION of the archive that is linked. */
 uint32_t ohakelm_version(void);
@@ -208,9 +208,10 @@ static inline const char *ohakelm_words(uint32_t refusal)
  * then says that one has more. */
 
 /* How many octets of stack a call needs at most, those of memmove and memset not
- * counted: the edits; reading, writing and listing a tone, and the calls of
- * packs; all others. */
+ * counted: the edits; the calls of packs; reading, writing and listing a tone;
+ * all others. */
 #define OHAKELM_STACK_EDITS 6144
+#define OHAKELM_STACK_PACKS 2048
 #define OHAKELM_STACK_TONES 1024
 #define OHAKELM_STACK_OTHERS 512
 

@@ -185,7 +185,7 @@ fn said_by_header(call: &str) -> usize {
     let group = match call {
         "replace" | "insert" | "delete" => "EDITS",
         "read" | "write" | "list" | "rows" => "TONES",
-        "pack_read" | "pack_message" | "pack_write" => "TONES",
+        "pack_read" | "pack_message" | "pack_write" => "PACKS",
         _ => "OTHERS",
     };
     let header = text("include/ohakelm.h");

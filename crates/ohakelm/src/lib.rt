@@ -68,12 +68,12 @@ pub struct EditAnswer {
 
 // ---- the version
 
-// The version of the library, 0.9.0.
+// The version of the library, 0.9.1.
 #[no_mangle]
 pub extern "C" fn ohakelm_version() -> u32
     ensures { λ r. ⌜ VersionExport r ⌝ }
 {
-    900
+    901
 }
 
 // ---- tones
