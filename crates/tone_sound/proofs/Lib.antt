@@ -4,4 +4,5 @@ pub mod Running
 pub mod Walking
 pub mod Bodies
 pub mod Rows
+pub mod Fronting
 pub mod Standing

@@ -1,62 +1,60 @@
 -- A tone that was gone over from its front to its end stands there.
-use Prim.Native.Nat.{ℕ, _*_, _^_, _≤_, _<_}
+use Prim.Native.Nat.{ℕ, _+_, _^_, _≤_, _<_}
 use native.Mathlib.Omega.{arith}
-use mathlib.Core.Path.{_≡_, refl, sym, ap, subst, _∙_}
+use mathlib.Core.Path.{_≡_, refl, subst}
 use mathlib.Core.Bool.{Bool, false, not}
 use mathlib.Core.List.{List}
-use lib.ListN.{length}
+use lib.ListN.{length, drop}
 use lib.Dec.{eqb}
 use borrow.Author.Tests.{eqb-true}
-use Rattle.bits.specs.Bits.{bitsOf, placeAfter}
-use Rattle.bits.specs.declared.BitPlace.{BitPlace}
-use Rattle.bits.specs.declared.OctetCount.{OctetCount}
-use Rattle.tone.specs.Tone.{Front, Tone}
-use Rattle.tone.specs.Reading.{got, front, ending, rest, wholeTone}
-use Rattle.tone.proofs.Fronts.{front-exact}
-use Rattle.tone_elements.specs.declared.Step.{Step}
-use Rattle.tone_elements.specs.declared.Step.the-variants.{Good}
-use Rattle.tone_elements.specs.declared.Opening.{Opening}
-use Rattle.tone_elements.specs.declared.Opening.the-variants.{Opened}
-use Rattle.tone_elements.specs.Answers.{Within, Sure, stepOf, openingOf}
-use Rattle.tone_elements.proofs.Steps.{step-there, FrontThere, open-good}
-use Rattle.tone_elements.proofs.Walks.{stays}
-use Rattle.tone_sound.specs.Answers.{PatternsPast, StandsAt}
+use Rattle.bits.specs.Bits.{bitsOf, placeAfter, octetsTo, fillerTo}
+use Rattle.bits.specs.Places.{place}
+use Rattle.bits.specs.Window.{Sight}
+use Rattle.tone.specs.Tone.{Tone}
+use Rattle.tone.specs.Reading.{got, ending, rest, wholeTone}
+use Rattle.tone_elements.specs.Answers.{Within, Sure}
+use Rattle.tone_elements.proofs.Steps.{step-there}
+use Rattle.tone_elements.proofs.Openings.{ending-told}
+use Rattle.tone_sound.specs.Answers.{PatternsPast, FrontAt, Starts, EndAt, StandsAt}
 use Rattle.tone_sound.proofs.Bodies.{unsure, was-sure}
 
--- an octet of what is not too long is a place within it
-pub begins-within : (m : List ℕ) {start end at : ℕ} → at ≡ placeAfter start → start ≤ end → end ≤ length m → length m < 2 ^ 60 → Within m at
-begins-within m e h k l = record { inside = omega (arith, e); counted = l }
+-- zeros through the last octet
+pub ends-told : (m : List ℕ) (at end : ℕ) {x y : ℕ} → y ≡ octetsTo at → y + 1 ≡ end → end ≤ length m → Sight (fillerTo at + 8) (drop at (bitsOf m)) x → Sure (eqb x 0) (EndAt m at end)
+ends-told m at end {x} {y} ey e h s = record {
+  so = λ t. record { value = 0; reads = step-there (ending (bitsOf m) at) (ending-told m at ey (omega arith) s (eqb-true x 0 t) {p = place (placeAfter end)} (omega arith)) };
+}
 
-module _ (m : List ℕ) (at : ℕ) {o : Opening} {song : ℕ} {unicode : Bool} {octets : OctetCount} {count : ℕ} {f : BitPlace}
-    (e : o ≡ openingOf (front (bitsOf m) at)) (g : o ≡ Opened song f octets count unicode) where
-  opened : FrontThere (front (bitsOf m) at) song unicode (octets .0) count (f .0)
-  opened = open-good (front (bitsOf m) at) (sym g ∙ e)
+module _ (m : List ℕ) (at : ℕ) {p n : ℕ} (f : Starts m at p n) (some : n ≡ 0 → ⊥) where
+  -- where patterns are due, a front was read
+  opened : FrontAt m at p n
+  opened = f .so (omega arith)
 
-  pub opened-within : {start end : ℕ} → at ≡ placeAfter start → start ≤ end → end ≤ length m → length m < 2 ^ 60 → Within m (f .0)
-  opened-within a h k l = record { inside = stays front-exact m at (omega (arith, a)) (opened .there); counted = l }
+  -- they begin within the octets
+  pub opened-within : length m < 2 ^ 60 → Within m p
+  opened-within l = record { inside = opened .inside; counted = l }
 
-  module _ {b : Bool} {q : ℕ} (s : Sure b (PatternsPast m (f .0) count q)) (sure : not b ≡ false) where
-    past : PatternsPast m (f .0) count q
+  module _ {b : Bool} {q : ℕ} (s : Sure b (PatternsPast m p n q)) (sure : not b ≡ false) where
+    -- where it is sure of the patterns, they were read
+    past : PatternsPast m p n q
     past = s .so (was-sure b sure)
 
+    -- they end within the octets
     pub patterns-within : length m < 2 ^ 60 → Within m q
     patterns-within l = record { inside = past .inside; counted = l }
 
+    -- the tone that was read
     abbrev tone : Tone
     tone = record { song = opened .front .song; unicode = opened .front .unicode; title = opened .front .title; patterns = past .patterns }
 
     -- front, patterns and end in a row
     all-read : {v z : ℕ} → ending (bitsOf m) q ≡ got v z → wholeTone (bitsOf m) at ≡ got tone z
     unfolding wholeTone rest
-    all-read d = rw (opened .there, ← opened .count, past .reads, d) refl
+    all-read d = rw (opened .reads, opened .count, past .reads, d) refl
 
-    pub stands : (start end : ℕ) {step : Step} {v : ℕ} {reached : BitPlace} {last : ℕ} → at ≡ placeAfter start → step ≡ stepOf (ending (bitsOf m) q) → step ≡ Good v reached → last ≡ placeAfter end
-        → Sure (eqb (reached .0) last) (StandsAt m start end)
-    stands start end {step} {v} {reached} {last} a x y z = record {
-      so = λ h.
-          let d = step-there (ending (bitsOf m) q) (sym y ∙ x) in
-          let r : reached .0 ≡ placeAfter end = eqb-true (reached .0) last h ∙ z in
-          record { tone = tone; reads = subst (λ (n : ℕ). wholeTone (bitsOf m) n ≡ got tone (placeAfter end)) a (all-read (d ∙ ap (λ (n : ℕ). got v n) r)) };
-    }
+    -- so it stands between the two octets
+    pub stands : (start end : ℕ) {r : Bool} → at ≡ placeAfter start → Sure r (EndAt m q end) → Sure r (StandsAt m start end)
+    stands start end a e = record { so = λ h. record { tone = tone; reads = subst (λ (z : ℕ). wholeTone (bitsOf m) z ≡ got tone (placeAfter end)) a (all-read (e .so h .reads)) } }
 
-pub ruleset standing = (unsure, begins-within, opened-within, patterns-within, stands)
+pub ruleset endings = (unsure, ends-told)
+
+pub ruleset standing = (unsure, opened-within, patterns-within, stands)

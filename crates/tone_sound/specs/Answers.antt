@@ -4,8 +4,8 @@ use mathlib.Core.Path.{_≡_}
 use mathlib.Core.List.{List}
 use lib.ListN.{length}
 use Rattle.bits.specs.Bits.{bitsOf, placeAfter}
-use Rattle.tone.specs.Tone.{Pattern, Tone, noneKnown}
-use Rattle.tone.specs.Reading.{got, bodyDue, patternsDue, wholeTone}
+use Rattle.tone.specs.Tone.{Pattern, Tone, Front, noneKnown}
+use Rattle.tone.specs.Reading.{got, front as frontDue, bodyDue, patternsDue, ending, wholeTone}
 use Rattle.tone_sound.specs.declared.Told.{Told}
 use Rattle.tone_sound.specs.Turning.{turn, clear, Mark, widthIn, along, AllClear}
 
@@ -31,6 +31,22 @@ pub record PatternsPast (m : List ℕ) (at n p : ℕ) : Type 0 where
   pub patterns : List Pattern
   pub reads : patternsDue n noneKnown (bitsOf m) at ≡ got patterns p
   pub inside : p ≤ placeAfter (length m)
+
+-- a front that announces n patterns stands from one place up to another
+pub record FrontAt (m : List ℕ) (at p n : ℕ) : Type 0 where
+  pub front : Front
+  pub reads : frontDue (bitsOf m) at ≡ got front p
+  pub count : front .count ≡ n
+  pub inside : p ≤ placeAfter (length m)
+
+-- it does where n is not 0
+pub record Starts (m : List ℕ) (at p n : ℕ) : Type 0 where
+  pub so : 1 ≤ n → FrontAt m at p n
+
+-- filler and the end octet stand from a place up to the end of an octet
+pub record EndAt (m : List ℕ) (at end : ℕ) : Type 0 where
+  pub value : ℕ
+  pub reads : ending (bitsOf m) at ≡ got value (placeAfter end)
 
 -- a tone stands from one octet up to another
 pub record StandsAt (m : List ℕ) (start end : ℕ) : Type 0 where

@@ -10,7 +10,7 @@ ghost use Rattle.bits.specs.Bits.{octetsBefore};
 ghost use Rattle.tone.specs.Tone.{recallable};
 ghost use Rattle.tone_elements.specs.Answers.{Within, Sure};
 ghost use Rattle.tone_sound.specs.Turning.{turn, onward, wideIn, markIn, clear, Mark, Marks};
-ghost use Rattle.tone_sound.specs.Answers.{ToldOf, Past, Gone, PatternsPast, StandsAt};
+ghost use Rattle.tone_sound.specs.Answers.{ToldOf, Past, Gone, PatternsPast, Starts, EndAt, StandsAt};
 use bits::BitPlace;
 use bits::OctetCount;
 use tone_elements::Opening;
@@ -285,32 +285,104 @@ fn patterns(whole: &[u8], at: BitPlace, n: u32, marks: &[u8; 512]) -> Way
     }
 }
 
-// Does a tone stand between two octets, and nothing else? Where it is not sure of that, it says no.
-pub fn sound(whole: &[u8], start: OctetCount, end: OctetCount, marks: &[u8; 512]) -> bool
-    requires { ⌜ Marks (now marks) ⌝ }
-    requires { ⌜ (start .0 ≤ end .0) × (end .0 ≤ length (now whole)) × (length (now whole) < 2 ^ 60) ⌝ }
-    ensures { λ r. ⌜ Sure r (StandsAt (now (whole .entry)) (start .0) (end .0)) ⌝ }
+// Where the patterns of a tone begin, and how many there are; none where no front is sure.
+struct Start {
+    at: BitPlace,
+    count: u32,
+}
+
+// No front is sure.
+fn no_start(at: BitPlace) -> Start
+    ensures { λ r. ⌜ r .count ≡ 0 ⌝ }
 {
-    match tone_elements::open(whole, bits::place_after(start)) {
-        Opening::Closed { number: _, at: _ } => false,
+    Start { at, count: 0 }
+}
+
+// The front of a tone without UNICODE, told by two looks: the command's 23 bits, as `tone_elements::announced` has them, and then
+// three bits for the song type and the number behind it, the length of a basic song's title or the pattern count of a temporary one.
+// A title's characters are told at once, and one look more has the count behind them.
+fn quick_front(whole: &[u8], at: BitPlace) -> Start
+    requires { ⌜ Within (now whole) (at .0) ⌝ }
+    ensures { λ r. ⌜ Starts (now (whole .entry)) (at .0) (r .at .0) (r .count) ⌝ }
+{
+    let end = bits::place_after(OctetCount(whole.len())).0;
+    if end < at.0 + 34 {
+        return no_start(at);
+    }
+    if bits::look(whole, at) / 2 != 75037 {
+        return no_start(at);
+    }
+    let x = bits::look(whole, BitPlace(at.0 + 23));
+    let song = x / 2097152;
+    if song == 2 {
+        return Start {
+            at: BitPlace(at.0 + 34),
+            count: x / 8192 % 256,
+        };
+    }
+    if song != 1 {
+        return no_start(at);
+    }
+    let n = x / 131072 % 16;
+    if !tone_elements::all_allowed(whole, BitPlace(at.0 + 30), false, n) {
+        return no_start(at);
+    }
+    let behind = BitPlace(at.0 + 30 + 8 * n as usize);
+    if end < behind.0 + 8 {
+        return no_start(at);
+    }
+    Start {
+        at: BitPlace(behind.0 + 8),
+        count: bits::look(whole, behind) / 65536,
+    }
+}
+
+// The front of a tone: quickly, or element by element.
+fn front(whole: &[u8], at: BitPlace) -> Start
+    requires { ⌜ Within (now whole) (at .0) ⌝ }
+    ensures { λ r. ⌜ Starts (now (whole .entry)) (at .0) (r .at .0) (r .count) ⌝ }
+{
+    let start = quick_front(whole, at);
+    if start.count != 0 {
+        return start;
+    }
+    match tone_elements::open(whole, at) {
+        Opening::Closed { number: _, at: _ } => no_start(at),
         Opening::Opened {
             song: _,
             next,
             octets: _,
             count,
             unicode: _,
-        } => {
-            let way = patterns(whole, next, count, marks);
-            if !way.sure {
-                return false;
-            }
-            match tone_elements::ending(whole, way.at) {
-                Step::Bad { number: _, at: _ } => false,
-                Step::Good {
-                    value: _,
-                    next: reached,
-                } => reached.0 == bits::place_after(end).0,
-            }
-        }
+        } => Start { at: next, count },
     }
+}
+
+// Do filler and the end octet stand at a place, and nothing else up to the end of an octet?
+fn ends(whole: &[u8], at: BitPlace, end: OctetCount) -> bool
+    requires { ⌜ Within (now whole) (at .0) ⌝ }
+    requires { ⌜ end .0 ≤ length (now whole) ⌝ }
+    ensures { λ r. ⌜ Sure r (EndAt (now (whole .entry)) (at .0) (end .0)) ⌝ }
+{
+    if bits::octets_to(at).0 + 1 != end.0 {
+        return false;
+    }
+    bits::through_octet(whole, at) == 0
+}
+
+// Does a tone stand between two octets, and nothing else? Where it is not sure of that, it says no.
+pub fn sound(whole: &[u8], start: OctetCount, end: OctetCount, marks: &[u8; 512]) -> bool
+    requires { ⌜ Marks (now marks) ⌝ }
+    requires { ⌜ (start .0 ≤ end .0) × (end .0 ≤ length (now whole)) × (length (now whole) < 2 ^ 60) ⌝ }
+    ensures { λ r. ⌜ Sure r (StandsAt (now (whole .entry)) (start .0) (end .0)) ⌝ }
+{
+    let opened = front(whole, bits::place_after(start));
+    if opened.count == 0 {
+        return false;
+    }
+    let way = patterns(whole, opened.at, opened.count, marks);
+    if !way.sure {
+        return false;
+    }
+    ends(whole, way.at, end)
 }
