@@ -467,7 +467,7 @@ fn both_allowed(x: u64, y: u64, unicode: bool) -> bool
 }
 
 // The bits of so many characters.
-fn span(unicode: bool, n: u32) -> usize
+pub fn span(unicode: bool, n: u32) -> usize
     requires { ⌜ n ≤ 15 ⌝ }
     ensures { λ r. ⌜ (r ≡ n * characterBits unicode) × (r ≤ 240) ⌝ }
 {

@@ -11,7 +11,7 @@ use Rattle.bits.specs.Bits.{bitsOf, placeAfter, octetsTo, fillerTo}
 use Rattle.bits.specs.Places.{place}
 use Rattle.bits.specs.Window.{Sight}
 use Rattle.tone.specs.Tone.{Tone}
-use Rattle.tone.specs.Reading.{got, ending, rest, wholeTone}
+use Rattle.tone.specs.Reading.{got, front as frontDue, ending, rest, wholeTone}
 use Rattle.tone_elements.specs.Answers.{Within, Sure}
 use Rattle.tone_elements.proofs.Steps.{step-there}
 use Rattle.tone_elements.proofs.Openings.{ending-told}
@@ -24,9 +24,9 @@ ends-told m at end {x} {y} ey e h s = record {
   so = λ t. record { value = 0; reads = step-there (ending (bitsOf m) at) (ending-told m at ey (omega arith) s (eqb-true x 0 t) {p = place (placeAfter end)} (omega arith)) };
 }
 
-module _ (m : List ℕ) (at : ℕ) {p n : ℕ} (f : Starts m at p n) (some : n ≡ 0 → ⊥) where
+module _ (m : List ℕ) (at : ℕ) {p n : ℕ} (f : Starts frontDue m at p n) (some : n ≡ 0 → ⊥) where
   -- where patterns are due, a front was read
-  opened : FrontAt m at p n
+  opened : FrontAt frontDue m at p n
   opened = f .so (omega arith)
 
   -- they begin within the octets

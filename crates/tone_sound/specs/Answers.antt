@@ -1,11 +1,13 @@
 -- What the code answers of a tone that it tells.
-use Prim.Native.Nat.{ℕ, _-_, _%_, _≤_}
+use Prim.Native.Nat.{ℕ, _+_, _-_, _%_, _≤_}
 use mathlib.Core.Path.{_≡_}
+use mathlib.Core.Bool.{Bool}
 use mathlib.Core.List.{List}
-use lib.ListN.{length}
+use lib.ListN.{length, drop}
 use Rattle.bits.specs.Bits.{bitsOf, placeAfter}
+use Rattle.bits.specs.Window.{Sight}
 use Rattle.tone.specs.Tone.{Pattern, Tone, Front, noneKnown}
-use Rattle.tone.specs.Reading.{got, front as frontDue, bodyDue, patternsDue, ending, wholeTone}
+use Rattle.tone.specs.Reading.{Reader, got, command, bodyDue, patternsDue, ending, wholeTone}
 use Rattle.tone_sound.specs.declared.Told.{Told}
 use Rattle.tone_sound.specs.Turning.{turn, clear, Mark, widthIn, along, AllClear}
 
@@ -32,16 +34,20 @@ pub record PatternsPast (m : List ℕ) (at n p : ℕ) : Type 0 where
   pub reads : patternsDue n noneKnown (bitsOf m) at ≡ got patterns p
   pub inside : p ≤ placeAfter (length m)
 
--- a front that announces n patterns stands from one place up to another
-pub record FrontAt (m : List ℕ) (at p n : ℕ) : Type 0 where
+-- the command stands wherever x was seen: with UNICODE or without, so many bits
+pub record CommandOn (x : ℕ) (unicode : Bool) (n : ℕ) : Type 0 where
+  pub reads : (m : List ℕ) (at : ℕ) → Sight 57 (drop at (bitsOf m)) x → at + 57 ≤ placeAfter (length m) → command (bitsOf m) at ≡ got unicode (at + n)
+
+-- what is due of a front stands from one place up to another, and announces n patterns
+pub record FrontAt (due : Reader Front) (m : List ℕ) (at p n : ℕ) : Type 0 where
   pub front : Front
-  pub reads : frontDue (bitsOf m) at ≡ got front p
+  pub reads : due (bitsOf m) at ≡ got front p
   pub count : front .count ≡ n
   pub inside : p ≤ placeAfter (length m)
 
 -- it does where n is not 0
-pub record Starts (m : List ℕ) (at p n : ℕ) : Type 0 where
-  pub so : 1 ≤ n → FrontAt m at p n
+pub record Starts (due : Reader Front) (m : List ℕ) (at p n : ℕ) : Type 0 where
+  pub so : 1 ≤ n → FrontAt due m at p n
 
 -- filler and the end octet stand from a place up to the end of an octet
 pub record EndAt (m : List ℕ) (at end : ℕ) : Type 0 where

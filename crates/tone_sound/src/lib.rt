@@ -4,16 +4,17 @@
 ghost use mathlib.Core.Path.{_≡_};
 ghost use mathlib.Core.Bool.{false};
 ghost use Prim.Native.Nat.{_+_, _*_, _/_, _%_, _^_, _≤_, _<_};
-ghost use lib.ListN.{length};
+ghost use lib.ListN.{length, drop};
 ghost use lib.Bits.{bitOr};
-ghost use Rattle.bits.specs.Bits.{octetsBefore};
+ghost use Rattle.bits.specs.Bits.{bitsOf, octetsBefore, placeAfter};
+ghost use Rattle.bits.specs.Window.{Sight};
 ghost use Rattle.tone.specs.Tone.{recallable};
+ghost use Rattle.tone.specs.Reading.{typed as typedDue, front as frontDue};
 ghost use Rattle.tone_elements.specs.Answers.{Within, Sure};
 ghost use Rattle.tone_sound.specs.Turning.{turn, onward, wideIn, markIn, clear, Mark, Marks};
-ghost use Rattle.tone_sound.specs.Answers.{ToldOf, Past, Gone, PatternsPast, Starts, EndAt, StandsAt};
+ghost use Rattle.tone_sound.specs.Answers.{ToldOf, Past, Gone, CommandOn, PatternsPast, Starts, EndAt, StandsAt};
 use bits::BitPlace;
 use bits::OctetCount;
-use tone_elements::Opening;
 use tone_elements::Step;
 
 // ---- instructions
@@ -298,37 +299,56 @@ fn no_start(at: BitPlace) -> Start
     Start { at, count: 0 }
 }
 
-// The front of a tone without UNICODE, told by two looks: the command's 23 bits, as `tone_elements::announced` has them, and then
-// three bits for the song type and the number behind it, the length of a basic song's title or the pattern count of a temporary one.
-// A title's characters are told at once, and one look more has the count behind them.
-fn quick_front(whole: &[u8], at: BitPlace) -> Start
-    requires { ⌜ Within (now whole) (at .0) ⌝ }
-    ensures { λ r. ⌜ Starts (now (whole .entry)) (at .0) (r .at .0) (r .count) ⌝ }
+// A command: UNICODE or not, how many bits it has, and whether it is surely one.
+struct Command {
+    unicode: bool,
+    bits: u32,
+    sure: bool,
+}
+
+// The command on top of a sight, told at once: 00000010 for the length, 0100101 for the programming part, a filler bit, 0011101 for
+// the sound part. With UNICODE the length is 00000011, and 0100010 and a filler bit stand ahead of the sound part.
+fn called(x: u64) -> Command
+    ensures { λ r. ⌜ Sure (r .sure) (CommandOn x (r .unicode) (r .bits)) × (r .bits ≤ 31) ⌝ }
 {
-    let end = bits::place_after(OctetCount(whole.len())).0;
-    if end < at.0 + 34 {
-        return no_start(at);
+    if x >> 41 == 75037 {
+        return Command {
+            unicode: false,
+            bits: 23,
+            sure: true,
+        };
     }
-    if bits::look(whole, at) / 2 != 75037 {
-        return no_start(at);
+    Command {
+        unicode: true,
+        bits: 31,
+        sure: x >> 33 == 27599389,
     }
-    let x = bits::look(whole, BitPlace(at.0 + 23));
-    let song = x / 2097152;
+}
+
+// The song type, a basic song's title and the pattern count. A sight has the song type on top, and behind it the title's length or a
+// temporary song's pattern count. A title's characters are told at once, and one look has the count behind them.
+fn typed(whole: &[u8], at: BitPlace, x: u64, unicode: bool) -> Start
+    requires { ⌜ Within (now whole) (at .0) ⌝ }
+    requires { ⌜ Sight 26 (drop (at .0) (bitsOf (now whole))) x ⌝ }
+    requires { ⌜ at .0 + 26 ≤ placeAfter (length (now whole)) ⌝ }
+    ensures { λ r. ⌜ Starts (typedDue unicode) (now (whole .entry)) (at .0) (r .at .0) (r .count) ⌝ }
+{
+    let song = x >> 61;
     if song == 2 {
         return Start {
-            at: BitPlace(at.0 + 34),
-            count: x / 8192 % 256,
+            at: BitPlace(at.0 + 11),
+            count: ((x >> 53) % 256) as u32,
         };
     }
     if song != 1 {
         return no_start(at);
     }
-    let n = x / 131072 % 16;
-    if !tone_elements::all_allowed(whole, BitPlace(at.0 + 30), false, n) {
+    let n = ((x >> 57) % 16) as u32;
+    if !tone_elements::all_allowed(whole, BitPlace(at.0 + 7), unicode, n) {
         return no_start(at);
     }
-    let behind = BitPlace(at.0 + 30 + 8 * n as usize);
-    if end < behind.0 + 8 {
+    let behind = BitPlace(at.0 + 7 + tone_elements::span(unicode, n));
+    if bits::place_after(OctetCount(whole.len())).0 < behind.0 + 8 {
         return no_start(at);
     }
     Start {
@@ -337,25 +357,21 @@ fn quick_front(whole: &[u8], at: BitPlace) -> Start
     }
 }
 
-// The front of a tone: quickly, or element by element.
+// The front of a tone. `tone_elements::open` says more of it; it is not called here, so that it stays laid in where it is.
 fn front(whole: &[u8], at: BitPlace) -> Start
     requires { ⌜ Within (now whole) (at .0) ⌝ }
-    ensures { λ r. ⌜ Starts (now (whole .entry)) (at .0) (r .at .0) (r .count) ⌝ }
+    ensures { λ r. ⌜ Starts frontDue (now (whole .entry)) (at .0) (r .at .0) (r .count) ⌝ }
 {
-    let start = quick_front(whole, at);
-    if start.count != 0 {
-        return start;
+    if bits::place_after(OctetCount(whole.len())).0 < at.0 + 57 {
+        return no_start(at);
     }
-    match tone_elements::open(whole, at) {
-        Opening::Closed { number: _, at: _ } => no_start(at),
-        Opening::Opened {
-            song: _,
-            next,
-            octets: _,
-            count,
-            unicode: _,
-        } => Start { at: next, count },
+    let x = bits::sight(whole, at);
+    let said = called(x);
+    if !said.sure {
+        return no_start(at);
     }
+    let behind = BitPlace(at.0 + said.bits as usize);
+    typed(whole, behind, x << said.bits, said.unicode)
 }
 
 // Do filler and the end octet stand at a place, and nothing else up to the end of an octet?
