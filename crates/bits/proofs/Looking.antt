@@ -7,14 +7,14 @@ use mathlib.Core.Bool.{Bool}
 use mathlib.Core.Logic.{_⊎_, inl, inr}
 use mathlib.Core.List.{List, [], _∷_, _++_, append-nil}
 use lib.ListN.{replicate, length-take, length-drop, take-append-drop, length, getD, take, drop, length-append}
-use lib.Seq.{take-suc, take-add, drop-drop, drop-cons, getD-drop}
+use lib.Seq.{length-take-le, take-suc, take-add, drop-drop, drop-cons, getD-drop}
 use lib.Pow.{field as pow-field, pow-pos, high, shr-le, shr-lt, shl-exact, shr-shr, mod-mod-pow}
 use lib.Dec.{lit≤}
 use mir.Val.{Fits}
 use mir.Syntax.{w64}
 use Rattle.bits.specs.Bits.{num, bitsN, bitsOf, field, octetsBefore, octetsTo, fillerTo}
 use Rattle.bits.specs.Window.{four, eight, Look, Sight, Sights}
-use Rattle.bits.proofs.Numbers.{moved-down, joined-lt, moved-pair, moved-top, length-bits, field-drop, field-front, field-num, num-append, num-bits, num-lt}
+use Rattle.bits.proofs.Numbers.{moved-down, join-lt, joined-lt, moved-pair, moved-top, length-bits, field-drop, field-front, field-take, field-num, num-append, num-bits, num-lt}
 use Rattle.bits.proofs.Octets.{length-bitsOf, bitsOf-append, drop-bitsOf}
 
 -- a field within the first n octets, whatever follows those
@@ -243,8 +243,33 @@ sights-of {b} {x} {y} s h = record {
   small = h;
 }
   where
-    go : (k : ℕ) → k ≤ 63 → k ≤ length b → Sight 57 (drop k b) (x * 2 ^ k % 2 ^ 64 + y / 2 ^ (64 - k))
-    go k l g = on-64 (rw (moved-top 64 64 x y k (omega arith) (omega arith) h) at (held-top 64 64 57 (held-on s (lit≤ tt) (omega arith) g) (omega arith) (lit≤ tt)))
+    go : (k n : ℕ) → k ≤ 63 → n ≤ 64 → k + n ≤ 121 → k ≤ length b → Sight n (drop k b) (x * 2 ^ k % 2 ^ 64 + y / 2 ^ (64 - k))
+    go k n l f t g = on-64 (rw (moved-top 64 64 x y k (omega arith) (omega arith) h) at (held-top 64 64 n (held-on s (lit≤ tt) (omega arith) g) (omega arith) f))
+
+-- 64 bits and the 57 behind them
+module _ {b : List Bool} {x y : ℕ} (s : Sight 64 b x) (t : Sight 57 (drop 64 b) y) (h : 121 ≤ length b) where
+  -- all 121 as one number
+  num-joined : num (take 121 b) ≡ (x * 2 ^ 64 + y) / 2 ^ 7
+  unfolding field
+  num-joined =
+      let long = length-drop 64 b in
+      let ex : num (take 64 b) ≡ x = s .at 0 64 (lit≤ tt) (omega arith) ∙ omega (arith, s .small) in
+      let ey : num (take 57 (drop 64 b)) ≡ y / 2 ^ 7 = t .at 0 57 (lit≤ tt) (omega (arith, long)) ∙ omega (arith, t .small) in
+      let l : length (take 57 (drop 64 b)) ≡ 57 = length-take-le 57 (drop 64 b) (omega (arith, long)) in
+      ap num (take-add 64 57 b) ∙ num-append (take 64 b) (take 57 (drop 64 b)) ∙ (rw (ex, ey, l) (omega arith))
+
+  pub sights-joined : Sights b x y
+  sights-joined = sights-of (record { at = go; small = join-lt 64 x 64 y (s .small) (t .small) }) (t .small)
+    where
+      go : (o w : ℕ) → o + w ≤ 121 → o + w ≤ length b → field b o w ≡ (x * 2 ^ 64 + y) / 2 ^ (128 - (o + w)) % 2 ^ w
+      go o w f g =
+          let k = 121 - (o + w) in
+          let l : o + w + k ≡ length (take 121 b) = omega (arith, length-take-le 121 b h) in
+          let e : 7 + k ≡ 128 - (o + w) = omega arith in
+          field-take b o w 121 f h
+          ∙ field-num (take 121 b) o w k l
+          ∙ ap (λ (z : ℕ). z / 2 ^ k % 2 ^ w) num-joined
+          ∙ ap (λ (z : ℕ). z % 2 ^ w) (shr-shr (x * 2 ^ 64 + y) 7 k ∙ ap (λ (z : ℕ). (x * 2 ^ 64 + y) / 2 ^ z) e)
 
 -- the code's two shifts are one, which by 64 would not be allowed
 two-shifts : (y k : ℕ) → k ≤ 63 → y / 2 / 2 ^ (63 - k) ≡ y / 2 ^ (64 - k)

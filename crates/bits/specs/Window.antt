@@ -28,7 +28,7 @@ pub record Sight (n : ℕ) (b : List Bool) (x : ℕ) : Type 0 where
 -- two numbers hold the first 121 of the bits b: what stands behind the first k of them is put together from both
 pub record Sights (b : List Bool) (first second : ℕ) : Type 0 where
   pub front : Sight 64 b first
-  pub behind : (k : ℕ) → k ≤ 63 → k ≤ length b → Sight 57 (drop k b) (first * 2 ^ k % 2 ^ 64 + second / 2 ^ (64 - k))
+  pub behind : (k n : ℕ) → k ≤ 63 → n ≤ 64 → k + n ≤ 121 → k ≤ length b → Sight n (drop k b) (first * 2 ^ k % 2 ^ 64 + second / 2 ^ (64 - k))
   pub small : second < 2 ^ 64
 
 -- a number of lanes of which `low` has all bits but the highest: with this the highest bit of a lane is set where the lane is not 0

@@ -155,7 +155,7 @@ pub fn two_sights(s: &[u8], at: BitPlace) -> TwoSights
     }
 }
 
-// The 57 bits that stand `k` bits behind the place of two sights, on top of a number.
+// The bits that stand `k` bits behind the place of two sights, on top of a number: 64 of them, but no more than are left of the 121.
 pub fn sight_behind(v: TwoSights, k: u32) -> u64
     requires { ⌜ k ≤ 63 ⌝ }
     ensures { λ r. ⌜ r ≡ v .first * 2 ^ k % 2 ^ 64 + v .second / 2 ^ (64 - k) ⌝ }

@@ -7,20 +7,18 @@ use mathlib.Core.List.{List, [], _++_}
 use lib.ListN.{length, drop}
 use lib.Seq.{drop-drop}
 use lib.Dec.{eqb}
-use lib.Bits.{bitOr}
 use mir.Val.{Fits}
 use mir.Syntax.{w64}
 use borrow.Author.Tests.{eqb-true}
 use Rattle.bits.specs.Bits.{bitsOf}
 use Rattle.bits.specs.Window.{Sight, Sights}
-use Rattle.bits.proofs.Looking.{length-left}
+use Rattle.bits.proofs.Looking.{length-left, sights-joined}
 use Rattle.tone.specs.Reading.{got, bodyDue}
 use Rattle.tone_elements.specs.Answers.{Within, Sure}
 use Rattle.tone_elements.proofs.Walks.{body-more}
 use Rattle.tone_sound.specs.declared.Told.{Told}
-use Rattle.tone_sound.specs.Turning.{turn, clear, widthIn, along, AllClear}
+use Rattle.tone_sound.specs.Turning.{turn, clear, Mark, widthIn, along}
 use Rattle.tone_sound.specs.Answers.{ToldOf, Past, Gone}
-use Rattle.tone_sound.proofs.Marking.{marks-together}
 use Rattle.tone_sound.proofs.Walking.{body-none, clear-most, past-told}
 
 -- ---- sure or not
@@ -96,39 +94,100 @@ module _ (m : List ℕ) (at n : ℕ) where
 
 -- ---- up to four, from one sight
 
-pub some-told : (m : List ℕ) (at n : ℕ) {x : ℕ} {t : Told} → Sight 57 (drop at (bitsOf m)) x → ToldOf n x t → n ≤ 4 → {all : ℕ} → all ≡ 8 * length m → at ≤ 8 * length m → t .widths % 256 + 8 ≤ all - at
+pub some-told : (m : List ℕ) (at n : ℕ) {x : ℕ} {t : Told} → Sight 57 (drop at (bitsOf m)) x → ToldOf n x clear t → n ≤ 4 → {all : ℕ} → all ≡ 8 * length m → at ≤ 8 * length m → t .widths % 256 + 8 ≤ all - at
     → Sure (eqb (t .marks) clear) (Past m at n (at + t .widths % 256))
 some-told m at n {x} {t} s e h {all} q i room = record {
   so = λ c.
-      let a = e .marks (eqb-true (t .marks) clear c) in
+      let a = e .marks (eqb-true (t .marks) clear c) .1 in
       rw (e .widths) (past-told m n at s (omega arith) (omega arith) a (omega (arith, q, room, e .widths)));
 }
 
--- ---- eight, from two
+-- ---- on and on, from two sights at hand
 
-module _ (m : List ℕ) (at : ℕ) {first second x : ℕ} {one two : Told} (room : at / 8 + 16 ≤ length m) (s : Sights (drop at (bitsOf m)) first second)
-    (e₁ : ToldOf 4 first one) (ex : x ≡ first * 2 ^ (one .widths % 64) % 2 ^ 64 + second / 2 ^ (64 - one .widths % 64)) (e₂ : ToldOf 4 x two) where
-  pub eight-told : Sure (eqb (bitOr (one .marks) (two .marks)) clear) (Past m at 8 (at + (one .widths % 256 + two .widths % 256)))
-  eight-told = record { so = λ c. go (marks-together (e₁ .mark) (e₂ .mark) .1 (eqb-true (bitOr (one .marks) (two .marks)) clear c)) }
-    where
-      go : (one .marks ≡ clear) × (two .marks ≡ clear) → Past m at 8 (at + (one .widths % 256 + two .widths % 256))
-      go c =
-          let a₁ = e₁ .marks (c .0) in
-          let k = along widthIn 4 (turn 6 first) in
-          let l : k ≤ 48 = clear-most 4 first (s .front .small) a₁ in
-          let w₁ : one .widths % 256 ≡ k = e₁ .widths in
-          let w : one .widths % 64 ≡ k = omega (arith, w₁, l) in
-          let p₁ = past-told m 4 at (s .front) (omega arith) (omega arith) a₁ (omega (arith, l)) in
-          let long : k ≤ length (drop at (bitsOf m)) = rw (length-left m at) (omega (arith, l)) in
-          let y : x ≡ first * 2 ^ k % 2 ^ 64 + second / 2 ^ (64 - k) = subst (λ (j : ℕ). x ≡ first * 2 ^ j % 2 ^ 64 + second / 2 ^ (64 - j)) w ex in
-          let t = subst (λ (b : List Bool). Sight 57 b (first * 2 ^ k % 2 ^ 64 + second / 2 ^ (64 - k))) (drop-drop k at (bitsOf m)) (s .behind k (omega (arith, l)) long) in
-          let t′ : Sight 57 (drop (at + k) (bitsOf m)) x = subst (λ (z : ℕ). Sight 57 (drop (at + k) (bitsOf m)) z) (sym y) t in
-          let a₂ = e₂ .marks (c .1) in
-          let d = along widthIn 4 (turn 6 x) in
-          let l₂ : d ≤ 48 = clear-most 4 x (t′ .small) a₂ in
-          let p₂ = past-told m 4 (at + k) t′ (omega arith) (omega arith) a₂ (omega (arith, l, l₂)) in
-          let q : at + k + d ≡ at + (one .widths % 256 + two .widths % 256) = omega (arith, w₁, e₂ .widths) in
-          subst (λ (r : ℕ). Past m at 8 r) q (past-more m at 4 4 p₁ p₂)
+-- all but `left` of n are passed, and two sights at the place are at hand: both where no mark was met
+pub record Going (m : List ℕ) (at n p left met first second : ℕ) : Type 0 where
+  pub fewer : left ≤ n
+  pub mark : Mark met
+  pub room : p + 121 ≤ 8 * length m
+  pub past : met ≡ clear → Past m at (n - left) p
+  pub seen : met ≡ clear → Sights (drop p (bitsOf m)) first second
+
+module _ (m : List ℕ) (at n : ℕ) where
+  pub going-begins : {first second o : ℕ} → o ≡ at / 8 → 48 ≤ length m - o → Sights (drop at (bitsOf m)) first second → Going m at n at n clear first second
+  going-begins d h s =
+      let z : n - n ≡ 0 = omega arith in
+      record {
+        fewer = omega arith;
+        mark = (omega arith, omega arith);
+        room = omega arith;
+        past = λ _. rw z (past-none m at (omega arith));
+        seen = λ _. s;
+      }
+
+  module _ {p left met first second : ℕ} (g : Going m at n p left met first second) where
+    pub going-mark : Mark met
+    going-mark = g .mark
+
+    pub going-inside : p ≤ 8 * length m
+    going-inside = omega (arith, g .room)
+
+    pub going-fits : Within m at → (w : ℕ) → Fits w64 (p + w % 256 + 64)
+    going-fits i w = record { fits = omega (arith, i .counted, g .room) }
+
+    pub going-gone : Sure (eqb met clear) (Gone m at n p left)
+    going-gone = record { so = λ c. record { fewer = g .fewer; past = g .past (eqb-true met clear c) } }
+
+    -- k of them more, told without a mark
+    past-on : (k : ℕ) {t : Told} → k ≤ left → k ≤ 4 → ToldOf k first met t → t .marks ≡ clear → Past m at (n - (left - k)) (p + t .widths % 256) × (t .widths % 256 ≤ 48)
+    past-on k {t} h f e c =
+        let a = e .marks c in
+        let s = g .seen (a .0) in
+        let l = clear-most k first (s .front .small) (a .1) in
+        let q = past-told m k p (s .front) (omega arith) (omega arith) (a .1) (omega (arith, l, g .room)) in
+        let z : n - left + k ≡ n - (left - k) = omega (arith, g .fewer) in
+        let w = e .widths in
+        (rw w (subst (λ (j : ℕ). Past m at j (p + along widthIn k (turn 6 first))) z (past-more m at (n - left) k (g .past (a .0)) q)), omega (arith, w, l))
+
+    -- the last of them
+    pub going-ends : {t : Told} → left < 4 → ToldOf left first met t → Sure (eqb (t .marks) clear) (Gone m at n (p + t .widths % 256) 0)
+    going-ends {t} h e =
+        let z : left - left ≡ 0 = omega arith in
+        record {
+          so = λ c.
+              record { fewer = omega arith; past = subst (λ (j : ℕ). Past m at (n - j) (p + t .widths % 256)) z (past-on left (omega arith) (omega arith) e (eqb-true (t .marks) clear c) .0) };
+        }
+
+    -- four more, where 48 octets are there
+    module _ {t : Told} {o : ℕ} (d : o ≡ p / 8) (h : 4 ≤ left) (far : 48 ≤ length m - o) (e : ToldOf 4 first met t) where
+      pub going-there : p + t .widths % 256 + 64 ≤ 8 * length m
+      going-there = omega arith
+
+      pub going-on : {x y : ℕ} → x ≡ first * 2 ^ (t .widths % 64) % 2 ^ 64 + second / 2 ^ (64 - t .widths % 64) → Sight 57 (drop (p + t .widths % 256 + 64) (bitsOf m)) y
+          → Going m at n (p + t .widths % 256) (left - 4) (t .marks) x y
+      going-on {x} {y} ex s = record {
+        fewer = omega (arith, g .fewer);
+        mark = e .mark;
+        room = omega arith;
+        past = λ c. past-on 4 h (omega arith) e c .0;
+        seen = λ c. go (past-on 4 h (omega arith) e c .1) (g .seen (e .marks c .0));
+      }
+        where
+          k : ℕ
+          k = t .widths % 256
+
+          -- the 64 bits are put together from both, and the 57 behind them are new
+          go : k ≤ 48 → Sights (drop p (bitsOf m)) first second → Sights (drop (p + k) (bitsOf m)) x y
+          go l v =
+              let w : t .widths % 64 ≡ k = omega (arith, l) in
+              let f : x ≡ first * 2 ^ k % 2 ^ 64 + second / 2 ^ (64 - k) = subst (λ (j : ℕ). x ≡ first * 2 ^ j % 2 ^ 64 + second / 2 ^ (64 - j)) w ex in
+              let long : k ≤ length (drop p (bitsOf m)) = rw (length-left m p) (omega (arith, l)) in
+              let u : Sight 64 (drop k (drop p (bitsOf m))) x = subst (Sight 64 (drop k (drop p (bitsOf m)))) (sym f) (v .behind k 64 (omega (arith, l)) (omega arith) (omega (arith, l)) long) in
+              sights-joined
+              (subst (λ (b : List Bool). Sight 64 b x) (drop-drop k p (bitsOf m)) u)
+              (subst (λ (b : List Bool). Sight 57 b y) (sym (drop-drop 64 (p + k) (bitsOf m))) s)
+              (rw (length-left m (p + k)) (omega arith))
+
+pub ruleset going = (surely, gone-begins, going-begins, going-mark, going-inside, going-fits, going-gone, going-ends, going-there)
 
 pub ruleset bodies = (surely, nowhere, gone-begins, gone-on, gone-all, gone-inside)
 

@@ -10,9 +10,9 @@ use Rattle.tone_sound.specs.Answers.{ToldOf}
 use Rattle.tone_sound.proofs.Marking.{marks-together, mark-in, wide-octet, wide-most}
 
 -- with `left` of n instructions still to be told
-pub record Run (n x : ℕ) (t : Told) (left : ℕ) : Type 0 where
+pub record Run (n x met : ℕ) (t : Told) (left : ℕ) : Type 0 where
   pub widths : t .widths % 256 + along widthIn left (t .bits) ≡ along widthIn n (turn 6 x)
-  pub marks : t .marks ≡ clear → AllClear left (t .bits) → AllClear n (turn 6 x)
+  pub marks : t .marks ≡ clear → AllClear left (t .bits) → (met ≡ clear) × AllClear n (turn 6 x)
   pub mark : Mark (t .marks)
   pub fewer : left ≤ n
   pub room : t .widths + 2 ^ 62 * left ≤ 2 ^ 62 * n
@@ -22,13 +22,17 @@ pub record Run (n x : ℕ) (t : Told) (left : ℕ) : Type 0 where
 abbrev Next : Told → Told → Type 0
 Next t r = (r .bits ≡ onward (t .bits)) × (r .widths ≡ t .widths + wideIn (t .bits)) × (r .marks ≡ bitOr (t .marks) (markIn (t .bits)))
 
-pub run-begins : (n x : ℕ) {t : Told} → (t .bits ≡ turn 6 x) × (t .widths ≡ 0) × (t .marks ≡ clear) → Run n x t n
-run-begins n x {t} e =
+-- nothing is told yet
+abbrev Begun : ℕ → ℕ → Told → Type 0
+Begun x met t = (t .bits ≡ turn 6 x) × (t .widths ≡ 0) × (t .marks ≡ met)
+
+pub run-begins : (n x met : ℕ) {t : Told} → Mark met → Begun x met t → Run n x met t n
+run-begins n x met {t} k e =
     let z : t .widths % 256 ≡ 0 = rw (e .1) refl in
     record {
       widths = rw (z, e .0) (zero-add (along widthIn n (turn 6 x)));
-      marks = λ _ a. subst (AllClear n) (e .0) a;
-      mark = (omega (arith, e .2), omega (arith, e .2));
+      marks = λ m a. (sym (e .2) ∙ m, subst (AllClear n) (e .0) a);
+      mark = subst Mark (sym (e .2)) k;
       fewer = omega arith;
       room = omega (arith, e .1);
       octet = omega (arith, z);
@@ -43,8 +47,8 @@ clear-less : (left y : ℕ) → 0 < left → markIn y ≡ clear → AllClear (le
 clear-less zero y h e a = absurd (omega arith)
 clear-less (suc k) y h e a = let z : suc k - 1 ≡ k = omega arith in (e, subst (λ (j : ℕ). AllClear j (onward y)) z a)
 
-pub run-on : {n x : ℕ} {t : Told} {left : ℕ} {r : Told} → Run n x t left → 0 < left → n ≤ 4 → Next t r → (r .widths ≤ t .widths + 2 ^ 62) × Mark (r .marks) → Run n x r (left - 1)
-run-on {n} {x} {t} {left} {r} c h k e l =
+pub run-on : {n x met : ℕ} {t : Told} {left : ℕ} {r : Told} → Run n x met t left → 0 < left → n ≤ 4 → Next t r → (r .widths ≤ t .widths + 2 ^ 62) × Mark (r .marks) → Run n x met r (left - 1)
+run-on {n} {x} {met} {t} {left} {r} c h k e l =
     let y = t .bits in
     let o : wideIn y % 256 ≡ widthIn y = wide-octet y in
     let w : r .widths % 256 ≡ t .widths % 256 + widthIn y = omega (arith, e .1, o, c .octet) in
@@ -60,7 +64,7 @@ run-on {n} {x} {t} {left} {r} c h k e l =
       octet = omega (arith, c .octet, w, o);
     }
 
-pub run-ends : {n x : ℕ} {t : Told} {left : ℕ} → Run n x t left → left ≤ 0 → ToldOf n x t
+pub run-ends : {n x met : ℕ} {t : Told} {left : ℕ} → Run n x met t left → left ≤ 0 → ToldOf n x met t
 run-ends {t = t} {left = left} c h =
     let z : left ≡ 0 = omega arith in
     record {
@@ -70,7 +74,7 @@ run-ends {t = t} {left = left} c h =
     }
 
 -- what the next one may add
-module _ {n x : ℕ} {t : Told} {left : ℕ} (c : Run n x t left) (h : 0 < left) (k : n ≤ 4) where
+module _ {n x met : ℕ} {t : Told} {left : ℕ} (c : Run n x met t left) (h : 0 < left) (k : n ≤ 4) where
   pub run-room : t .widths ≤ 3 * 2 ^ 62
   run-room = omega (arith, c .room)
 
@@ -80,9 +84,9 @@ module _ {n x : ℕ} {t : Told} {left : ℕ} (c : Run n x t left) (h : 0 < left)
 pub ruleset running = (run-begins, run-on, run-ends, run-room, run-mark)
 
 -- four in a row
-pub four-run : (x : ℕ) {t₀ t₁ t₂ t₃ t₄ : Told} → (t₀ .bits ≡ turn 6 x) × (t₀ .widths ≡ 0) × (t₀ .marks ≡ clear)
+pub four-run : (x met : ℕ) {t₀ t₁ t₂ t₃ t₄ : Told} → Mark met → Begun x met t₀
     → Next t₀ t₁ → (t₁ .widths ≤ t₀ .widths + 2 ^ 62) × Mark (t₁ .marks) → Next t₁ t₂ → (t₂ .widths ≤ t₁ .widths + 2 ^ 62) × Mark (t₂ .marks)
-    → Next t₂ t₃ → (t₃ .widths ≤ t₂ .widths + 2 ^ 62) × Mark (t₃ .marks) → Next t₃ t₄ → (t₄ .widths ≤ t₃ .widths + 2 ^ 62) × Mark (t₄ .marks) → ToldOf 4 x t₄
-four-run x b a₁ l₁ a₂ l₂ a₃ l₃ a₄ l₄ =
+    → Next t₂ t₃ → (t₃ .widths ≤ t₂ .widths + 2 ^ 62) × Mark (t₃ .marks) → Next t₃ t₄ → (t₄ .widths ≤ t₃ .widths + 2 ^ 62) × Mark (t₄ .marks) → ToldOf 4 x met t₄
+four-run x met k b a₁ l₁ a₂ l₂ a₃ l₃ a₄ l₄ =
     let f : 4 ≤ 4 = omega arith in
-    run-ends (run-on (run-on (run-on (run-on (run-begins 4 x b) (omega arith) f a₁ l₁) (omega arith) f a₂ l₂) (omega arith) f a₃ l₃) (omega arith) f a₄ l₄) (omega arith)
+    run-ends (run-on (run-on (run-on (run-on (run-begins 4 x met k b) (omega arith) f a₁ l₁) (omega arith) f a₂ l₂) (omega arith) f a₃ l₃) (omega arith) f a₄ l₄) (omega arith)

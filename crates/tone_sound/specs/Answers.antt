@@ -11,10 +11,10 @@ use Rattle.tone.specs.Reading.{Reader, got, command, bodyDue, patternsDue, endi
 use Rattle.tone_sound.specs.declared.Told.{Told}
 use Rattle.tone_sound.specs.Turning.{turn, clear, Mark, widthIn, along, AllClear}
 
--- n instructions on top of x were told: their bits, and where no mark was met, each is one of the table
-pub record ToldOf (n x : ℕ) (r : Told) : Type 0 where
+-- n instructions on top of x were told: their bits, and where no mark is met, none was before, and each is one of the table
+pub record ToldOf (n x met : ℕ) (r : Told) : Type 0 where
   pub widths : r .widths % 256 ≡ along widthIn n (turn 6 x)
-  pub marks : r .marks ≡ clear → AllClear n (turn 6 x)
+  pub marks : r .marks ≡ clear → (met ≡ clear) × AllClear n (turn 6 x)
   pub mark : Mark (r .marks)
 
 -- n instructions stand from one place up to another

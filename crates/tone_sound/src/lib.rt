@@ -6,15 +6,16 @@ ghost use mathlib.Core.Bool.{false};
 ghost use Prim.Native.Nat.{_+_, _*_, _/_, _%_, _^_, _≤_, _<_};
 ghost use lib.ListN.{length, drop};
 ghost use lib.Bits.{bitOr};
-ghost use Rattle.bits.specs.Bits.{bitsOf, octetsBefore, placeAfter};
+ghost use Rattle.bits.specs.Bits.{bitsOf, placeAfter};
 ghost use Rattle.bits.specs.Window.{Sight};
 ghost use Rattle.tone.specs.Tone.{recallable};
 ghost use Rattle.tone.specs.Reading.{typed as typedDue, front as frontDue};
 ghost use Rattle.tone_elements.specs.Answers.{Within, Sure};
-ghost use Rattle.tone_sound.specs.Turning.{turn, onward, wideIn, markIn, clear, Mark, Marks};
+ghost use Rattle.tone_sound.specs.Turning.{turn, onward, wideIn, markIn, Mark, Marks};
 ghost use Rattle.tone_sound.specs.Answers.{ToldOf, Past, Gone, CommandOn, PatternsPast, Starts, EndAt, StandsAt};
 use bits::BitPlace;
 use bits::OctetCount;
+use bits::TwoSights;
 use tone_elements::Step;
 
 // ---- instructions
@@ -71,32 +72,33 @@ fn next(t: Told, marks: &[u8; 512]) -> Told
     }
 }
 
-// Nothing is told yet of a sight.
-fn begin(x: u64) -> Told
-    ensures { λ r. ⌜ (r .bits ≡ turn 6 x) × (r .widths ≡ 0) × (r .marks ≡ clear) ⌝ }
+// Nothing is told yet of a sight. The mark met before stays.
+fn begin(x: u64, met: u8) -> Told
+    ensures { λ r. ⌜ (r .bits ≡ turn 6 x) × (r .widths ≡ 0) × (r .marks ≡ met) ⌝ }
 {
     Told {
         bits: turned(x, 6),
         widths: 0,
-        marks: b'0',
+        marks: met,
     }
 }
 
 // Tells the four instructions on top of a sight.
-fn four(x: u64, marks: &[u8; 512]) -> Told
+fn four(x: u64, met: u8, marks: &[u8; 512]) -> Told
     requires { ⌜ Marks (now marks) ⌝ }
-    ensures { λ r. ⌜ ToldOf 4 x r ⌝ }
+    requires { ⌜ Mark met ⌝ }
+    ensures { λ r. ⌜ ToldOf 4 x met r ⌝ }
 {
-    next(next(next(next(begin(x), marks), marks), marks), marks)
+    next(next(next(next(begin(x, met), marks), marks), marks), marks)
 }
 
 // Tells the first `n` of them.
-fn few(x: u64, n: u32, marks: &[u8; 512]) -> Told
+fn few(x: u64, n: u32, met: u8, marks: &[u8; 512]) -> Told
     requires { ⌜ Marks (now marks) ⌝ }
-    requires { ⌜ n ≤ 4 ⌝ }
-    ensures { λ r. ⌜ ToldOf n x r ⌝ }
+    requires { ⌜ (n ≤ 4) × Mark met ⌝ }
+    ensures { λ r. ⌜ ToldOf n x met r ⌝ }
 {
-    let mut told = begin(x);
+    let mut told = begin(x, met);
     let mut left = n;
     while 0 < left {
         told = next(told, marks);
@@ -113,21 +115,6 @@ struct Span {
     sure: bool,
 }
 
-// The eight instructions at a place where sixteen octets are there: the second four need no load of their own.
-fn eight(whole: &[u8], at: BitPlace, marks: &[u8; 512]) -> Span
-    requires { ⌜ Marks (now marks) ⌝ }
-    requires { ⌜ octetsBefore (at .0) + 16 ≤ length (now whole) ⌝ }
-    ensures { λ r. ⌜ Sure (r .sure) (Past (now (whole .entry)) (at .0) 8 (at .0 + r .bits)) × (r .bits ≤ 510) ⌝ }
-{
-    let seen = bits::two_sights(whole, at);
-    let one = four(seen.first, marks);
-    let two = four(bits::sight_behind(seen, (one.widths % 64) as u32), marks);
-    Span {
-        bits: (one.widths % 256 + two.widths % 256) as usize,
-        sure: (one.marks | two.marks) == b'0',
-    }
-}
-
 // The `n` instructions at a place. They are sure where the end octet's bits are left behind them, for then the bits that were
 // looked at are there.
 fn some(whole: &[u8], at: BitPlace, n: u32, marks: &[u8; 512]) -> Span
@@ -136,7 +123,7 @@ fn some(whole: &[u8], at: BitPlace, n: u32, marks: &[u8; 512]) -> Span
     requires { ⌜ n ≤ 4 ⌝ }
     ensures { λ r. ⌜ Sure (r .sure) (Past (now (whole .entry)) (at .0) n (at .0 + r .bits)) × (r .bits ≤ 255) ⌝ }
 {
-    let told = few(bits::sight(whole, at), n, marks);
+    let told = few(bits::sight(whole, at), n, b'0', marks);
     let taken = (told.widths % 256) as usize;
     if bits::place_after(OctetCount(whole.len())).0 - at.0 < taken + 8 {
         return Span {
@@ -168,34 +155,49 @@ fn lost(at: BitPlace) -> Way
     }
 }
 
-// Goes over `n` instructions by eights, as far as there are as many.
-fn by_eights(whole: &[u8], at: BitPlace, n: u32, marks: &[u8; 512]) -> Way
+// Goes over `n` instructions, four at a time, away from the end. The 64 bits at the place and the 57 behind them are at hand, so that
+// telling waits for no load: what is loaded is needed four instructions later. Marks are looked at in the end. Until then four that are
+// told wrongly may go on by 255 bits, and 121 must be there behind them: 48 octets have both.
+fn at_hand(whole: &[u8], at: BitPlace, n: u32, marks: &[u8; 512]) -> Way
     requires { ⌜ Marks (now marks) ⌝ }
     requires { ⌜ Within (now whole) (at .0) ⌝ }
     requires { ⌜ n ≤ 255 ⌝ }
     ensures { λ r. ⌜ Sure (r .sure) (Gone (now (whole .entry)) (at .0) n (r .at .0) (r .left)) ⌝ }
 {
+    if whole.len() - bits::octets_before(at).0 < 48 {
+        return Way {
+            at,
+            left: n,
+            sure: true,
+        };
+    }
+    let mut seen = bits::two_sights(whole, at);
+    let mut met: u8 = b'0';
     let mut place = at;
     let mut left = n;
-    while 8 <= left {
-        if whole.len() - bits::octets_before(place).0 < 16 {
+    while 4 <= left {
+        if whole.len() - bits::octets_before(place).0 < 48 {
             return Way {
                 at: place,
                 left,
-                sure: true,
+                sure: met == b'0',
             };
         }
-        let span = eight(whole, place, marks);
-        if !span.sure {
-            return lost(place);
-        }
-        place = BitPlace(place.0 + span.bits);
-        left -= 8;
+        let told = four(seen.first, met, marks);
+        let first = bits::sight_behind(seen, (told.widths % 64) as u32);
+        place = BitPlace(place.0 + (told.widths % 256) as usize);
+        seen = TwoSights {
+            first,
+            second: bits::sight(whole, BitPlace(place.0 + 64)),
+        };
+        met = told.marks;
+        left -= 4;
     }
+    let told = few(seen.first, left, met, marks);
     Way {
-        at: place,
-        left,
-        sure: true,
+        at: BitPlace(place.0 + (told.widths % 256) as usize),
+        left: 0,
+        sure: told.marks == b'0',
     }
 }
 
@@ -231,7 +233,7 @@ fn body(whole: &[u8], at: BitPlace, n: u32, marks: &[u8; 512]) -> Way
     requires { ⌜ n ≤ 255 ⌝ }
     ensures { λ r. ⌜ Sure (r .sure) (Past (now (whole .entry)) (at .0) n (r .at .0)) ⌝ }
 {
-    let way = by_eights(whole, at, n, marks);
+    let way = at_hand(whole, at, n, marks);
     if !way.sure {
         return way;
     }

@@ -4,8 +4,8 @@ use Rattle.tone_sound.proofs.body.Statement.{statement}
 use Rattle.tone_sound.proofs.body.Tie as tie
 use Rattle.tone_sound.proofs.Bodies.{rests}
 
-by-eights-requires : tie.Need-by-eights-requires
-by-eights-requires c κs = search needs
+at-hand-requires : tie.Need-at-hand-requires
+at-hand-requires c κs = search needs
 
 returns : tie.Need-returns
 returns c = search (rests, needs)
@@ -17,4 +17,4 @@ returns-2 : tie.Need-returns-2
 returns-2 c = search (rests, needs)
 
 pub body-spec : {M : Type 1} → statement M
-body-spec = tie.close (tie.spec by-eights-requires returns by-fours-requires returns-2)
+body-spec = tie.close (tie.spec at-hand-requires returns by-fours-requires returns-2)

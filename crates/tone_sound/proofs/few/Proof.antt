@@ -5,10 +5,10 @@ use Rattle.tone_sound.proofs.few.Tie as tie
 use Rattle.tone_sound.proofs.Running.{Run, running}
 
 abbrev Inv-loop : tie.InvT-loop
-Inv-loop x n marks told₀ left₀ told left = Run n x told left
+Inv-loop x n met marks told₀ left₀ told left = Run n x met told left
 
 abbrev μ-loop : tie.MeasureT-loop
-μ-loop x n marks told₀ left₀ told left = left
+μ-loop x n met marks told₀ left₀ told left = left
 
 begin-requires : tie.Need-begin-requires Inv-loop μ-loop
 begin-requires c κs = search (running, needs)

@@ -23,7 +23,7 @@ returns : tie.Need-returns
 returns c =
     let first = c .before .before .before in
     let third = c .before in
-    four-run (first .before .before .args .x) (first .before .begin .ensures) (first .next .ensures .0) (first .next .ensures .1) (c .before .before .next2 .ensures .0) (c .before .before .next2 .ensures .1) (third .next3 .ensures .0) (third .next3 .ensures .1) (c .next4 .ensures .0) (c .next4 .ensures .1)
+    four-run (first .before .before .args .x) (first .before .before .args .met) (first .before .before .pre .1) (first .before .begin .ensures) (first .next .ensures .0) (first .next .ensures .1) (c .before .before .next2 .ensures .0) (c .before .before .next2 .ensures .1) (third .next3 .ensures .0) (third .next3 .ensures .1) (c .next4 .ensures .0) (c .next4 .ensures .1)
 
 pub four-spec : {M : Type 1} → statement M
 four-spec =
