@@ -192,6 +192,10 @@ eight-loaded m i hx hy = eight-is m i hx (rw (add-assoc i 4 1, add-assoc i 4 2, 
 pub sight-is : (m : List ℕ) (at i : ℕ) {x : ℕ} → at ≤ 8 * length m → i ≡ at / 8 → x ≡ num (bitsOf (eight m i)) → Sight 57 (drop at (bitsOf m)) (x * 2 ^ (at % 8) % 2 ^ 64)
 sight-is m at i h ei e = on-64 (held-at 64 8 m at i 57 (at % 8) (padding 8 (drop i m)) h ei (sym (first-eight (drop i m)) ∙ eight-drop m i) (omega arith) (lit≤ tt) (omega arith) e)
 
+-- what `inner_sight` computes
+pub inner-is : (m : List ℕ) (at i : ℕ) {x : ℕ} → at / 8 + 8 ≤ length m → i ≡ at / 8 → (x ≡ num (bitsOf (eight m i))) × (x < 2 ^ 64) → Sight 57 (drop at (bitsOf m)) (x * 2 ^ (at % 8) % 2 ^ 64)
+inner-is m at i h ei e = sight-is m at i (omega arith) ei (e .0)
+
 -- eight octets that are there
 first-there : (m : List ℕ) (i : ℕ) → i + 8 ≤ length m → take 8 (drop i m) ≡ eight m i
 first-there m i h =

@@ -120,6 +120,14 @@ pub fn sight(s: &[u8], at: BitPlace) -> u64
     wide_window(s, octets_before(at)) << (at.0 % 8)
 }
 
+// The same, where eight octets are there. It is one load, and small enough to be laid in everywhere.
+pub fn inner_sight(s: &[u8], at: BitPlace) -> u64
+    requires { ⌜ octetsBefore (at .0) + 8 ≤ length (now s) ⌝ }
+    ensures { λ r. ⌜ Sight 57 (drop (at .0) (bitsOf (now (s .entry)))) r ⌝ }
+{
+    wide_word(s, octets_before(at)) << (at.0 % 8)
+}
+
 // The 64 bits at a place, where they are there.
 pub fn full_sight(s: &[u8], at: BitPlace) -> u64
     requires { ⌜ at .0 + 64 ≤ placeAfter (length (now s)) ⌝ }

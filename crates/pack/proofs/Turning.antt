@@ -191,9 +191,6 @@ module _ (m ns : List ℕ) where
       pub lengths-fit : length m ≤ 65535 → Fits w64 (at + getD ns i 0)
       lengths-fit k = record { fits = omega (arith, next .room) }
 
-      pub lengths-start : length m ≤ 65535 → at ≤ 65535
-      lengths-start k = omega (arith, next .room)
-
       module _ {j : Inside} (q : j ≡ insideOf (movedBy at (readTone (take (at + getD ns i 0 - at) (drop at m))))) where
         pub lengths-turn : j ≡ Fine → AlongLengths m ns (at + getD ns i 0) (i + 1)
         lengths-turn g = record { turn = turn-on m next q g }
@@ -204,7 +201,7 @@ module _ (m ns : List ℕ) where
     pub lengths-end : length ns ≤ i → Fine ≡ turnOf (readInTurn 0 (cut ns m))
     lengths-end h = turn-end m (a .turn) (drop-of-length-le ns h)
 
-pub ruleset along-lengths = (lengths-begin, lengths-inside, lengths-fit, lengths-start, lengths-turn, lengths-bad, lengths-end, wider)
+pub ruleset along-lengths = (lengths-begin, lengths-inside, lengths-fit, lengths-turn, lengths-bad, lengths-end, wider)
 
 -- ---- what lengths add up to
 

@@ -159,9 +159,6 @@ module _ (m : List ℕ) (at n : ℕ) where
 
     -- four more, where 48 octets are there
     module _ {t : Told} {o : ℕ} (d : o ≡ p / 8) (h : 4 ≤ left) (far : 48 ≤ length m - o) (e : ToldOf 4 first met t) where
-      pub going-there : p + t .widths % 256 + 64 ≤ 8 * length m
-      going-there = omega arith
-
       pub going-on : {x y : ℕ} → x ≡ first * 2 ^ (t .widths % 64) % 2 ^ 64 + second / 2 ^ (64 - t .widths % 64) → Sight 57 (drop (p + t .widths % 256 + 64) (bitsOf m)) y
           → Going m at n (p + t .widths % 256) (left - 4) (t .marks) x y
       going-on {x} {y} ex s = record {
@@ -187,7 +184,7 @@ module _ (m : List ℕ) (at n : ℕ) where
               (subst (λ (b : List Bool). Sight 57 b y) (sym (drop-drop 64 (p + k) (bitsOf m))) s)
               (rw (length-left m (p + k)) (omega arith))
 
-pub ruleset going = (surely, gone-begins, going-begins, going-mark, going-inside, going-fits, going-gone, going-ends, going-there)
+pub ruleset going = (surely, gone-begins, going-begins, going-mark, going-inside, going-fits, going-gone, going-ends)
 
 pub ruleset bodies = (surely, nowhere, gone-begins, gone-on, gone-all, gone-inside)
 

@@ -188,7 +188,7 @@ fn at_hand(whole: &[u8], at: BitPlace, n: u32, marks: &[u8; 512]) -> Way
         place = BitPlace(place.0 + (told.widths % 256) as usize);
         seen = TwoSights {
             first,
-            second: bits::sight(whole, BitPlace(place.0 + 64)),
+            second: bits::inner_sight(whole, BitPlace(place.0 + 64)),
         };
         met = told.marks;
         left -= 4;
@@ -367,7 +367,7 @@ fn front(whole: &[u8], at: BitPlace) -> Start
     if bits::place_after(OctetCount(whole.len())).0 < at.0 + 57 {
         return no_start(at);
     }
-    let x = bits::sight(whole, at);
+    let x = bits::inner_sight(whole, at);
     let said = called(x);
     if !said.sure {
         return no_start(at);

@@ -51,8 +51,8 @@ add-t19 c = search (going, needs)
 add-t19-2 : tie.Need-add-t19-2 Inv-loop μ-loop
 add-t19-2 c = search (going, needs)
 
-sight-requires : tie.Need-sight-requires Inv-loop μ-loop
-sight-requires c κs = search (going, needs)
+inner-sight-requires : tie.Need-inner-sight-requires Inv-loop μ-loop
+inner-sight-requires c κs = search (going, needs)
 
 loop-less : tie.Need-loop-less Inv-loop μ-loop
 loop-less c = search (going, needs)
@@ -63,7 +63,7 @@ loop-again c =
     let turn = told .before in
     let start = turn .before .before .before .before in
     let h : 4 ≤ start .loop .left = omega arith in
-    going-on _ _ _ (start .loop .inv) (turn .before .before .octets-before2 .ensures) h (turn .if2 .left) (told .four .ensures) (c .before .before .before .before .sight-behind .ensures) (c .sight .ensures)
+    going-on _ _ _ (start .loop .inv) (turn .before .before .octets-before2 .ensures) h (turn .if2 .left) (told .four .ensures) (c .before .before .before .before .sight-behind .ensures) (c .inner-sight .ensures)
 
 few-requires : tie.Need-few-requires Inv-loop μ-loop
 few-requires c κs = search (going, needs)
@@ -93,7 +93,7 @@ at-hand-spec =
     sight-behind-requires
     add-t19
     add-t19-2
-    sight-requires
+    inner-sight-requires
     loop-less
     loop-again
     few-requires

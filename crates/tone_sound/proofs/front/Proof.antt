@@ -16,8 +16,8 @@ no-start-requires c κs = search needs
 returns : tie.Need-returns
 returns c = search (fronting, needs)
 
-sight-requires : tie.Need-sight-requires
-sight-requires c κs = search needs
+inner-sight-requires : tie.Need-inner-sight-requires
+inner-sight-requires c κs = search needs
 
 called-requires : tie.Need-called-requires
 called-requires c κs = search needs
@@ -54,7 +54,7 @@ front-spec =
     add-if1
     no-start-requires
     returns
-    sight-requires
+    inner-sight-requires
     called-requires
     no-start-requires-2
     returns-2
