@@ -1,7 +1,7 @@
 -- A body is gone over in stretches, of which each is surely of instructions of the table.
 use Prim.Native.Nat.{ℕ, _+_, _-_, _*_, _/_, _%_, _^_, _≤_, _<_}
 use native.Mathlib.Omega.{arith}
-use mathlib.Core.Path.{_≡_, refl, sym, ap, subst, _∙_}
+use mathlib.Core.Path.{_≡_, refl, sym, subst, _∙_}
 use mathlib.Core.Bool.{Bool, true, false, not}
 use mathlib.Core.List.{List, [], _++_}
 use lib.ListN.{length, drop}
@@ -13,7 +13,6 @@ use borrow.Author.Tests.{eqb-true}
 use Rattle.bits.specs.Bits.{bitsOf}
 use Rattle.bits.specs.Window.{Sight, Sights}
 use Rattle.bits.proofs.Looking.{length-left, sights-joined}
-use Rattle.tone.specs.Reading.{got, bodyDue}
 use Rattle.tone_elements.specs.Answers.{Within, Sure}
 use Rattle.tone_elements.proofs.Walks.{body-more}
 use Rattle.tone_sound.specs.declared.Told.{Told}

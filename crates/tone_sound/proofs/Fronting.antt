@@ -17,7 +17,7 @@ use Rattle.bits.proofs.Looking.{seen, length-left, sight-on}
 use Rattle.bits.proofs.Octets.{length-bitsOf}
 use Rattle.tone.specs.Tone.{Front, perCharacter, characterBits}
 use Rattle.tone.specs.Writing.{programming, unicodePart, sound}
-use Rattle.tone.specs.Reading.{Reader, got, element, lengthOctet, filled, whetherUnicode, soundPart, parts, command, songType, text, title, patternCount, counted, titled, typed, front}
+use Rattle.tone.specs.Reading.{Reader, got, element, filled, whetherUnicode, soundPart, parts, command, songType, text, title, counted, titled, typed, front}
 use Rattle.tone.proofs.Exact.{element-good}
 use Rattle.tone_elements.specs.Answers.{Within, Sure, AllowedAt}
 use Rattle.tone_elements.proofs.Steps.{characters-good}

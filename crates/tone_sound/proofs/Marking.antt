@@ -1,19 +1,16 @@
 -- What one instruction is told by: its mark and its width, shown by tests that are computed.
-use Prim.Native.Nat.{ℕ, _+_, _-_, _*_, _/_, _%_, _^_, _≤_, _<_}
+use Prim.Native.Nat.{ℕ, suc, _*_, _/_, _%_, _^_, _≤_, _<_}
 use native.Mathlib.Omega.{arith}
 use native.Mathlib.Nat.{mod-lt, eq-or-lt-of-le}
-use mathlib.Core.Path.{_≡_, refl, sym, ap, _∙_}
+use mathlib.Core.Path.{_≡_, refl, ap, _∙_}
 use mathlib.Core.Bool.{Bool, true, false}
 use mathlib.Core.Logic.{_⊎_, inl, inr}
 use mathlib.Core.List.{List}
 use lib.ListN.{getD}
 use lib.Dec.{leb, eqb, lit<}
 use lib.Bits.{bitOr}
-use mir.Val.{Fits}
-use mir.Syntax.{w64}
 use borrow.Author.Tests.{leb-true, eqb-true}
 use Rattle.bits.specs.Choice.{pick}
-use Rattle.bits.proofs.Choice.{pick-elim}
 use Rattle.bits.proofs.Below.{passes, at-each, same-each}
 use Rattle.tone_tell.specs.Telling.{begins}
 use Rattle.tone_sound.specs.Turning.{turn, clear, Mark, Marks, markOf, markIn, wideIn, widthIn, onward}
@@ -66,11 +63,8 @@ packed k = 0x3F3F070805050C3F / 2 ^ (8 * k)
 pub width-least : (y : ℕ) → 1 ≤ packed (y / 8 % 8) % 64
 width-least y = leb-true 1 (packed (y / 8 % 8) % 64) (each-kind (λ k. leb 1 (packed k % 64)) refl y)
 
-pub wide-most : (y : ℕ) → packed (y / 8 % 8) ≤ 2 ^ 62 - 1
-wide-most y = leb-true (packed (y / 8 % 8)) (2 ^ 62 - 1) (each-kind (λ k. leb (packed k) (2 ^ 62 - 1)) refl y)
-
-pub wide-fits : (y : ℕ) {t : ℕ} → t ≤ 3 * 2 ^ 62 → Fits w64 (t + packed (y / 8 % 8))
-wide-fits y h = record { fits = omega (arith, wide-most y) }
+pub wide-most : (y : ℕ) → packed (y / 8 % 8) < 2 ^ 62
+wide-most y = leb-true (suc (packed (y / 8 % 8))) (2 ^ 62) (each-kind (λ k. leb (suc (packed k)) (2 ^ 62)) refl y)
 
 -- its lowest octet is the width
 pub wide-octet : (y : ℕ) → wideIn y % 256 ≡ widthIn y
@@ -90,13 +84,11 @@ module _ (y : ℕ) (row : List ℕ) (m : Marks row) {r : ℕ} (e : r ≡ turn 3 
   pub next-mark : {t : ℕ} → Mark t → Mark (bitOr t (getD row (r % 512) 0))
   next-mark {t} h = rw mark-looked-up (marks-together h (mark-in y) .0)
 
-pub next-bits : (y : ℕ) {r : ℕ} → r ≡ turn (packed (y / 8 % 8) % 64) y → r ≡ onward y
-unfolding onward wideIn
-next-bits y e = e
+pub next-bits : (y : ℕ) {r w : ℕ} → w ≡ wideIn y → r ≡ turn (w % 64) y → r ≡ onward y
+unfolding onward
+next-bits y f e = e ∙ ap (λ (w : ℕ). turn (w % 64) y) f
 
-pub next-widths : (y t : ℕ) → t + packed (y / 8 % 8) ≡ t + wideIn y
+-- what `wide` answers
+pub wide-said : (y : ℕ) → packed (y / 8 % 8) ≡ wideIn y
 unfolding wideIn
-next-widths y t = refl
-
-pub next-most : (y t : ℕ) → t + packed (y / 8 % 8) ≤ t + 2 ^ 62
-next-most y t = omega (arith, wide-most y)
+wide-said y = refl

@@ -1,21 +1,19 @@
 -- Patterns are gone over one by one, and a tone from its front to its end.
-use Prim.Native.Nat.{ℕ, zero, suc, _+_, _-_, _*_, _/_, _%_, _^_, _≤_, _<_}
+use Prim.Native.Nat.{ℕ, suc, _-_, _*_, _/_, _%_, _^_, _≤_, _<_}
 use native.Mathlib.Omega.{arith}
-use mathlib.Core.Path.{_≡_, refl, sym, ap, subst, _∙_}
+use mathlib.Core.Path.{_≡_, refl, sym, subst, _∙_}
 use mathlib.Core.Bool.{Bool, true, false, not}
 use mathlib.Core.List.{List, [], _∷_}
 use lib.ListN.{length, getD, set}
-use lib.Dec.{eqb}
-use borrow.Author.Tests.{eq-eqb, ne-eqb, eqb-true}
-use Rattle.bits.specs.Choice.{pick}
+use borrow.Author.Tests.{eq-eqb, ne-eqb}
 use Rattle.bits.specs.Bits.{bitsOf}
 use Rattle.bits.specs.declared.BitPlace.{BitPlace}
-use Rattle.tone.specs.Tone.{Pattern, specifier, partOf, pattern, noneKnown, recallable, learn}
+use Rattle.tone.specs.Tone.{Pattern, pattern, noneKnown, recallable, learn}
 use Rattle.tone.proofs.Recalls.{learn-set}
 use Rattle.tone.proofs.Rows.{header-exact}
 use Rattle.tone.specs.Reading.{got, headerDue, bodyDue, patternsDue}
 use Rattle.tone_elements.specs.declared.Step.{Step}
-use Rattle.tone_elements.specs.declared.Step.the-variants.{Good, Bad}
+use Rattle.tone_elements.specs.declared.Step.the-variants.{Good}
 use Rattle.tone_elements.specs.Answers.{Within, Sure, allKnown, stepOf}
 use Rattle.tone_elements.proofs.Steps.{step-there}
 use Rattle.tone_elements.proofs.Headers.{header-apart}

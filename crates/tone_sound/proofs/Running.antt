@@ -7,7 +7,7 @@ use lib.Bits.{bitOr}
 use Rattle.tone_sound.specs.declared.Told.{Told}
 use Rattle.tone_sound.specs.Turning.{turn, clear, Mark, markIn, wideIn, widthIn, onward, along, AllClear}
 use Rattle.tone_sound.specs.Answers.{ToldOf}
-use Rattle.tone_sound.proofs.Marking.{marks-together, mark-in, wide-octet, wide-most}
+use Rattle.tone_sound.proofs.Marking.{marks-together, mark-in, wide-octet}
 
 -- with `left` of n instructions still to be told
 pub record Run (n x met : ℕ) (t : Told) (left : ℕ) : Type 0 where

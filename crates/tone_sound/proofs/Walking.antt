@@ -4,7 +4,7 @@ use native.Mathlib.Omega.{arith}
 use native.Mathlib.Nat.{add-comm, add-zero}
 use mathlib.Core.Path.{_≡_, refl, sym, ap, subst, _∙_}
 use mathlib.Core.Bool.{Bool, true, false}
-use mathlib.Core.List.{List, [], _∷_, _++_}
+use mathlib.Core.List.{List, [], _∷_}
 use lib.ListN.{length, getD, drop}
 use lib.Seq.{drop-drop}
 use lib.Dec.{leb}
@@ -12,19 +12,18 @@ use lib.Pow.{shr-shr, field as pow-field}
 use borrow.Author.Tests.{leb-true}
 use Rattle.bits.specs.Choice.{pick}
 use Rattle.bits.specs.Bits.{bitsOf}
-use Rattle.bits.specs.Window.{Sight, Sights}
+use Rattle.bits.specs.Window.{Sight}
 use Rattle.bits.specs.Places.{place}
 use Rattle.bits.proofs.Below.{at-each, same-each}
 use Rattle.bits.proofs.Looking.{length-left}
 use Rattle.tone.specs.Reading.{got, instructionDue, bodyDue}
-use Rattle.tone_tell.specs.Telling.{kindBits, begins, bitsOn, noteOn, faultOn}
+use Rattle.tone_tell.specs.Telling.{kindBits, begins, bitsOn, faultOn}
 use Rattle.tone_tell.proofs.Packed.{bits-packed, bits-least}
-use Rattle.tone_elements.specs.Answers.{stepAs, noteIn}
+use Rattle.tone_elements.specs.Answers.{noteIn}
 use Rattle.tone_elements.proofs.Steps.{step-good}
-use Rattle.tone_elements.proofs.Walks.{body-more}
 use Rattle.tone_elements.proofs.Telling.{told-seen}
 use Rattle.tone_sound.specs.Turning.{turn, clear, markOf, markIn, wideIn, widthIn, onward, along, AllClear}
-use Rattle.tone_sound.specs.Answers.{Past, Gone}
+use Rattle.tone_sound.specs.Answers.{Past}
 use Rattle.tone_sound.proofs.Turns.{turn-lt, turn-low, turn-turn, sight-turned}
 
 -- ---- one instruction, turned by six

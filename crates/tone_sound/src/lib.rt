@@ -54,8 +54,15 @@ fn turned(x: u64, n: u32) -> u64
     (x << n) + (x >> (64 - n))
 }
 
-// Tells one instruction more. Of the packed number only the lowest octet is its width, and of a sum of few the lowest octet is the
-// sum of theirs.
+// The packed widths, that of the kind in place in the lowest octet.
+fn wide(y: u64) -> u64
+    ensures { λ r. ⌜ (r ≡ wideIn y) × (1 ≤ r % 64) × (r < 2 ^ 62) ⌝ }
+{
+    0x3F3F_0708_0505_0C3Fu64 >> (8 * (y / 8 % 8))
+}
+
+// Tells one instruction more. Of the packed widths only the lowest octet is its own, and of a sum of few the lowest octet is the sum
+// of theirs.
 fn next(t: Told, marks: &[u8; 512]) -> Told
     requires { ⌜ Marks (now marks) ⌝ }
     requires { ⌜ (t .widths ≤ 3 * 2 ^ 62) × Mark (t .marks) ⌝ }
@@ -63,7 +70,7 @@ fn next(t: Told, marks: &[u8; 512]) -> Told
     ensures { λ r. ⌜ (r .widths ≤ t .widths + 2 ^ 62) × Mark (r .marks) ⌝ }
 {
     let y = t.bits;
-    let w = 0x3F3F_0708_0505_0C3Fu64 >> (8 * (y / 8 % 8));
+    let w = wide(y);
     let z = (turned(y, 3) % 512) as usize;
     Told {
         bits: turned(y, (w % 64) as u32),

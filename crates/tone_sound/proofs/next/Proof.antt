@@ -2,13 +2,10 @@
 use borrow.Author.Needs.{needs}
 use Rattle.tone_sound.proofs.next.Statement.{statement}
 use Rattle.tone_sound.proofs.next.Tie as tie
-use Rattle.tone_sound.proofs.Marking.{width-least, wide-fits, next-marks, next-mark, next-bits, next-widths, next-most}
+use Rattle.tone_sound.proofs.Marking.{next-marks, next-mark, next-bits}
 
-mul-w : tie.Need-mul-w
-mul-w c = search needs
-
-shr-w : tie.Need-shr-w
-shr-w c = search needs
+wide-requires : tie.Need-wide-requires
+wide-requires c κs = search needs
 
 turned-requires : tie.Need-turned-requires
 turned-requires c κs = search needs
@@ -17,26 +14,25 @@ cast-turned : tie.Need-cast-turned
 cast-turned c = search needs
 
 turned-requires-2 : tie.Need-turned-requires-2
-turned-requires-2 c κs = search (width-least, needs)
+turned-requires-2 c κs = search needs
 
-add-t6 : tie.Need-add-t6
-add-t6 c = search (wide-fits, needs)
+add-t9 : tie.Need-add-t9
+add-t9 c = search needs
 
 element-copy-out-t12 : tie.Need-element-copy-out-t12
 element-copy-out-t12 c = search needs
 
 returns : tie.Need-returns
-returns c = search (next-marks, next-mark, next-bits, next-widths, next-most, needs)
+returns c = (search (next-marks, next-bits, needs), (search needs, search (next-mark, needs)))
 
 pub next-spec : {M : Type 1} → statement M
 next-spec =
     tie.close
     (tie.spec
-    mul-w
-    shr-w
+    wide-requires
     turned-requires
     cast-turned
     turned-requires-2
-    add-t6
+    add-t9
     element-copy-out-t12
     returns)
