@@ -338,6 +338,62 @@ fn every_octet_of_a_pack_counts() {
     });
 }
 
+/// Notes with every kind of setting among them, and a recall, so that bodies of many lengths
+/// stand at many places.
+fn mixed() -> Vec<u32> {
+    let settings = [131_073, 196_610, 262_175, 327_695];
+    let note = |k: u32| 65536 + k % 13 * 32 + k % 6 * 4 + k % 4;
+    let mut table = vec![];
+    for length in [1, 2, 3, 5, 11, 31] {
+        table.push(length % 4 * 4096 + length);
+        table.extend((0..length).map(|k| match k % 4 {
+            3 => settings[(k / 4 % 4) as usize],
+            _ => note(k + length),
+        }));
+    }
+    table.push(4096);
+    table
+}
+
+/// Flips each bit of a message that has others ahead of it and behind it. The pack is then
+/// read, or refused as the message is by itself.
+fn flip_each_bit(codec: &dyn Codec, message: &[u8], ahead: usize, behind: usize) {
+    let small = vec![octets(P3); ahead + behind];
+    let mut messages = small;
+    messages.insert(ahead, message.to_vec());
+    let pack = Made::of(&messages).pack();
+    assert_eq!(codec.pack_read(&pack).messages, ahead + behind + 1);
+    let start = 9 * ahead;
+    for bit in 0..8 * message.len() {
+        let mut other = pack.clone();
+        other[start + bit / 8] ^= 128 >> (bit % 8);
+        let expected = alone(codec, &other, start, message.len());
+        let answer = codec.pack_read(&other);
+        assert_eq!((answer.refusal, answer.place), expected, "bit {bit}");
+        // Written from the messages there is nothing behind the last one.
+        let lengths: Vec<u32> = messages.iter().map(|m| m.len() as u32).collect();
+        let all = &other[..messages.concat().len()];
+        let written = codec.pack_write(all, &lengths, &mut vec![0; pack.len()]);
+        assert_eq!((written.refusal, written.place), expected, "bit {bit}");
+    }
+}
+
+#[test]
+fn every_bit_of_a_long_message_counts_wherever_it_lies() {
+    let wide: Vec<u8> = b"Ohakelm".iter().flat_map(|&c| [1, c]).collect();
+    each(|codec| {
+        for message in [
+            written(2, false, &[], &mixed()),
+            written(1, false, b"Ohakelm, a tune", &mixed()),
+            written(1, true, &wide, &mixed()),
+        ] {
+            for (ahead, behind) in [(0, 0), (1, 0), (0, 1), (2, 3), (0, 12)] {
+                flip_each_bit(codec, &message, ahead, behind);
+            }
+        }
+    });
+}
+
 /// What a message of a pack is refused for by itself, at the place in the pack.
 fn alone(codec: &dyn Codec, pack: &[u8], start: usize, length: usize) -> (u32, usize) {
     let message = &pack[start..start + length];
