@@ -12,13 +12,15 @@ turn n x = x * 2 ^ n % 2 ^ 64 + x / 2 ^ (64 - n)
 
 -- ---- marks: the characters 0 and 1
 
+-- the mark of what is in order, 0
 abbrev pub clear : ℕ
 clear = 48
 
+-- 0 or 1
 abbrev pub Mark : ℕ → Type 0
 Mark v = (48 ≤ v) × (v ≤ 49)
 
--- 1 where nine bits begin no instruction of the table
+-- 0 where nine bits begin an instruction of the table, else 1
 unfoldable pub markOf : ℕ → ℕ
 markOf z = pick (begins (2 * z)) clear 49
 

@@ -247,53 +247,7 @@ fn body(whole: &[u8], at: BitPlace, n: u32, marks: &[u8; 512]) -> Way
     by_fours(whole, way.at, way.left, marks)
 }
 
-// ---- the tone
-
-// Does a header recall nothing, or what is known?
-fn may_stand(known: [bool; 4], cell: u32) -> bool
-    ensures { λ r. ⌜ r ≡ recallable known cell ⌝ }
-{
-    if cell % 256 == 0 {
-        let id = (cell / 4096 % 4) as usize;
-        return known[id];
-    }
-    true
-}
-
-// Goes over the `n` patterns at a place.
-fn patterns(whole: &[u8], at: BitPlace, n: u32, marks: &[u8; 512]) -> Way
-    requires { ⌜ Marks (now marks) ⌝ }
-    requires { ⌜ Within (now whole) (at .0) ⌝ }
-    ensures { λ r. ⌜ Sure (r .sure) (PatternsPast (now (whole .entry)) (at .0) n (r .at .0)) ⌝ }
-{
-    let mut known = [false; 4];
-    let mut place = at;
-    let mut left = n;
-    while 0 < left {
-        match tone_elements::header(whole, place) {
-            Step::Bad { number: _, at: _ } => {
-                return lost(place);
-            }
-            Step::Good { value, next } => {
-                if !may_stand(known, value) {
-                    return lost(place);
-                }
-                let way = body(whole, next, value % 256, marks);
-                if !way.sure {
-                    return lost(place);
-                }
-                known[(value / 4096 % 4) as usize] = true;
-                place = way.at;
-                left -= 1;
-            }
-        }
-    }
-    Way {
-        at: place,
-        left,
-        sure: true,
-    }
-}
+// ---- the front
 
 // Where the patterns of a tone begin, and how many there are; none where no front is sure.
 struct Start {
@@ -382,6 +336,56 @@ fn front(whole: &[u8], at: BitPlace) -> Start
     let behind = BitPlace(at.0 + said.bits as usize);
     typed(whole, behind, x << said.bits, said.unicode)
 }
+
+// ---- the patterns
+
+// Does a header recall nothing, or what is known?
+fn may_stand(known: [bool; 4], cell: u32) -> bool
+    ensures { λ r. ⌜ r ≡ recallable known cell ⌝ }
+{
+    if cell % 256 == 0 {
+        let id = (cell / 4096 % 4) as usize;
+        return known[id];
+    }
+    true
+}
+
+// Goes over the `n` patterns at a place.
+fn patterns(whole: &[u8], at: BitPlace, n: u32, marks: &[u8; 512]) -> Way
+    requires { ⌜ Marks (now marks) ⌝ }
+    requires { ⌜ Within (now whole) (at .0) ⌝ }
+    ensures { λ r. ⌜ Sure (r .sure) (PatternsPast (now (whole .entry)) (at .0) n (r .at .0)) ⌝ }
+{
+    let mut known = [false; 4];
+    let mut place = at;
+    let mut left = n;
+    while 0 < left {
+        match tone_elements::header(whole, place) {
+            Step::Bad { number: _, at: _ } => {
+                return lost(place);
+            }
+            Step::Good { value, next } => {
+                if !may_stand(known, value) {
+                    return lost(place);
+                }
+                let way = body(whole, next, value % 256, marks);
+                if !way.sure {
+                    return lost(place);
+                }
+                known[(value / 4096 % 4) as usize] = true;
+                place = way.at;
+                left -= 1;
+            }
+        }
+    }
+    Way {
+        at: place,
+        left,
+        sure: true,
+    }
+}
+
+// ---- the end, and the tone
 
 // Do filler and the end octet stand at a place, and nothing else up to the end of an octet?
 fn ends(whole: &[u8], at: BitPlace, end: OctetCount) -> bool
