@@ -5,7 +5,6 @@ use mathlib.Core.Path.{_≡_, refl, sym, ap, ap₂, subst, _∙_}
 use mathlib.Core.List.{List}
 use lib.ListN.{length, take, drop, length-append, length-take, length-drop, take-append-drop}
 use lib.Seq.{length-take-le, take-length, take-append-seam, drop-drop}
-use Rattle.bits.specs.Outcome.{accepted}
 use Rattle.bitmap.specs.Bitmap.{Bitmap}
 use Rattle.bitmap.proofs.Rules.{write-read as bitmap-write-read}
 use Rattle.bitmap_ahead.specs.declared.Kind.{Kind}

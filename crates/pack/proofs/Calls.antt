@@ -1,5 +1,5 @@
 -- What holds of the calls: demand 2 for packs, the nth message, and both ways round.
-use Prim.Native.Nat.{ℕ, zero, suc, _+_, _*_, _≤_, _<_}
+use Prim.Native.Nat.{ℕ, _+_, _*_, _≤_, _<_}
 use native.Mathlib.Omega.{arith}
 use mathlib.Core.Path.{_≡_, refl, sym, ap, ap₂, subst, _∙_}
 use mathlib.Core.Logic.{_↔_}
@@ -27,9 +27,9 @@ use Rattle.pack.specs.declared.Reading.{Reading}
 use Rattle.pack.specs.declared.Reading.the-variants.{Read}
 use Rattle.pack.specs.declared.Finding.{Finding}
 use Rattle.pack.specs.declared.Finding.the-variants.{Found}
-use Rattle.pack.specs.Pack.{mostPack, packOf, packLength, messagesOf, packOctets, AllFormed, Packable, Row, lengthsIn, firstRow, count, rowsIn, messagesIn, readInTurn, readPack, noRow, nthRow, writePack}
+use Rattle.pack.specs.Pack.{mostPack, packOf, packLength, messagesOf, packOctets, Packable, Row, lengthsIn, firstRow, count, rowsIn, messagesIn, readInTurn, readPack, noRow, nthRow, writePack}
 use Rattle.pack.specs.Promises.{readAnswer, ReadPromise, findAnswer, FindPromise, stretchOf, stretchStart, MessagePromise, WritePromise}
-use Rattle.pack.proofs.Rules.{length-packOf, length-rowsAt, demanded, turn-nth, Met, met, read-count, lengths-add-up}
+use Rattle.pack.proofs.Rules.{length-packOf, length-rowsAt, demanded, turn-nth, Met, met, read-count}
 use Rattle.pack.proofs.Nth.{a-message, nth-rowsAt, nth-start}
 use Rattle.pack.proofs.Order.{room-enough}
 use Rattle.pack.proofs.Demand2.{turn-written, turn-exactly, lengths-there, messages-there, pack-is-accepted, pack-is-written, pack-is-packable}

@@ -1,28 +1,25 @@
 -- Demand 2 of the rules: a pack is accepted exactly if it is the writing of some list of well-formed tones.
-use Prim.Native.Nat.{ℕ, zero, suc, _+_, _-_, _*_, _≤_, _<_}
+use Prim.Native.Nat.{ℕ, zero, suc, _+_, _-_, _*_, _≤_}
 use native.Mathlib.Omega.{arith}
-use native.Mathlib.Nat.{add-zero}
 use mathlib.Core.Path.{_≡_, refl, sym, ap, ap₂, subst, _∙_}
 use mathlib.Core.Logic.{_↔_}
-use mathlib.Core.Bool.{Bool, true, false, _&&_}
-use mathlib.Core.List.{List, [], _∷_, _++_, append-assoc, append-nil}
-use lib.ListN.{length, getD, take, drop, length-append, length-map, take-append-drop, drop-of-length-le}
-use lib.Seq.{drop-drop, length-take-le}
-use lib.Dec.{leb, eqb}
+use mathlib.Core.Bool.{true}
+use mathlib.Core.List.{List, [], _∷_, _++_, append-assoc}
+use lib.ListN.{length, take, drop, length-append, length-map, take-append-drop, drop-of-length-le}
+use lib.Seq.{length-take-le}
+use lib.Dec.{eqb}
 use borrow.Author.Tests.{le-leb, eq-eqb, eqb-true}
 use Rattle.bits.specs.Bits.{Octets}
-use Rattle.bits.specs.Outcome.{Outcome, accepted, refused}
+use Rattle.bits.specs.Outcome.{accepted}
 use Rattle.bits.proofs.Choice.{both}
 use Rattle.tone.specs.Tone.{Tone}
-use Rattle.tone.specs.Writing.{toneOctets, WellFormed}
-use Rattle.tone.specs.Reading.{readTone}
+use Rattle.tone.specs.Writing.{toneOctets}
 use Rattle.tone.proofs.Demand2.{accepted-is-written, written-is-accepted}
 use Rattle.inside.specs.Inside.{number, pair, join, lengths, sum, cut}
 use Rattle.inside.proofs.Pairs.{number-pair, pair-number}
-use Rattle.inside.proofs.Stretches.{length-join, length-cut, lengths-cut, join-cut, cut-join, AllOctets, octets-cut}
-use Rattle.pack.specs.Pack.{mostPack, rowsFrom, packOf, packLength, messagesOf, packOctets, AllFormed, Packable, Row, rowAt, rowsAt, lengthsIn, firstRow, count, rowsIn, messagesIn, continues, readInTurn, readPack}
-use Rattle.pack.proofs.Turning.{continues-sum}
-use Rattle.pack.proofs.Rules.{length-rowsFrom, length-packOf, length-rowsAt, First, turn-first, Met, met, read-count, lengths-add-up}
+use Rattle.inside.proofs.Stretches.{length-join, lengths-cut, join-cut, cut-join, AllOctets, octets-cut}
+use Rattle.pack.specs.Pack.{mostPack, rowsFrom, packOf, messagesOf, packOctets, AllFormed, Packable, Row, rowsAt, lengthsIn, firstRow, count, rowsIn, messagesIn, continues, readInTurn, readPack}
+use Rattle.pack.proofs.Rules.{length-rowsFrom, length-packOf, length-rowsAt, turn-first, Met, met, lengths-add-up}
 
 -- ---- messages in turn
 

@@ -2,16 +2,16 @@
 use Prim.Native.Nat.{ℕ, _+_, _-_, _*_, _≤_, _<_}
 use native.Mathlib.Omega.{arith}
 use native.Mathlib.Nat.{add-comm}
-use mathlib.Core.Path.{_≡_, refl, sym, ap, ap₂, subst, _∙_}
+use mathlib.Core.Path.{_≡_, refl, sym, ap, ap₂, _∙_}
 use mathlib.Core.Bool.{Bool, true, false, not}
-use mathlib.Core.List.{List, []}
+use mathlib.Core.List.{List}
 use lib.ListN.{length, getD, take, drop}
-use lib.Dec.{leb, ltb, eqb}
+use lib.Dec.{ltb, eqb}
 use denote.Ref.{RefT, ptr, now}
 use mir.Val.{Fits}
 use mir.Syntax.{w32, w64}
-use borrow.Author.Tests.{le-leb, lt-leb, eq-eqb, ne-eqb, lt-ltb, le-ltb, ltb-true}
-use Rattle.bits.specs.Outcome.{Outcome, accepted, refused, andThen, demand}
+use borrow.Author.Tests.{le-leb, lt-leb, eq-eqb, ne-eqb, lt-ltb, le-ltb}
+use Rattle.bits.specs.Outcome.{Outcome, accepted, refused, demand}
 use Rattle.bits.specs.Places.{place, octetCount}
 use Rattle.bits.specs.declared.BitPlace.{BitPlace}
 use Rattle.bits.specs.declared.OctetCount.{OctetCount}
@@ -26,8 +26,8 @@ use Rattle.pack.specs.declared.Finding.{Finding}
 use Rattle.pack.specs.declared.Finding.the-variants.{Found, Refused as Missing}
 use Rattle.pack.specs.Pack.{mostPack, Row, rowAt, rowsAt, lengthsIn, firstRow, count, rowsIn, continues, readInTurn, readPack, noRow, nthRow}
 use Rattle.pack.specs.Answers.{turnOf, rowsJudged, judgedOf}
-use Rattle.pack.specs.Promises.{readAnswer, readNumbers, ReadPromise, findAnswer, findNumbers, FindPromise, stretchOf, stretchStart, MessagePromise}
-use Rattle.pack.proofs.Rules.{Met, met, read-count}
+use Rattle.pack.specs.Promises.{ReadPromise, findAnswer, findNumbers, FindPromise, MessagePromise}
+use Rattle.pack.proofs.Rules.{met, read-count}
 use Rattle.pack.proofs.Nth.{nth-rowsAt, row-inside, row-short}
 
 -- ---- judge_rows

@@ -4,18 +4,16 @@ use native.Mathlib.Omega.{arith}
 use native.Mathlib.Numerals.{add-one}
 use native.Mathlib.Nat.{add-zero}
 use mathlib.Core.Path.{_≡_, refl, sym, ap, ap₂, _∙_}
-use mathlib.Core.List.{List, [], _∷_, _++_, append-assoc}
+use mathlib.Core.List.{List, [], _∷_, _++_}
 use lib.ListN.{length, getD, take, drop, set, length-append, length-drop, drop-of-length-le}
 use lib.Seq.{sets, length-sets, sets-eq, drop-cons, drop-drop, take-append-seam, drop-append-add}
-use lib.Dec.{leb, eqb}
+use lib.Dec.{leb}
 use mir.Val.{Fits}
-use mir.Syntax.{w32, w64}
+use mir.Syntax.{w64}
 use borrow.Author.Tests.{le-leb, lt-leb, eq-eqb, ne-eqb}
-use Rattle.bits.specs.Lent.{over}
 use Rattle.bits.specs.Outcome.{Outcome, accepted, refused, andThen, demand}
 use Rattle.bits.specs.Places.{place, octetCount}
 use Rattle.bits.specs.declared.BitPlace.{BitPlace}
-use Rattle.bits.specs.declared.OctetCount.{OctetCount}
 use Rattle.tone.specs.Tone.{Tone}
 use Rattle.inside.specs.declared.Inside.{Inside}
 use Rattle.inside.specs.declared.Inside.the-variants.{Fine, Fault}

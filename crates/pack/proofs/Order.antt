@@ -1,9 +1,9 @@
 -- Where two grounds against a pack meet, which of them is given, and where. Nth.antt has those against finding a message.
 use Prim.Native.Nat.{ℕ, _+_, _*_, _≤_, _<_}
 use native.Mathlib.Omega.{arith}
-use mathlib.Core.Path.{_≡_, refl, sym, ap, ap₂, _∙_}
+use mathlib.Core.Path.{_≡_, refl, sym, ap, _∙_}
 use mathlib.Core.Logic.{_⊎_, inl, inr, ⊎-elim}
-use mathlib.Core.Bool.{Bool, true, false}
+use mathlib.Core.Bool.{true, false}
 use mathlib.Core.List.{List, [], _∷_, _++_}
 use lib.ListN.{length, length-append}
 use lib.Dec.{leb, eqb}
@@ -18,7 +18,7 @@ use Rattle.tone.proofs.Refusals.{long-first}
 use Rattle.tone.proofs.Grounds.{Among, read-number}
 use Rattle.inside.specs.Inside.{join, sum, cut, movedBy}
 use Rattle.pack.specs.Pack.{packLength, packOf, firstRow, count, rowsIn, messagesIn, continues, readInTurn, readPack, writePack}
-use Rattle.pack.proofs.Rules.{First, turn-first}
+use Rattle.pack.proofs.Rules.{turn-first}
 
 -- ---- messages in turn
 

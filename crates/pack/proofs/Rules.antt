@@ -1,19 +1,18 @@
 -- What the rules of a pack come to.
 use Prim.Native.Nat.{ℕ, zero, suc, _+_, _-_, _*_, _≤_, _<_}
 use native.Mathlib.Omega.{arith}
-use mathlib.Core.Path.{_≡_, refl, sym, ap, ap₂, _∙_}
-use mathlib.Core.Bool.{Bool, true, false, _&&_}
+use mathlib.Core.Path.{_≡_, refl, sym, ap, _∙_}
+use mathlib.Core.Bool.{Bool, true, false}
 use mathlib.Core.List.{List, [], _∷_, _++_}
-use lib.ListN.{length, getD, take, drop, length-append, length-map, length-drop}
+use lib.ListN.{length, getD, length-append, length-map}
 use lib.Dec.{leb, eqb}
 use borrow.Author.Tests.{leb-true, eqb-true}
 use Rattle.bits.specs.Outcome.{Outcome, accepted, refused, andThen, demand}
-use Rattle.bits.proofs.Choice.{both}
 use Rattle.tone.specs.Tone.{Tone}
 use Rattle.tone.specs.Reading.{readTone}
-use Rattle.inside.specs.Inside.{number, pair, sum, cut, movedBy}
+use Rattle.inside.specs.Inside.{pair, sum, movedBy}
 use Rattle.inside.proofs.Stretches.{length-cut}
-use Rattle.pack.specs.Pack.{mostPack, rowsFrom, packOf, packLength, Row, rowAt, rowsAt, lengthsIn, firstRow, count, rowsIn, messagesIn, continues, readInTurn, readPack}
+use Rattle.pack.specs.Pack.{mostPack, rowsFrom, packOf, packLength, Row, rowsAt, lengthsIn, firstRow, count, rowsIn, messagesIn, continues, readInTurn, readPack}
 use Rattle.pack.proofs.Turning.{continues-sum}
 
 -- ---- lengths

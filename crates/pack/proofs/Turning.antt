@@ -3,8 +3,8 @@ use Prim.Native.Nat.{ℕ, zero, suc, _+_, _-_, _*_, _≤_, _<_}
 use native.Mathlib.Omega.{arith}
 use native.Mathlib.Numerals.{add-one}
 use mathlib.Core.Path.{_≡_, refl, sym, ap, ap₂, subst, _∙_}
-use mathlib.Core.Bool.{Bool, true, false, _&&_}
-use mathlib.Core.List.{List, [], _∷_, _++_}
+use mathlib.Core.Bool.{true, false, _&&_}
+use mathlib.Core.List.{List, [], _∷_}
 use lib.ListN.{length, getD, take, drop, length-drop, drop-of-length-le}
 use lib.Seq.{length-take-le, drop-drop, drop-cons}
 use lib.Dec.{eqb}
@@ -12,7 +12,6 @@ use mir.Val.{Fits}
 use mir.Syntax.{w32, w64}
 use borrow.Author.Tests.{eqb-true, eq-eqb, ne-eqb}
 use Rattle.bits.specs.Outcome.{Outcome, accepted, refused, andThen}
-use Rattle.bits.specs.Places.{place}
 use Rattle.bits.specs.declared.BitPlace.{BitPlace}
 use Rattle.bits.proofs.Choice.{both}
 use Rattle.tone.specs.Tone.{Tone}
@@ -21,7 +20,7 @@ use Rattle.inside.specs.declared.Inside.{Inside}
 use Rattle.inside.specs.declared.Inside.the-variants.{Fine, Fault}
 use Rattle.inside.specs.Inside.{number, sum, cut, movedBy}
 use Rattle.inside.specs.Answers.{insideOf}
-use Rattle.pack.specs.Pack.{Row, rowAt, rowsAt, lengthsIn, continues, readInTurn}
+use Rattle.pack.specs.Pack.{Row, rowsAt, lengthsIn, continues, readInTurn}
 use Rattle.pack.specs.Answers.{turnOf}
 
 -- ---- rows that continue each other

@@ -3,7 +3,7 @@ use Prim.Native.Nat.{ℕ}
 use mathlib.Core.Path.{_≡_}
 use mathlib.Core.List.{List, [], _∷_, _++_}
 use lib.ListN.{length, take}
-use Rattle.bits.specs.Outcome.{Outcome, accepted, refused}
+use Rattle.bits.specs.Outcome.{accepted, refused}
 use Rattle.pack.specs.Pack.{mostPack, packOctets, rowsFrom, readPack, nthRow, writePack}
 use Rattle.pack.specs.Promises.{readNumbers, findNumbers, stretchOf}
 

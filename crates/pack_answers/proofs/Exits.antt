@@ -11,8 +11,8 @@ use Rattle.pack.specs.declared.Reading.{Reading}
 use Rattle.pack.specs.declared.Reading.the-variants.{Read, Refused}
 use Rattle.pack.specs.declared.Finding.{Finding}
 use Rattle.pack.specs.declared.Finding.the-variants.{Found, Refused as Missing}
-use Rattle.pack.specs.Pack.{Row, readPack, nthRow}
-use Rattle.pack.specs.Promises.{numbersOfReading, readNumbers, ReadPromise, numbersOfFinding, findNumbers, FindPromise, stretchOf}
+use Rattle.pack.specs.Pack.{Row, nthRow}
+use Rattle.pack.specs.Promises.{numbersOfReading, ReadPromise, numbersOfFinding, findNumbers, FindPromise, stretchOf}
 use Rattle.pack_answers.specs.Promise.{packAs, PackReadExport, stretchAs, PackMessageExport}
 
 -- ---- read_pack

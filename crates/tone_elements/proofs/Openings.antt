@@ -8,7 +8,6 @@ use mathlib.Core.List.{List, []}
 use lib.ListN.{length, drop}
 use lib.Dec.{eqb, leb, lit≤}
 use borrow.Author.Tests.{eq-eqb, ne-eqb, le-leb}
-use mir.Val.{bits}
 use Rattle.bits.specs.Bits.{bitsOf, field, fillerTo, placeAfter, octetsTo}
 use Rattle.bits.specs.declared.BitPlace.{BitPlace}
 use Rattle.bits.specs.declared.OctetCount.{OctetCount}

@@ -20,7 +20,7 @@ use Rattle.tone.specs.Table.{kind}
 use Rattle.tone.specs.Reading.{Got, got, bad, onward, instructionDue, bodyDue}
 use Rattle.tone_elements.specs.Answers.{stepAs, stepOf, noteIn, notes}
 use Rattle.tone.proofs.Exact.{Exact}
-use Rattle.tone.proofs.Rows.{instruction-exact, body-exact, length-entryBits}
+use Rattle.tone.proofs.Rows.{instruction-exact, length-entryBits}
 use Rattle.tone_elements.proofs.Seeing.{instruction-width}
 use Rattle.tone_elements.proofs.Steps.{step-there, step-bad, step-cong, step-map}
 

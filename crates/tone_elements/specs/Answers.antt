@@ -7,7 +7,6 @@ use lib.ListN.{length, drop}
 use lib.Dec.{eqb}
 use Rattle.bits.specs.Choice.{pick}
 use Rattle.bits.specs.Bits.{bitsOf, field, placeAfter}
-use Rattle.bits.specs.Window.{Sight}
 use Rattle.bits.specs.Places.{place, octetCount}
 use Rattle.tone_elements.specs.declared.Step.{Step}
 use Rattle.tone_elements.specs.declared.Step.the-variants.{Good, Bad}
@@ -20,7 +19,7 @@ use Rattle.tone_elements.specs.declared.Opening.the-variants.{Opened, Cl
 use Rattle.tone.specs.Table.{kind, InTable}
 use Rattle.tone.specs.Tone.{Front, characterBits, allowedCharacter}
 use Rattle.tone.specs.Writing.{entryBits}
-use Rattle.tone.specs.Reading.{Got, got, bad, instructionDue}
+use Rattle.tone.specs.Reading.{Got, got, bad}
 
 -- a place within a message, whose bits a place can count
 pub record Within (m : List ℕ) (at : ℕ) : Type 0 where

@@ -13,7 +13,6 @@ use borrow.Author.Tests.{leb-true}
 use Rattle.bits.specs.Choice.{pick}
 use Rattle.bits.specs.Bits.{bitsOf}
 use Rattle.bits.specs.Window.{Sight}
-use Rattle.bits.specs.Places.{place}
 use Rattle.bits.proofs.Below.{at-each, same-each}
 use Rattle.bits.proofs.Looking.{length-left}
 use Rattle.tone.specs.Reading.{got, instructionDue, bodyDue}

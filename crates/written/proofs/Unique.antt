@@ -12,7 +12,7 @@ use Rattle.bits.specs.declared.OctetCount.{OctetCount}
 use Rattle.written.specs.declared.Writing.{Writing}
 use Rattle.written.specs.declared.Writing.the-variants.{Written, Refused}
 use Rattle.written.specs.declared.WrittenAnswer.{WrittenAnswer}
-use Rattle.written.specs.Written.{numbers, writeNumbers, writeAnswer, octetsAfter, Fills, answerAs, FillsNumbers}
+use Rattle.written.specs.Written.{numbers, writeAnswer, octetsAfter, Fills, answerAs, FillsNumbers}
 
 module _ {o : Outcome (List ℕ)} {out : List ℕ} where
   -- two outcomes that satisfy it coincide
