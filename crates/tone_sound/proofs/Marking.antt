@@ -13,7 +13,7 @@ use borrow.Author.Tests.{leb-true, eqb-true}
 use Rattle.bits.specs.Choice.{pick}
 use Rattle.bits.proofs.Below.{passes, at-each, same-each}
 use Rattle.tone_tell.specs.Telling.{begins}
-use Rattle.tone_sound.specs.Turning.{turn, clear, Mark, Marks, markOf, markIn, wideIn, widthIn, onward}
+use Rattle.tone_sound.specs.Turning.{turn, clear, Mark, Marks, markOf, markIn, packed, wideIn, widthIn, onward}
 
 -- ---- marks
 
@@ -56,9 +56,6 @@ marks-together {a} {b} ma mb = go (which ma) (which mb)
 -- what holds of the packed number for each of the eight kinds
 each-kind : (f : ℕ → Bool) → passes f 8 ≡ true → (y : ℕ) → f (y / 8 % 8) ≡ true
 each-kind f h y = at-each f 8 h (y / 8 % 8) (omega arith)
-
-abbrev packed : ℕ → ℕ
-packed k = 0x3F3F070805050C3F / 2 ^ (8 * k)
 
 pub width-least : (y : ℕ) → 1 ≤ packed (y / 8 % 8) % 64
 width-least y = leb-true 1 (packed (y / 8 % 8) % 64) (each-kind (λ k. leb 1 (packed k % 64)) refl y)

@@ -21,7 +21,7 @@ use Rattle.tone_tell.proofs.Packed.{bits-packed, bits-least}
 use Rattle.tone_elements.specs.Answers.{noteIn}
 use Rattle.tone_elements.proofs.Steps.{step-good}
 use Rattle.tone_elements.proofs.Telling.{told-seen}
-use Rattle.tone_sound.specs.Turning.{turn, clear, markOf, markIn, wideIn, widthIn, onward, along, AllClear}
+use Rattle.tone_sound.specs.Turning.{turn, clear, markOf, markIn, packed, wideIn, widthIn, onward, along, AllClear}
 use Rattle.tone_sound.specs.Answers.{Past}
 use Rattle.tone_sound.proofs.Turns.{turn-lt, turn-low, turn-turn, sight-turned}
 
@@ -46,7 +46,7 @@ module _ (z : ℕ) (h : z < 2 ^ 64) where
 
   turned-width : widthIn (turn 6 z) ≡ bitsOn z
   unfolding wideIn
-  turned-width = ap (λ (k : ℕ). 0x3F3F070805050C3F / 2 ^ (8 * k) % 64) turned-kind ∙ bits-packed z h
+  turned-width = ap (λ (k : ℕ). packed k % 64) turned-kind ∙ bits-packed z h
 
   -- and three bits more, the first nine of the ten that tell a fault
   turned-nine : turn 3 (turn 6 z) % 512 ≡ z / 2 ^ 54 / 2

@@ -34,9 +34,13 @@ pub record Marks (row : List ℕ) : Type 0 where
 abbrev pub kindIn : ℕ → ℕ
 kindIn y = y / 8 % 8
 
--- a packed number of widths, of which its own is the lowest octet
+-- the widths of the kinds, an octet each, from that of kind k on
+abbrev pub packed : ℕ → ℕ
+packed k = 0x3F3F070805050C3F / 2 ^ (8 * k)
+
+-- of these its own is the lowest octet
 unfoldable pub wideIn : ℕ → ℕ
-wideIn y = 0x3F3F070805050C3F / 2 ^ (8 * kindIn y)
+wideIn y = packed (kindIn y)
 
 -- its bits, the id among them
 abbrev pub widthIn : ℕ → ℕ
