@@ -1,11 +1,11 @@
 -- Reading a tone message: elements left to right, each complete before it is judged.
-use Prim.Native.Nat.{ℕ, zero, suc, _+_, _/_, _%_}
+use Prim.Native.Nat.{ℕ, zero, suc, _+_, _-_, _/_, _%_}
 use mathlib.Core.Bool.{Bool, true, false, _||_}
 use mathlib.Core.List.{List, [], _∷_, _++_}
 use lib.ListN.{length}
 use lib.Dec.{leb, ltb, eqb}
 use Rattle.bits.specs.Choice.{pick}
-use Rattle.bits.specs.Bits.{field, bitsOf, fillerTo, placeAfter}
+use Rattle.bits.specs.Bits.{field, bitsOf, fillerTo, placeAfter, octetsBefore}
 use Rattle.bits.specs.Outcome.{Outcome, accepted, refused}
 use Rattle.tone.specs.Table.{entry, width, allowed, isInstruction}
 use Rattle.tone.specs.Tone.{Pattern, Tone, Front, characterBits, allowedCharacter, specifier, pattern, noneKnown, recallable, learn}
@@ -199,3 +199,14 @@ unfoldable pub readTone : List ℕ → Outcome Tone
 readTone m =
     pick (ltb mostOctets (length m)) (refused 1 0)
     (nothingMore (placeAfter (length m)) (wholeTone (bitsOf m) 0))
+
+-- ---- a tone inside something larger
+
+-- how many octets were read from an octet on; none where reading was refused
+abbrev pub octetsRead : {A : Type 0} → ℕ → Got A → ℕ
+octetsRead start (got a p) = octetsBefore p - start
+octetsRead start (bad n p e) = 0
+
+-- how many octets the tone has that starts at an octet, through its own end octet; none where no tone starts there
+unfoldable pub toneAt : List ℕ → ℕ → ℕ
+toneAt m start = octetsRead start (wholeTone (bitsOf m) (placeAfter start))
