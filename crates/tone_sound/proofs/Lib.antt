@@ -1,6 +1,7 @@
 pub mod Turns
 pub mod Marking
 pub mod Running
+pub mod Dues
 pub mod Walking
 pub mod Bodies
 pub mod Rows

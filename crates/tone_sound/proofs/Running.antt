@@ -13,6 +13,7 @@ use Rattle.tone_sound.proofs.Marking.{marks-together, mark-in, wide-oct
 pub record Run (n x met : ℕ) (t : Told) (left : ℕ) : Type 0 where
   pub widths : t .widths % 256 + along widthIn left (t .bits) ≡ along widthIn n (turn 6 x)
   pub marks : t .marks ≡ clear → AllClear left (t .bits) → (met ≡ clear) × AllClear n (turn 6 x)
+  pub unmarked : met ≡ clear → AllClear n (turn 6 x) → (t .marks ≡ clear) × AllClear left (t .bits)
   pub mark : Mark (t .marks)
   pub fewer : left ≤ n
   pub room : t .widths + 2 ^ 62 * left ≤ 2 ^ 62 * n
@@ -32,6 +33,7 @@ run-begins n x met {t} k e =
     record {
       widths = rw (z, e .0) (zero-add (along widthIn n (turn 6 x)));
       marks = λ m a. (sym (e .2) ∙ m, subst (AllClear n) (e .0) a);
+      unmarked = λ m a. (e .2 ∙ m, subst (AllClear n) (sym (e .0)) a);
       mark = subst Mark (sym (e .2)) k;
       fewer = omega arith;
       room = omega (arith, e .1);
@@ -47,6 +49,10 @@ clear-less : (left y : ℕ) → 0 < left → markIn y ≡ clear → AllClear (le
 clear-less zero y h e a = absurd (omega arith)
 clear-less (suc k) y h e a = let z : suc k - 1 ≡ k = omega arith in (e, subst (λ (j : ℕ). AllClear j (onward y)) z a)
 
+clear-more : (left y : ℕ) → 0 < left → AllClear left y → (markIn y ≡ clear) × AllClear (left - 1) (onward y)
+clear-more zero y h a = absurd (omega arith)
+clear-more (suc k) y h a = let z : suc k - 1 ≡ k = omega arith in (a .0, subst (λ (j : ℕ). AllClear j (onward y)) (sym z) (a .1))
+
 pub run-on : {n x met : ℕ} {t : Told} {left : ℕ} {r : Told} → Run n x met t left → 0 < left → n ≤ 4 → Next t r → (r .widths ≤ t .widths + 2 ^ 62) × Mark (r .marks) → Run n x met r (left - 1)
 run-on {n} {x} {met} {t} {left} {r} c h k e l =
     let y = t .bits in
@@ -58,6 +64,10 @@ run-on {n} {x} {met} {t} {left} {r} c h k e l =
       marks = λ m b.
           let both = marks-together (c .mark) (mark-in y) .1 (sym (e .2) ∙ m) in
           c .marks (both .0) (clear-less left y h (both .1) (subst (AllClear (left - 1)) (e .0) b));
+      unmarked = λ m b.
+          let u = c .unmarked m b in
+          let v = clear-more left y h (u .1) in
+          (e .2 ∙ (rw (u .0, v .0) refl), subst (AllClear (left - 1)) (sym (e .0)) (v .1));
       mark = l .1;
       fewer = omega (arith, c .fewer);
       room = omega (arith, c .room, l .0);
@@ -70,6 +80,7 @@ run-ends {t = t} {left = left} c h =
     record {
       widths = omega (arith, c .widths, ap (λ (k : ℕ). along widthIn k (t .bits)) z);
       marks = λ m. c .marks m (subst (λ (k : ℕ). AllClear k (t .bits)) (sym z) tt);
+      unmarked = λ m a. c .unmarked m a .0;
       mark = c .mark;
     }
 

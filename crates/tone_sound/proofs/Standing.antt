@@ -15,10 +15,14 @@ use Rattle.tone.specs.Reading.{got, front as frontDue, ending, rest, wholeTone}
 use Rattle.tone_elements.specs.Answers.{Within, Sure}
 use Rattle.tone_elements.proofs.Steps.{step-there}
 use Rattle.tone_elements.proofs.Openings.{ending-told}
-use Rattle.tone_sound.specs.Answers.{PatternsPast, FrontAt, Starts, EndAt, StandsAt}
-use Rattle.tone_sound.proofs.Bodies.{unsure, was-sure}
+use Rattle.tone_sound.specs.Answers.{Tells, PatternsPast, PatternsStand, FrontAt, Starts, EndAt, StandsAt}
+use Rattle.tone_sound.proofs.Bodies.{nothing-sure, was-sure}
 
 -- zeros through the last octet
+-- where the code says no, nothing is said
+pub nothing : {P : Type 0} → Sure false P
+nothing = record { so = nothing-sure false refl }
+
 pub ends-told : (m : List ℕ) (at end : ℕ) {x y : ℕ} → y ≡ octetsTo at → y + 1 ≡ end → end ≤ length m → Sight (fillerTo at + 8) (drop at (bitsOf m)) x → Sure (eqb x 0) (EndAt m at end)
 ends-told m at end {x} {y} ey e h s = record {
   so = λ t. record { value = 0; reads = step-there (ending (bitsOf m) at) (ending-told m at ey (omega arith) s (eqb-true x 0 t) {p = place (placeAfter end)} (omega arith)) };
@@ -33,7 +37,7 @@ module _ (m : List ℕ) (at : ℕ) {p n : ℕ} (f : Starts frontDue m at p n) (s
   pub opened-within : length m < 2 ^ 60 → Within m p
   opened-within l = record { inside = opened .inside; counted = l }
 
-  module _ {b : Bool} {q : ℕ} (s : Sure b (PatternsPast m p n q)) (sure : not b ≡ false) where
+  module _ {b : Bool} {q : ℕ} (s : Tells b (PatternsPast m p n q) (PatternsStand m p n)) (sure : not b ≡ false) where
     -- where it is sure of the patterns, they were read
     past : PatternsPast m p n q
     past = s .so (was-sure b sure)
@@ -55,6 +59,6 @@ module _ (m : List ℕ) (at : ℕ) {p n : ℕ} (f : Starts frontDue m at p n) (s
     pub stands : (start end : ℕ) {r : Bool} → at ≡ placeAfter start → Sure r (EndAt m q end) → Sure r (StandsAt m start end)
     stands start end a e = record { so = λ h. record { tone = tone; reads = subst (λ (z : ℕ). wholeTone (bitsOf m) z ≡ got tone (placeAfter end)) a (all-read (e .so h .reads)) } }
 
-pub ruleset endings = (unsure, ends-told)
+pub ruleset endings = (nothing, ends-told)
 
-pub ruleset standing = (unsure, opened-within, patterns-within, stands)
+pub ruleset standing = (nothing, opened-within, patterns-within, stands)

@@ -16,13 +16,16 @@ use Rattle.bits.specs.Window.{Sight}
 use Rattle.bits.proofs.Below.{at-each, same-each}
 use Rattle.bits.proofs.Looking.{length-left}
 use Rattle.tone.specs.Reading.{got, instructionDue, bodyDue}
+use Rattle.tone.proofs.Rows.{instruction-exact}
 use Rattle.tone_tell.specs.Telling.{kindBits, begins, bitsOn, faultOn}
 use Rattle.tone_tell.proofs.Packed.{bits-packed, bits-least}
 use Rattle.tone_elements.specs.Answers.{noteIn}
 use Rattle.tone_elements.proofs.Steps.{step-good}
 use Rattle.tone_elements.proofs.Telling.{told-seen}
+use Rattle.tone_elements.proofs.Walks.{stays}
 use Rattle.tone_sound.specs.Turning.{turn, clear, markOf, markIn, packed, wideIn, widthIn, onward, along, AllClear}
 use Rattle.tone_sound.specs.Answers.{Past}
+use Rattle.tone_sound.proofs.Dues.{due-told, body-first}
 use Rattle.tone_sound.proofs.Turns.{turn-lt, turn-low, turn-turn, sight-turned}
 
 -- ---- one instruction, turned by six
@@ -34,6 +37,10 @@ begins-even = same-each (λ z. pick (begins z) 0 1) (λ z. pick (begins (2 * (z 
 unmarked : (b : Bool) → _≡_ {A = ℕ} (pick b clear 49) clear → _≡_ {A = ℕ} (pick b 0 1) 0
 unmarked true h = refl
 unmarked false h = absurd (omega arith)
+
+marked : (b : Bool) → _≡_ {A = ℕ} (pick b 0 1) 0 → _≡_ {A = ℕ} (pick b clear 49) clear
+marked true h = refl
+marked false h = absurd (omega arith)
 
 -- no instruction of the table has more than twelve bits
 table-narrow : (z : ℕ) → z < 1024 → leb (getD kindBits (z / 128) 0) (pick (begins z) 12 63) ≡ true
@@ -57,6 +64,13 @@ module _ (z : ℕ) (h : z < 2 ^ 64) where
   unfolding markIn markOf faultOn
   turned-clear e =
       begins-even (z / 2 ^ 54) (omega arith) ∙ unmarked (begins (2 * (z / 2 ^ 54 / 2))) (sym (ap (λ (u : ℕ). pick (begins (2 * u)) clear 49) turned-nine) ∙ e)
+
+  -- and back
+  clear-turned : faultOn z ≡ 0 → markIn (turn 6 z) ≡ clear
+  unfolding markIn markOf faultOn
+  clear-turned e =
+      ap (λ (u : ℕ). pick (begins (2 * u)) clear 49) turned-nine
+      ∙ marked (begins (2 * (z / 2 ^ 54 / 2))) (sym (begins-even (z / 2 ^ 54) (omega arith)) ∙ e)
 
   clear-narrow : faultOn z ≡ 0 → bitsOn z ≤ 12
   unfolding faultOn bitsOn
@@ -129,3 +143,24 @@ module _ (m : List ℕ) where
         reads = body-one n p (d .1) (r .reads) ∙ ap (λ (q : ℕ). got (d .0 ∷ r .body) q) e;
         inside = omega (arith, room);
       }
+
+  -- and back: n instructions that stand where a sight shows them have no mark, and end where they are told to
+  pub past-clear : (n p : ℕ) {k z : ℕ} {b : List ℕ} {q : ℕ} → Sight k (drop p (bitsOf m)) z → 12 * n ≤ k → k ≤ 64 → p ≤ 8 * length m → bodyDue n (bitsOf m) p ≡ got b q
+      → AllClear n (turn 6 z) × (p + along widthIn n (turn 6 z) ≡ q)
+  past-clear zero p {k} {z} {b} {q} s h l i d =
+      let g : got [] p ≡ got b q = sym (body-none p) ∙ d in
+      let e : p ≡ q = cc in
+      (tt, add-zero p ∙ e)
+  past-clear (suc n) p {k} {z} {b} {q} s h l i d =
+      let a = body-first m n p d in
+      let g = due-told m p s (omega arith) (a .3) in
+      let f = g .0 in
+      let w = clear-narrow z (s .small) f in
+      let o = turned-onward z (s .small) f in
+      let v = turned-width z (s .small) in
+      let there : p + bitsOn z ≤ 8 * length m = rw (← g .1) (stays instruction-exact m p i (a .3)) in
+      let long : bitsOn z ≤ length (drop p (bitsOf m)) = rw (length-left m p) (omega arith) in
+      let t = subst (λ (y : List Bool). Sight (k - bitsOn z) y (turn (bitsOn z) z)) (drop-drop (bitsOn z) p (bitsOf m)) (sight-turned s l (omega (arith, w)) long) in
+      let r = past-clear n (p + bitsOn z) t (omega (arith, w)) (omega arith) there (subst (λ (y : ℕ). bodyDue n (bitsOf m) y ≡ got (a .2) q) (g .1) (a .4)) in
+      let u : along widthIn n (onward (turn 6 z)) ≡ along widthIn n (turn 6 (turn (bitsOn z) z)) = ap (along widthIn n) o in
+      ((clear-turned z (s .small) f, subst (AllClear n) (sym o) (r .0)), omega (arith, r .1, v, u))

@@ -1,7 +1,7 @@
 -- What the code answers of a tone that it tells.
 use Prim.Native.Nat.{ℕ, _+_, _-_, _%_, _≤_}
 use mathlib.Core.Path.{_≡_}
-use mathlib.Core.Bool.{Bool}
+use mathlib.Core.Bool.{Bool, true}
 use mathlib.Core.List.{List}
 use lib.ListN.{length, drop}
 use Rattle.bits.specs.Bits.{bitsOf, placeAfter}
@@ -11,10 +11,16 @@ use Rattle.tone.specs.Reading.{Reader, got, command, bodyDue, patternsDue, endi
 use Rattle.tone_sound.specs.declared.Told.{Told}
 use Rattle.tone_sound.specs.Turning.{turn, clear, Mark, widthIn, along, AllClear}
 
--- n instructions on top of x were told: their bits, and where no mark is met, none was before, and each is one of the table
+-- a test that tells: where it passes, P holds, and where Q holds, it passes
+pub record Tells (r : Bool) (P Q : Type 0) : Type 0 where
+  pub so : r ≡ true → P
+  pub back : Q → r ≡ true
+
+-- n instructions on top of x were told: their bits, and no mark is met where none was before and each is one of the table, and only there
 pub record ToldOf (n x met : ℕ) (r : Told) : Type 0 where
   pub widths : r .widths % 256 ≡ along widthIn n (turn 6 x)
   pub marks : r .marks ≡ clear → (met ≡ clear) × AllClear n (turn 6 x)
+  pub unmarked : met ≡ clear → AllClear n (turn 6 x) → r .marks ≡ clear
   pub mark : Mark (r .marks)
 
 -- n instructions stand from one place up to another
@@ -22,6 +28,12 @@ pub record Past (m : List ℕ) (at n p : ℕ) : Type 0 where
   pub body : List ℕ
   pub reads : bodyDue n (bitsOf m) at ≡ got body p
   pub inside : p ≤ placeAfter (length m)
+
+-- n instructions stand at a place, and the end octet's bits are left behind them
+pub record Stand (m : List ℕ) (at n : ℕ) : Type 0 where
+  pub end : ℕ
+  pub past : Past m at n end
+  pub room : end + 8 ≤ placeAfter (length m)
 
 -- of n instructions all but `left` do
 pub record Gone (m : List ℕ) (at n p left : ℕ) : Type 0 where
@@ -33,6 +45,12 @@ pub record PatternsPast (m : List ℕ) (at n p : ℕ) : Type 0 where
   pub patterns : List Pattern
   pub reads : patternsDue n noneKnown (bitsOf m) at ≡ got patterns p
   pub inside : p ≤ placeAfter (length m)
+
+-- n patterns stand at a place, and the end octet's bits are left behind them
+pub record PatternsStand (m : List ℕ) (at n : ℕ) : Type 0 where
+  pub end : ℕ
+  pub past : PatternsPast m at n end
+  pub room : end + 8 ≤ placeAfter (length m)
 
 -- the command stands wherever x was seen: with UNICODE or without, so many bits
 pub record CommandOn (x : ℕ) (unicode : Bool) (n : ℕ) : Type 0 where

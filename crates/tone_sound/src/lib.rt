@@ -12,7 +12,7 @@ ghost use Rattle.tone.specs.Tone.{recallable};
 ghost use Rattle.tone.specs.Reading.{typed as typedDue, front as frontDue};
 ghost use Rattle.tone_elements.specs.Answers.{Within, Sure};
 ghost use Rattle.tone_sound.specs.Turning.{turn, onward, wideIn, markIn, Mark, Marks};
-ghost use Rattle.tone_sound.specs.Answers.{ToldOf, Past, Gone, CommandOn, PatternsPast, Starts, EndAt, StandsAt};
+ghost use Rattle.tone_sound.specs.Answers.{Tells, ToldOf, Past, Stand, Gone, CommandOn, PatternsPast, PatternsStand, Starts, EndAt, StandsAt};
 use bits::BitPlace;
 use bits::OctetCount;
 use bits::TwoSights;
@@ -128,7 +128,7 @@ fn some(whole: &[u8], at: BitPlace, n: u32, marks: &[u8; 512]) -> Span
     requires { ⌜ Marks (now marks) ⌝ }
     requires { ⌜ Within (now whole) (at .0) ⌝ }
     requires { ⌜ n ≤ 4 ⌝ }
-    ensures { λ r. ⌜ Sure (r .sure) (Past (now (whole .entry)) (at .0) n (at .0 + r .bits)) × (r .bits ≤ 255) ⌝ }
+    ensures { λ r. ⌜ Tells (r .sure) (Past (now (whole .entry)) (at .0) n (at .0 + r .bits)) (Stand (now (whole .entry)) (at .0) n) × (r .bits ≤ 255) ⌝ }
 {
     let told = few(bits::sight(whole, at), n, b'0', marks);
     let taken = (told.widths % 256) as usize;
@@ -169,7 +169,7 @@ fn at_hand(whole: &[u8], at: BitPlace, n: u32, marks: &[u8; 512]) -> Way
     requires { ⌜ Marks (now marks) ⌝ }
     requires { ⌜ Within (now whole) (at .0) ⌝ }
     requires { ⌜ n ≤ 255 ⌝ }
-    ensures { λ r. ⌜ Sure (r .sure) (Gone (now (whole .entry)) (at .0) n (r .at .0) (r .left)) ⌝ }
+    ensures { λ r. ⌜ Tells (r .sure) (Gone (now (whole .entry)) (at .0) n (r .at .0) (r .left)) (Stand (now (whole .entry)) (at .0) n) ⌝ }
 {
     if whole.len() - bits::octets_before(at).0 < 48 {
         return Way {
@@ -213,7 +213,7 @@ fn by_fours(whole: &[u8], at: BitPlace, n: u32, marks: &[u8; 512]) -> Way
     requires { ⌜ Marks (now marks) ⌝ }
     requires { ⌜ Within (now whole) (at .0) ⌝ }
     requires { ⌜ n ≤ 255 ⌝ }
-    ensures { λ r. ⌜ Sure (r .sure) (Past (now (whole .entry)) (at .0) n (r .at .0)) ⌝ }
+    ensures { λ r. ⌜ Tells (r .sure) (Past (now (whole .entry)) (at .0) n (r .at .0)) (Stand (now (whole .entry)) (at .0) n) ⌝ }
 {
     let mut place = at;
     let mut left = n;
@@ -238,7 +238,7 @@ fn body(whole: &[u8], at: BitPlace, n: u32, marks: &[u8; 512]) -> Way
     requires { ⌜ Marks (now marks) ⌝ }
     requires { ⌜ Within (now whole) (at .0) ⌝ }
     requires { ⌜ n ≤ 255 ⌝ }
-    ensures { λ r. ⌜ Sure (r .sure) (Past (now (whole .entry)) (at .0) n (r .at .0)) ⌝ }
+    ensures { λ r. ⌜ Tells (r .sure) (Past (now (whole .entry)) (at .0) n (r .at .0)) (Stand (now (whole .entry)) (at .0) n) ⌝ }
 {
     let way = at_hand(whole, at, n, marks);
     if !way.sure {
@@ -354,7 +354,7 @@ fn may_stand(known: [bool; 4], cell: u32) -> bool
 fn patterns(whole: &[u8], at: BitPlace, n: u32, marks: &[u8; 512]) -> Way
     requires { ⌜ Marks (now marks) ⌝ }
     requires { ⌜ Within (now whole) (at .0) ⌝ }
-    ensures { λ r. ⌜ Sure (r .sure) (PatternsPast (now (whole .entry)) (at .0) n (r .at .0)) ⌝ }
+    ensures { λ r. ⌜ Tells (r .sure) (PatternsPast (now (whole .entry)) (at .0) n (r .at .0)) (PatternsStand (now (whole .entry)) (at .0) n) ⌝ }
 {
     let mut known = [false; 4];
     let mut place = at;

@@ -2,7 +2,7 @@
 use borrow.Author.Needs.{needs}
 use Rattle.tone_sound.proofs.some.Statement.{statement}
 use Rattle.tone_sound.proofs.some.Tie as tie
-use Rattle.tone_sound.proofs.Bodies.{unsure, some-told}
+use Rattle.tone_sound.proofs.Bodies.{some-cut, some-told}
 
 sight-requires : tie.Need-sight-requires
 sight-requires c κs = search needs
@@ -20,7 +20,7 @@ add-if1 : tie.Need-add-if1
 add-if1 c = search needs
 
 returns : tie.Need-returns
-returns c = search (unsure, some-told, needs)
+returns c = (search (some-cut, needs), search needs)
 
 returns-2 : tie.Need-returns-2
 returns-2 c = (search (some-told, needs), search needs)
