@@ -1,16 +1,16 @@
 -- What each return of the functions that judge a title's characters shows.
 use Prim.Native.Nat.{ℕ, zero, suc, _+_, _-_, _*_, _/_, _%_, _^_, _≤_, _<_}
 use native.Mathlib.Omega.{arith}
-use native.Mathlib.Nat.{suc-mul, add-mul, mul-le-mul, lt-of-le-of-lt, lt-of-lt-of-le, div-eq-of-lt, zero-mod}
-use mathlib.Core.Path.{_≡_, refl, sym, ap, ap₂, _∙_}
+use native.Mathlib.Nat.{suc-mul, add-mul, mul-le-mul, lt-of-le-of-lt, lt-of-lt-of-le, div-eq-of-lt, zero-mod, mod-lt, mod-eq-of-lt}
+use mathlib.Core.Path.{_≡_, refl, sym, ap, ap₂, subst, _∙_}
 use mathlib.Core.Logic.{⊎-elim}
-use mathlib.Core.Bool.{Bool, true, false, _&&_, _||_, false≢true}
+use mathlib.Core.Bool.{Bool, true, false, not, _&&_, _||_, false≢true}
 use mathlib.Core.List.{List, _∷_}
 use lib.ListN.{length, drop}
-use lib.Bits.{bitAnd, bitOr, bitXor, or-zero-r, and-le-r, or-lt}
-use lib.Dec.{T, eqb, leb, ltb, ltb→lt, lit<}
-use lib.Pow.{shr-shr, shr-le, pow-mono}
-use borrow.Author.Tests.{eqb-true, leb-true, leb-false, ltb-true, ltb-false, lt-ltb, le-ltb}
+use lib.Bits.{bitAnd, bitOr, bitXor, or-zero-r, and-le-r, and-shr, and-mask, or-add-and, xor-add-and, or-lt}
+use lib.Dec.{T, eqb, leb, ltb, ltb→lt, lit<, lit≤}
+use lib.Pow.{shr-shr, shr-le, pow-mono, pow-pos, high, low, ones-split, ones-lt}
+use borrow.Author.Tests.{eqb-true, eq-eqb, leb-true, leb-false, ltb-true, ltb-false, lt-ltb, le-ltb}
 use mir.Val.{Fits, bits}
 use mir.Syntax.{Width, w64}
 use Rattle.bits.specs.Choice.{pick}
@@ -20,7 +20,7 @@ use Rattle.bits.specs.Window.{Sight, fills}
 use Rattle.bits.specs.declared.BitPlace.{BitPlace}
 use Rattle.bits.proofs.Below.{passes, at-each}
 use Rattle.bits.proofs.Choice.{both}
-use Rattle.bits.proofs.Lanes.{lane, or-lane, and-lane, xor-lane, and-lane-l, and-lane-r, suits, none-empty}
+use Rattle.bits.proofs.Lanes.{lane, or-lane, and-lane, xor-lane, and-lane-l, and-lane-r, suits, none-empty, top-and, top-mask, fills-top, lanes-same}
 use Rattle.bits.proofs.Looking.{length-left}
 use Rattle.bits.proofs.Numbers.{field-drop}
 use Rattle.bits.proofs.Octets.{length-bitsOf}
@@ -32,7 +32,7 @@ use Rattle.tone.proofs.Titles.{refused-low, allowed-low, refused-high, allowed-
 use Rattle.tone_elements.specs.declared.Step.{Step}
 use Rattle.tone_elements.specs.declared.Step.the-variants.{Good, Bad}
 use Rattle.tone_elements.specs.declared.Characters.the-variants.{Present, Faulty}
-use Rattle.tone_elements.specs.Answers.{Within, stepAs, stepOf, charactersOf, Sure, BothAllowed, AllowedAt}
+use Rattle.tone_elements.specs.Answers.{Within, stepAs, stepOf, charactersOf, Sure, Complete, BothAllowed, AllowedAt}
 use Rattle.tone_elements.proofs.Steps.{step-there, step-bad, step-cong, step-map, characters-as}
 use Rattle.tone_elements.proofs.Walks.{one-less}
 use Rattle.tone_elements.proofs.Openings.{cut-there, good-there, bad-there}
@@ -177,6 +177,29 @@ module _ (some : ℕ) (p : passes (parted some) 160 ≡ true) where
       go true e = let l = leb-true c 159 e in neither (at-each (parted some) 160 p c (omega arith))
       go false e = allowed-high c (leb-false c 159 e)
 
+-- and back: one that is allowed has such a bit and is not 127
+abbrev kept : ℕ → ℕ → Bool
+kept some c = pick (allowedCharacter c) (not (eqb (bitAnd c some) 0) && not (eqb (bitXor c 127) 0)) true
+
+-- a test that does not pass
+failed : (a b : ℕ) → not (eqb a b) ≡ true → a ≡ b → ⊥
+failed a b h e = let z : _≡_ {A = Bool} true false = sym h ∙ ap not (eq-eqb a b e) in let y : _≡_ {A = ℕ} 0 1 = cc in omega (arith, y)
+
+kept-below : (some c : ℕ) → passes (kept some) 256 ≡ true → c < 256 → allowedCharacter c ≡ true → (bitAnd c some ≡ 0 → ⊥) × (bitXor c 127 ≡ 0 → ⊥)
+kept-below some c p l a =
+    let t : kept some c ≡ (not (eqb (bitAnd c some) 0) && not (eqb (bitXor c 127) 0)) = rw a refl in
+    let b = both (not (eqb (bitAnd c some) 0)) (not (eqb (bitXor c 127) 0)) (sym t ∙ at-each (kept some) 256 p c l) in
+    (failed (bitAnd c some) 0 (b .0), failed (bitXor c 127) 0 (b .1))
+
+-- a number above 127 is not 127, and under UNICODE one with a high octet has such a bit
+kept-above : (c : ℕ) → 256 ≤ c → c < 65536 → (bitAnd c 0xFF60 ≡ 0 → ⊥) × (bitXor c 127 ≡ 0 → ⊥)
+kept-above c h l = (
+  (λ e.
+      let a : bitAnd c 0xFF60 / 2 ^ 8 ≡ c / 2 ^ 8 % 2 ^ 8 = and-shr c 0xFF60 8 ∙ and-mask (c / 2 ^ 8) 8 in
+      omega (arith, e, a)),
+  λ e. omega (arith, e, xor-add-and c 127, and-le-r c 127),
+)
+
 -- the numbers that tell lanes at once do so in the lane that stands k bits up
 abbrev tells : ℕ → ℕ → ℕ → ℕ → ℕ → ℕ → ℕ → Bool
 tells w low high some other here k = suits w low high k && (eqb (lane w k some) here && eqb (lane w k other) 127)
@@ -210,9 +233,57 @@ module _ (w low high some other here : ℕ) (p : passes (parted here) 160 ≡ tr
         second = λ k h. lane-allowed y (w * k) (bitAnd u v) (here k (f k h)) (and-lane-r w (w * k) u v) e;
       }
 
+-- and back: of allowed characters each lane gets its highest bit, h bits up
+module _ (w h low high some other here : ℕ) (e : w ≡ 1 + h) (keeps : (c : ℕ) → c < 2 ^ w → allowedCharacter c ≡ true → (bitAnd c here ≡ 0 → ⊥) × (bitXor c 127 ≡ 0 → ⊥)) where
+  -- what is computed of the numbers in the lane that stands k bits up
+  abbrev shows : ℕ → Bool
+  shows k = tells w low high some other here k && (eqb (lane w k low) (2 ^ h - 1) && eqb (lane w k high) (2 ^ h))
+
+  lane-fine : (x k : ℕ) → shows k ≡ true → allowedCharacter (lane w k x) ≡ true → lane w k (fine low some other x) / 2 ^ h ≡ 1
+  lane-fine x k t a =
+      let b = both (tells w low high some other here k) _ t in
+      let d = both (suits w low high k) _ (b .0) in
+      let f = both (eqb (lane w k some) here) _ (d .1) in
+      let g = both (eqb (lane w k low) (2 ^ h - 1)) _ (b .1) in
+      let n = keeps (lane w k x) (mod-lt (x / 2 ^ k) (pow-pos w)) a in
+      let ones = eqb-true (lane w k low) (2 ^ h - 1) (g .0) in
+      let p : lane w k (bitAnd x some) ≡ bitAnd (lane w k x) here = and-lane w k x some ∙ ap (λ (y : ℕ). bitAnd (lane w k x) y) (eqb-true (lane w k some) here (f .0)) in
+      let q : lane w k (bitXor x other) ≡ bitXor (lane w k x) 127 = xor-lane w k x other ∙ ap (λ (y : ℕ). bitXor (lane w k x) y) (eqb-true (lane w k other) 127 (f .1)) in
+      let u = fills-top w h low high k e (d .0) ones (bitAnd x some) (λ z. n .0 (sym p ∙ z)) in
+      let v = fills-top w h low high k e (d .0) ones (bitXor x other) (λ z. n .1 (sym q ∙ z)) in
+      ap (λ (y : ℕ). y / 2 ^ h) (and-lane w k (fills low (bitAnd x some)) (fills low (bitXor x other))) ∙ top-and h (lane w k (fills low (bitAnd x some))) (lane w k (fills low (bitXor x other))) u v
+
+  -- so do all of c lanes of two numbers
+  lanes-fine-both : (c x y : ℕ) → passes (λ k. shows (w * k)) c ≡ true → w * c ≡ 64 → high < 2 ^ 64 → ((k : ℕ) → k < c → w * k + w ≤ 64) → BothAllowed w x y
+      → bitAnd (bitAnd (fine low some other x) (fine low some other y)) high ≡ high
+  lanes-fine-both c x y t m l f a =
+      let u = fine low some other x in
+      let v = fine low some other y in
+      lanes-same w c (bitAnd (bitAnd u v) high) high (rw m (omega (arith, and-le-r (bitAnd u v) high))) (rw m l) (λ k b.
+      let s = at-each (λ k. shows (w * k)) c t k b in
+      let p = lane-fine x (w * k) s (a .first k (f k b)) in
+      let q = lane-fine y (w * k) s (a .second k (f k b)) in
+      let r : lane w (w * k) (bitAnd u v) / 2 ^ h ≡ 1 = ap (λ (z : ℕ). z / 2 ^ h) (and-lane w (w * k) u v) ∙ top-and h (lane w (w * k) u) (lane w (w * k) v) p q in
+      let g = both (eqb (lane w (w * k) low) (2 ^ h - 1)) _ (both (tells w low high some other here (w * k)) _ s .1) in
+      let o = eqb-true (lane w (w * k) high) (2 ^ h) (g .1) in
+      and-lane w (w * k) (bitAnd u v) high ∙ ap (bitAnd (lane w (w * k) (bitAnd u v))) o ∙ top-mask h (lane w (w * k) (bitAnd u v)) r ∙ sym o)
+
 -- a sum of which neither part exceeds `low`
 pub lanes-fit : (x low : ℕ) → low < 2 ^ 63 → Fits w64 (bitAnd x low + low)
 lanes-fit x low h = record { fits = omega (arith, and-le-r x low) }
+
+-- each allowed character of one octet is kept, and each of two
+octets-kept : (c : ℕ) → c < 256 → allowedCharacter c ≡ true → (bitAnd c 0x60 ≡ 0 → ⊥) × (bitXor c 127 ≡ 0 → ⊥)
+unfolding allowedCharacter
+octets-kept c = kept-below 0x60 c refl
+
+pairs-kept : (c : ℕ) → c < 65536 → allowedCharacter c ≡ true → (bitAnd c 0xFF60 ≡ 0 → ⊥) × (bitXor c 127 ≡ 0 → ⊥)
+unfolding allowedCharacter
+pairs-kept c l a = go (ltb c 256) refl
+  where
+    go : (t : Bool) → ltb c 256 ≡ t → (bitAnd c 0xFF60 ≡ 0 → ⊥) × (bitXor c 127 ≡ 0 → ⊥)
+    go true e = kept-below 0xFF60 c refl (ltb-true c 256 e) a
+    go false e = kept-above c (ltb-false c 256 e) l
 
 -- `both_allowed` says so of each character of two numbers
 module _ {x y u v : ℕ} {unicode : Bool} where
@@ -232,7 +303,26 @@ module _ {x y u v : ℕ} {unicode : Bool} where
         (ap₂ (λ (a b : ℕ). bitAnd (bitAnd a b) 0x8080808080808080) (sym eu) (sym ev) ∙ eqb-true _ _ t));
   }
 
-pub ruleset holding = (lanes-fit, holds-pairs, holds-octets)
+  -- and wherever each is allowed
+  pub passes-pairs : unicode ≡ true → u ≡ fine 0x7FFF7FFF7FFF7FFF 0xFF60FF60FF60FF60 0x007F007F007F007F x → v ≡ fine 0x7FFF7FFF7FFF7FFF 0xFF60FF60FF60FF60 0x007F007F007F007F y
+      → Complete (eqb (bitAnd (bitAnd u v) 0x8000800080008000) 0x8000800080008000) (BothAllowed (characterBits unicode) x y)
+  unfolding allowedCharacter
+  passes-pairs e eu ev = record {
+    passes = λ a. eq-eqb _ _ (ap₂ (λ (a b : ℕ). bitAnd (bitAnd a b) 0x8000800080008000) eu ev
+        ∙ lanes-fine-both 16 15 0x7FFF7FFF7FFF7FFF 0x8000800080008000 0xFF60FF60FF60FF60 0x007F007F007F007F 0xFF60 refl pairs-kept 4 x y refl refl (lit< tt) (λ k h. omega arith)
+        (subst (λ (b : Bool). BothAllowed (characterBits b) x y) e a));
+  }
+
+  pub passes-octets : unicode ≡ false → u ≡ fine 0x7F7F7F7F7F7F7F7F 0x6060606060606060 0x7F7F7F7F7F7F7F7F x → v ≡ fine 0x7F7F7F7F7F7F7F7F 0x6060606060606060 0x7F7F7F7F7F7F7F7F y
+      → Complete (eqb (bitAnd (bitAnd u v) 0x8080808080808080) 0x8080808080808080) (BothAllowed (characterBits unicode) x y)
+  unfolding allowedCharacter
+  passes-octets e eu ev = record {
+    passes = λ a. eq-eqb _ _ (ap₂ (λ (a b : ℕ). bitAnd (bitAnd a b) 0x8080808080808080) eu ev
+        ∙ lanes-fine-both 8 7 0x7F7F7F7F7F7F7F7F 0x8080808080808080 0x6060606060606060 0x7F7F7F7F7F7F7F7F 0x60 refl octets-kept 8 x y refl refl (lit< tt) (λ k h. omega arith)
+        (subst (λ (b : Bool). BothAllowed (characterBits b) x y) e a));
+  }
+
+pub ruleset holding = (lanes-fit, holds-pairs, holds-octets, passes-pairs, passes-octets)
 
 -- ---- those that a number holds
 
@@ -296,6 +386,85 @@ few-hold m at unicode n {s = s} hs l sees h = record {
   so = λ t. held m at unicode n (ones-sight s (omega (arith, hs .0, l .1)) sees) (omega (arith, hs .0)) (omega (arith, l .1)) (l .2) (h .so t .first);
 }
 
+-- ---- and back: where each character is allowed, so is each lane
+
+-- a lane of 64 bits is one of so many characters
+lane-index : (unicode : Bool) (i : ℕ) → characterBits unicode * i + characterBits unicode ≤ 64 → i < perRow unicode
+lane-index true i h = omega arith
+lane-index false i h = omega arith
+
+-- a lane of a number that holds the bits behind j of n characters
+lane-told : (m : List ℕ) (at : ℕ) (unicode : Bool) (n j : ℕ) {k x p : ℕ} → let w = characterBits unicode in p ≡ at + j * w → Sight k (drop p (bitsOf m)) x → AllowedAt m at unicode n
+    → (i q : ℕ) → q + i + 1 ≡ perRow unicode → q * w + w ≤ k → j + q < n → allowedCharacter (lane w (w * i) x) ≡ true
+lane-told m at unicode n j {x = x} {p = p} e sees a i q f h l =
+    let w = characterBits unicode in
+    let c : perRow unicode - 1 - q ≡ i = omega (arith, f) in
+    let d : q * w + w + w * i ≡ 64 = rw c at (lane-place unicode q (omega (arith, f))) in
+    let g : 64 - (q * w + w) ≡ w * i = omega (arith, d) in
+    let y : p + q * w ≡ at + (j + q) * w = omega (arith, e, add-mul j q w) in
+    let b : (j + q) * w + w ≤ n * w = rw (suc-mul (j + q) w) at (mul-le-mul {n₁ = suc (j + q)} {m₁ = w} {n₂ = n} {m₂ = w} l (omega arith)) in
+    let z = sym (field-drop (bitsOf m) p (q * w) w) ∙ sees .at (q * w) w h (rw (length-left m p) (omega (arith, y, b, a .there))) ∙ ap (λ (v : ℕ). lane w v x) g in
+    rw (sym z ∙ ap (λ (v : ℕ). field (bitsOf m) v w) y) (a .each (j + q) l)
+
+-- w of the ones that stand a bits up
+ones-part : (a w : ℕ) → a + w ≤ 64 → 18446744073709551615 / 2 ^ a % 2 ^ w ≡ 2 ^ w - 1
+ones-part a w h =
+    let b = 64 - a in
+    let e : b + a ≡ 64 = omega arith in
+    let f : b - w + w ≡ b = omega arith in
+    let u : 18446744073709551615 / 2 ^ a ≡ 2 ^ b - 1 = ap (λ (j : ℕ). (2 ^ j - 1) / 2 ^ a) (sym e) ∙ ap (λ (y : ℕ). y / 2 ^ a) (ones-split b a) ∙ high (2 ^ b - 1) a (ones-lt a) in
+    ap (λ (y : ℕ). y % 2 ^ w) (u ∙ ap (λ (j : ℕ). 2 ^ j - 1) (sym f) ∙ ones-split (b - w) w) ∙ low (2 ^ (b - w) - 1) w (ones-lt w)
+
+-- whatever is put together with ones is ones
+or-ones : (w a : ℕ) → a < 2 ^ w → bitOr a (2 ^ w - 1) ≡ 2 ^ w - 1
+or-ones w a h = omega (arith, or-add-and a (2 ^ w - 1), and-mask a w, mod-eq-of-lt h)
+
+-- a character of ones is allowed
+ones-allowed : (unicode : Bool) → allowedCharacter (2 ^ characterBits unicode - 1) ≡ true
+ones-allowed true = allowed-high 65535 (lit≤ tt)
+ones-allowed false = allowed-high 255 (lit≤ tt)
+
+-- the lanes below n characters are ones
+below-told : (unicode : Bool) (n x i : ℕ) → let w = characterBits unicode in n * w + w * i + w ≤ 64 → allowedCharacter (lane w (w * i) (onesBelow (n * w) x)) ≡ true
+below-told unicode n x i h =
+    let w = characterBits unicode in
+    let y = 18446744073709551615 / 2 ^ (n * w) in
+    let e : lane w (w * i) y ≡ 2 ^ w - 1 = ap (λ (v : ℕ). v % 2 ^ w) (shr-shr 18446744073709551615 (n * w) (w * i)) ∙ ones-part (n * w + w * i) w h in
+    let f : lane w (w * i) (onesBelow (n * w) x) ≡ 2 ^ w - 1 = or-lane w (w * i) x y ∙ ap (bitOr (lane w (w * i) x)) e ∙ or-ones w (lane w (w * i) x) (mod-lt (x / 2 ^ (w * i)) (pow-pos w)) in
+    rw f (ones-allowed unicode)
+
+-- where n characters end, a lane begins
+lanes-left : (unicode : Bool) (n i q : ℕ) → let w = characterBits unicode in q + i + 1 ≡ perRow unicode → n ≤ q → n * w + w * i + w ≤ 64
+lanes-left true n i q e h = omega arith
+lanes-left false n i q e h = omega arith
+
+-- `few_allowed` passes where they are allowed
+pub few-pass : (m : List ℕ) (at : ℕ) (unicode : Bool) (n : ℕ) {s x : ℕ} {r : Bool} → (s ≡ n * characterBits unicode) × (s ≤ 240)
+    → (n ≤ 15) × (n * characterBits unicode ≤ 56) × (at + n * characterBits unicode ≤ 8 * length m) → Sight 57 (drop at (bitsOf m)) x
+    → Complete r (BothAllowed (characterBits unicode) (onesBelow s x) (onesBelow s x)) → Complete r (AllowedAt m at unicode n)
+few-pass m at unicode n {s} {x} hs l sees h = record { passes = λ a. h .passes (record { first = each a; second = each a }) }
+  where
+    w : ℕ
+    w = characterBits unicode
+
+    each : AllowedAt m at unicode n → (i : ℕ) → characterBits unicode * i + characterBits unicode ≤ 64 → allowedCharacter (lane (characterBits unicode) (characterBits unicode * i) (onesBelow s x)) ≡ true
+    each a i k = go (ltb q n) refl
+      where
+        q : ℕ
+        q = perRow unicode - 1 - i
+
+        index : q + i + 1 ≡ perRow unicode
+        index = omega (arith, lane-index unicode i k)
+
+        go : (t : Bool) → ltb q n ≡ t → allowedCharacter (lane (characterBits unicode) (characterBits unicode * i) (onesBelow s x)) ≡ true
+        go true t =
+            let c = ltb-true q n t in
+            let b : q * w + w ≤ n * w = rw (suc-mul q w) at (mul-le-mul {n₁ = suc q} {m₁ = w} {n₂ = n} {m₂ = w} c (omega arith)) in
+            let o : at ≡ at + 0 * w = omega arith in
+            let z : 0 + q < n = omega (arith, c) in
+            lane-told m at unicode n 0 o (ones-sight s (omega (arith, hs .0, l .1)) sees) a i q index (omega (arith, hs .0, b)) z
+        go false t = rw (hs .0) (below-told unicode n x i (lanes-left unicode n i q index (ltb-false q n t)))
+
 -- the bits of so many
 pub span-pairs : {unicode : Bool} (n : ℕ) → unicode ≡ true → 16 * n ≡ n * characterBits unicode
 span-pairs n u = rw u (omega arith)
@@ -303,7 +472,7 @@ span-pairs n u = rw u (omega arith)
 pub span-octets : {unicode : Bool} (n : ℕ) → unicode ≡ false → 8 * n ≡ n * characterBits unicode
 span-octets n u = rw u (omega arith)
 
-pub ruleset spans = (few-hold, span-pairs, span-octets)
+pub ruleset spans = (few-hold, few-pass, span-pairs, span-octets)
 
 -- ---- those that rows of 64 bits hold
 
@@ -370,11 +539,49 @@ module _ (m : List ℕ) (at : ℕ) (unicode : Bool) (n : ℕ) {all x y : ℕ} {r
           (omega (arith, ltb-false i (2 * p) eb, most)) (omega (arith, ltb-true i (n - p) ec, least))
       go t′ i l false false false ea eb ec = back i (ltb-false i (n - p) ec) l
 
+-- and back: rows that hold characters which are allowed
+module _ (m : List ℕ) (at : ℕ) (unicode : Bool) (n : ℕ) {all : ℕ} (e : (all ≡ n * characterBits unicode) × (all ≤ 240)) (h : (n ≤ 15) × (64 ≤ n * characterBits unicode) × (at + n * characterBits unicode ≤ 8 * length m)) where
+  -- the row behind j characters
+  row-told : (a : AllowedAt m at unicode n) (j p : ℕ) {x : ℕ} → p ≡ at + j * characterBits unicode → j + perRow unicode ≤ n → Sight 64 (drop p (bitsOf m)) x
+      → (i : ℕ) → characterBits unicode * i + characterBits unicode ≤ 64 → allowedCharacter (lane (characterBits unicode) (characterBits unicode * i) x) ≡ true
+  row-told a j p f l sees i k =
+      let w = characterBits unicode in
+      let q = perRow unicode - 1 - i in
+      let c = lane-index unicode i k in
+      let g : q + i + 1 ≡ perRow unicode = omega (arith, c) in
+      let d : q * w + w ≤ 64 = omega (arith, lane-place unicode q (omega (arith, c))) in
+      lane-told m at unicode n j f sees a i q g d (omega (arith, g, l))
+
+  pub two-pass : {x y : ℕ} {r : Bool} → Sight 64 (drop at (bitsOf m)) x → Sight 64 (drop (at + (all - 64)) (bitsOf m)) y → Complete r (BothAllowed (characterBits unicode) x y) → r ≡ false → Complete false (AllowedAt m at unicode n)
+  two-pass {x} {y} first last s t = record { passes = λ a. absurd (false≢true (sym t ∙ s .passes (ends-told a))) }
+    where
+      ends-told : AllowedAt m at unicode n → BothAllowed (characterBits unicode) x y
+      ends-told a =
+          let l = rows-least unicode n 1 (omega (arith, h .1)) in
+          record {
+            first = row-told a 0 at (omega arith) (omega (arith, l)) first;
+            second = row-told a (n - perRow unicode) (at + (all - 64)) (omega (arith, e .0, row-place unicode n 1 (n - perRow unicode) (omega arith))) (omega (arith, l)) last;
+          }
+
+  pub four-pass : {x y : ℕ} {r : Bool} → 128 < all → Sight 64 (drop (at + 64) (bitsOf m)) x → Sight 64 (drop (at + (all - 128)) (bitsOf m)) y → Complete r (BothAllowed (characterBits unicode) x y) → Complete r (AllowedAt m at unicode n)
+  four-pass k second third s = record {
+    passes = λ a.
+        let l = rows-least unicode n 2 (omega (arith, e .0)) in
+        s .passes (record {
+          first = row-told a (perRow unicode) (at + 64) (omega (arith, row-bits unicode)) (omega (arith, l)) second;
+          second = row-told a (n - 2 * perRow unicode) (at + (all - 128)) (omega (arith, e .0, row-place unicode n 2 (n - 2 * perRow unicode) (omega arith))) (omega (arith, l)) third;
+        });
+  }
+
+-- where the test passes, it does so in any case
+pub always : {P : Type 0} → Complete true P
+always = record { passes = λ _. refl }
+
 -- where the test does not pass, nothing is said
 pub unsure : {P : Type 0} → Sure false P
 unsure = record { so = λ e. absurd (false≢true e) }
 
-pub ruleset rows = (two-rows, four-rows, unsure)
+pub ruleset rows = (two-rows, four-rows, two-pass, four-pass, always, unsure)
 
 -- ---- all of them
 
@@ -395,7 +602,11 @@ module _ (m : List ℕ) (at : ℕ) (unicode : Bool) (n : ℕ) {s r : ℕ} (hs : 
   pub all-many : 64 ≤ s → 64 ≤ n * characterBits unicode
   all-many k = rw (← hs .0) k
 
-pub ruleset alls = (all-none, all-few, all-there, all-many, unsure)
+-- fewer bits are left than they have
+pub all-cut : (m : List ℕ) (at : ℕ) (unicode : Bool) (n : ℕ) {s r : ℕ} → (s ≡ n * characterBits unicode) × (s ≤ 240) → r + at ≡ 8 * length m → r < s → Complete false (AllowedAt m at unicode n)
+all-cut m at unicode n hs hr h = record { passes = λ a. absurd (omega (arith, hs .0, hr, h, a .there)) }
+
+pub ruleset alls = (all-none, all-few, all-there, all-many, all-cut, always, unsure)
 
 -- so they are read
 pub text-told : (m : List ℕ) (at : ℕ) (unicode : Bool) (n : ℕ) {s o : ℕ} {t : Bool} → (s ≡ n * characterBits unicode) × (s ≤ 240) → (o ≡ perCharacter unicode) × (o ≤ 2) × (1 ≤ o) → Within m at

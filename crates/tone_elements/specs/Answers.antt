@@ -62,6 +62,10 @@ charactersOf (bad n p e) = Faulty (place p) n
 pub record Sure (r : Bool) (P : Type 0) : Type 0 where
   pub so : r ≡ true → P
 
+-- a test that passes wherever something holds
+pub record Complete (r : Bool) (P : Type 0) : Type 0 where
+  pub passes : P → r ≡ true
+
 -- the characters of w bits that two numbers of 64 bits hold are allowed
 pub record BothAllowed (w x y : ℕ) : Type 0 where
   pub first : (k : ℕ) → w * k + w ≤ 64 → allowedCharacter (x / 2 ^ (w * k) % 2 ^ w) ≡ true

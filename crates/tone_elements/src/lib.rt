@@ -10,7 +10,7 @@ ghost use Rattle.tone.specs.Tone.{perCharacter, characterBits, allowedCharacter
 ghost use Rattle.tone.specs.Reading.{element, anyOf, filled, soundPart, parts as partsDue, command, text as textDue, title as titleDue, titled as titledDue, front};
 ghost use Rattle.tone.specs.Reading.{headerDue, instructionDue, bodyDue, ending as endingDue};
 ghost use Rattle.tone_elements.specs.Answers.{Within, allKnown, stepAs, stepOf, commandOf, noteIn, notes as notesOf, charactersOf, openingOf, SomeEntry, EntryAt, Passed};
-ghost use Rattle.tone_elements.specs.Answers.{Sure, BothAllowed, AllowedAt};
+ghost use Rattle.tone_elements.specs.Answers.{Sure, Complete, BothAllowed, AllowedAt};
 ghost use mathlib.Core.Bool.{Bool};
 ghost use mathlib.Core.List.{List};
 use bits::BitPlace;
@@ -451,7 +451,7 @@ fn lanes_fine(x: u64, low: u64, some: u64, other: u64) -> u64
 // Is each character allowed that two numbers hold, eight of an octet, or four of two under UNICODE? The characters without a
 // high octet and without either bit of 60 hexadecimal are 0 to 31 and 128 to 159. Beside them 127 is refused.
 fn both_allowed(x: u64, y: u64, unicode: bool) -> bool
-    ensures { λ r. ⌜ Sure r (BothAllowed (characterBits unicode) x y) ⌝ }
+    ensures { λ r. ⌜ Sure r (BothAllowed (characterBits unicode) x y) × Complete r (BothAllowed (characterBits unicode) x y) ⌝ }
 {
     if unicode {
         let low = 0x7FFF_7FFF_7FFF_7FFF;
@@ -482,7 +482,7 @@ pub fn span(unicode: bool, n: u32) -> usize
 fn few_allowed(msg: &[u8], at: BitPlace, unicode: bool, n: u32) -> bool
     requires { ⌜ Within (now msg) (at .0) ⌝ }
     requires { ⌜ (n ≤ 15) × (n * characterBits unicode ≤ 56) × (at .0 + n * characterBits unicode ≤ placeAfter (length (now msg))) ⌝ }
-    ensures { λ r. ⌜ Sure r (AllowedAt (now (msg .entry)) (at .0) unicode n) ⌝ }
+    ensures { λ r. ⌜ Sure r (AllowedAt (now (msg .entry)) (at .0) unicode n) × Complete r (AllowedAt (now (msg .entry)) (at .0) unicode n) ⌝ }
 {
     let below = 0xFFFF_FFFF_FFFF_FFFFu64 >> span(unicode, n);
     let x = bits::sight(msg, at) | below;
@@ -494,7 +494,7 @@ fn few_allowed(msg: &[u8], at: BitPlace, unicode: bool, n: u32) -> bool
 fn many_allowed(msg: &[u8], at: BitPlace, unicode: bool, n: u32) -> bool
     requires { ⌜ Within (now msg) (at .0) ⌝ }
     requires { ⌜ (n ≤ 15) × (64 ≤ n * characterBits unicode) × (at .0 + n * characterBits unicode ≤ placeAfter (length (now msg))) ⌝ }
-    ensures { λ r. ⌜ Sure r (AllowedAt (now (msg .entry)) (at .0) unicode n) ⌝ }
+    ensures { λ r. ⌜ Sure r (AllowedAt (now (msg .entry)) (at .0) unicode n) × Complete r (AllowedAt (now (msg .entry)) (at .0) unicode n) ⌝ }
 {
     let all = span(unicode, n);
     let first = bits::full_sight(msg, at);
@@ -510,11 +510,11 @@ fn many_allowed(msg: &[u8], at: BitPlace, unicode: bool, n: u32) -> bool
     false
 }
 
-// Are `n` characters there and allowed? Where it is not sure of that, it says no.
+// Are `n` characters there and allowed?
 pub fn all_allowed(msg: &[u8], at: BitPlace, unicode: bool, n: u32) -> bool
     requires { ⌜ Within (now msg) (at .0) ⌝ }
     requires { ⌜ n ≤ 15 ⌝ }
-    ensures { λ r. ⌜ Sure r (AllowedAt (now (msg .entry)) (at .0) unicode n) ⌝ }
+    ensures { λ r. ⌜ Sure r (AllowedAt (now (msg .entry)) (at .0) unicode n) × Complete r (AllowedAt (now (msg .entry)) (at .0) unicode n) ⌝ }
 {
     if n == 0 {
         return true;

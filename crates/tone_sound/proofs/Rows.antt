@@ -41,16 +41,16 @@ pub record Row (m : List ℕ) (at n : ℕ) (known : List Bool) (p left : ℕ) : 
   pub rests : (all : List Pattern) (q : ℕ) → patternsDue n noneKnown (bitsOf m) at ≡ got all q → (ps : List Pattern) × (patternsDue left known (bitsOf m) p ≡ got ps q)
 
 -- the first of `left` patterns that were read from a place, and those behind it
-record First (m : List ℕ) (known : List Bool) (p left end : ℕ) : Type 0 where
-  value : ℕ
-  behind : ℕ
-  header : headerDue allKnown (bitsOf m) p ≡ got value behind
-  recalls : recallable known value ≡ true
-  own : List ℕ
-  next : ℕ
-  body : bodyDue (value % 256) (bitsOf m) behind ≡ got own next
-  more : List Pattern
-  rest : patternsDue (left - 1) (learn known value) (bitsOf m) next ≡ got more end
+pub record First (m : List ℕ) (known : List Bool) (p left end : ℕ) : Type 0 where
+  pub value : ℕ
+  pub behind : ℕ
+  pub header : headerDue allKnown (bitsOf m) p ≡ got value behind
+  pub recalls : recallable known value ≡ true
+  pub own : List ℕ
+  pub next : ℕ
+  pub body : bodyDue (value % 256) (bitsOf m) behind ≡ got own next
+  pub more : List Pattern
+  pub rest : patternsDue (left - 1) (learn known value) (bitsOf m) next ≡ got more end
 
 -- a header that was read stands, whatever is known, and recalls what is
 header-read : (known l : List Bool) (p : ℕ) {v q : ℕ} → headerDue known l p ≡ got v q → (headerDue allKnown l p ≡ got v q) × (recallable known v ≡ true)
@@ -66,7 +66,7 @@ header-read known l p {v} {q} e =
     got-value : {h t : ℕ} → got h t ≡ got v q → h ≡ v
     got-value f = cc
 
-first-of : (m : List ℕ) (known : List Bool) (p left : ℕ) {ps : List Pattern} {end : ℕ} → 0 < left → patternsDue left known (bitsOf m) p ≡ got ps end → First m known p left end
+pub first-of : (m : List ℕ) (known : List Bool) (p left : ℕ) {ps : List Pattern} {end : ℕ} → 0 < left → patternsDue left known (bitsOf m) p ≡ got ps end → First m known p left end
 unfolding patternsDue
 first-of m known p left {ps} {end} h d =
     let l = bitsOf m in

@@ -7,7 +7,7 @@ use lib.ListN.{length, drop}
 use Rattle.bits.specs.Bits.{bitsOf, placeAfter}
 use Rattle.bits.specs.Window.{Sight}
 use Rattle.tone.specs.Tone.{Pattern, Tone, Front, noneKnown}
-use Rattle.tone.specs.Reading.{Reader, got, command, bodyDue, patternsDue, ending, wholeTone}
+use Rattle.tone.specs.Reading.{Reader, got, command, front as frontDue, bodyDue, patternsDue, ending, wholeTone}
 use Rattle.tone_sound.specs.declared.Told.{Told}
 use Rattle.tone_sound.specs.Turning.{turn, clear, Mark, widthIn, along, AllClear}
 
@@ -56,6 +56,15 @@ pub record PatternsStand (m : List ℕ) (at n : ℕ) : Type 0 where
 pub record CommandOn (x : ℕ) (unicode : Bool) (n : ℕ) : Type 0 where
   pub reads : (m : List ℕ) (at : ℕ) → Sight 57 (drop at (bitsOf m)) x → at + 57 ≤ placeAfter (length m) → command (bitsOf m) at ≡ got unicode (at + n)
 
+-- a command was read where x was seen
+pub record CommandSeen (x : ℕ) : Type 0 where
+  pub octets : List ℕ
+  pub at : ℕ
+  pub sees : Sight 57 (drop at (bitsOf octets)) x
+  pub unicode : Bool
+  pub end : ℕ
+  pub reads : command (bitsOf octets) at ≡ got unicode end
+
 -- what is due of a front stands from one place up to another, and announces n patterns
 pub record FrontAt (due : Reader Front) (m : List ℕ) (at p n : ℕ) : Type 0 where
   pub front : Front
@@ -63,9 +72,32 @@ pub record FrontAt (due : Reader Front) (m : List ℕ) (at p n : ℕ) : Type 0 w
   pub count : front .count ≡ n
   pub inside : p ≤ placeAfter (length m)
 
--- it does where n is not 0
+-- what is due of a front stands at a place, and the bits of a header and of the end octet are left behind it
+pub record FrontStands (due : Reader Front) (m : List ℕ) (at : ℕ) : Type 0 where
+  pub front : Front
+  pub end : ℕ
+  pub reads : due (bitsOf m) at ≡ got front end
+  pub room : end + 25 ≤ placeAfter (length m)
+
+-- n is not 0 where a front stands, and only there
 pub record Starts (due : Reader Front) (m : List ℕ) (at p n : ℕ) : Type 0 where
   pub so : 1 ≤ n → FrontAt due m at p n
+  pub back : FrontStands due m at → 1 ≤ n
+
+-- a tone's front and patterns stand from an octet up to a place
+pub record SongPast (m : List ℕ) (start p : ℕ) : Type 0 where
+  pub front : Front
+  pub behind : ℕ
+  pub opens : frontDue (bitsOf m) (placeAfter start) ≡ got front behind
+  pub patterns : List Pattern
+  pub reads : patternsDue (front .count) noneKnown (bitsOf m) behind ≡ got patterns p
+  pub inside : p ≤ placeAfter (length m)
+
+-- a tone starts at an octet
+pub record ToneFrom (m : List ℕ) (start : ℕ) : Type 0 where
+  pub tone : Tone
+  pub end : ℕ
+  pub reads : wholeTone (bitsOf m) (placeAfter start) ≡ got tone end
 
 -- filler and the end octet stand from a place up to the end of an octet
 pub record EndAt (m : List ℕ) (at end : ℕ) : Type 0 where

@@ -9,10 +9,10 @@ ghost use lib.Bits.{bitOr};
 ghost use Rattle.bits.specs.Bits.{bitsOf, placeAfter};
 ghost use Rattle.bits.specs.Window.{Sight};
 ghost use Rattle.tone.specs.Tone.{recallable};
-ghost use Rattle.tone.specs.Reading.{typed as typedDue, front as frontDue};
+ghost use Rattle.tone.specs.Reading.{typed as typedDue, front as frontDue, ending, octetsRead, toneAt};
 ghost use Rattle.tone_elements.specs.Answers.{Within, Sure};
 ghost use Rattle.tone_sound.specs.Turning.{turn, onward, wideIn, markIn, Mark, Marks};
-ghost use Rattle.tone_sound.specs.Answers.{Tells, ToldOf, Past, Stand, Gone, CommandOn, PatternsPast, PatternsStand, Starts, EndAt, StandsAt};
+ghost use Rattle.tone_sound.specs.Answers.{Tells, ToldOf, Past, Stand, Gone, CommandOn, CommandSeen, PatternsPast, PatternsStand, Starts, SongPast, ToneFrom, EndAt, StandsAt};
 use bits::BitPlace;
 use bits::OctetCount;
 use bits::TwoSights;
@@ -272,7 +272,7 @@ struct Command {
 // The command on top of a sight, told at once: 00000010 for the length, 0100101 for the programming part, a filler bit, 0011101 for
 // the sound part. With UNICODE the length is 00000011, and 0100010 and a filler bit stand ahead of the sound part.
 fn called(x: u64) -> Command
-    ensures { λ r. ⌜ Sure (r .sure) (CommandOn x (r .unicode) (r .bits)) × (r .bits ≤ 31) ⌝ }
+    ensures { λ r. ⌜ Tells (r .sure) (CommandOn x (r .unicode) (r .bits)) (CommandSeen x) × (r .bits ≤ 31) ⌝ }
 {
     if x >> 41 == 75037 {
         return Command {
@@ -387,6 +387,19 @@ fn patterns(whole: &[u8], at: BitPlace, n: u32, marks: &[u8; 512]) -> Way
 
 // ---- the end, and the tone
 
+// Goes over the front and the patterns of a tone that starts behind so many octets.
+fn song(whole: &[u8], start: OctetCount, marks: &[u8; 512]) -> Way
+    requires { ⌜ Marks (now marks) ⌝ }
+    requires { ⌜ (start .0 ≤ length (now whole)) × (length (now whole) < 2 ^ 60) ⌝ }
+    ensures { λ r. ⌜ Tells (r .sure) (SongPast (now (whole .entry)) (start .0) (r .at .0)) (ToneFrom (now (whole .entry)) (start .0)) ⌝ }
+{
+    let opened = front(whole, bits::place_after(start));
+    if opened.count == 0 {
+        return lost(opened.at);
+    }
+    patterns(whole, opened.at, opened.count, marks)
+}
+
 // Do filler and the end octet stand at a place, and nothing else up to the end of an octet?
 fn ends(whole: &[u8], at: BitPlace, end: OctetCount) -> bool
     requires { ⌜ Within (now whole) (at .0) ⌝ }
@@ -399,19 +412,48 @@ fn ends(whole: &[u8], at: BitPlace, end: OctetCount) -> bool
     bits::through_octet(whole, at) == 0
 }
 
+// Behind how many octets filler and the end octet end that stand at a place; 0 where they do not stand there.
+fn end_behind(whole: &[u8], at: BitPlace) -> OctetCount
+    requires { ⌜ Within (now whole) (at .0) ⌝ }
+    ensures { λ r. ⌜ r .0 ≡ octetsRead 0 (ending (bitsOf (now (whole .entry))) (at .0)) ⌝ }
+{
+    let reached = bits::octets_to(at);
+    if whole.len() <= reached.0 {
+        return OctetCount(0);
+    }
+    let filler = bits::place_after(reached).0 - at.0;
+    if bits::through_octet(whole, at) >> (56 - filler) != 0 {
+        return OctetCount(0);
+    }
+    OctetCount(reached.0 + 1)
+}
+
 // Does a tone stand between two octets, and nothing else? Where it is not sure of that, it says no.
 pub fn sound(whole: &[u8], start: OctetCount, end: OctetCount, marks: &[u8; 512]) -> bool
     requires { ⌜ Marks (now marks) ⌝ }
     requires { ⌜ (start .0 ≤ end .0) × (end .0 ≤ length (now whole)) × (length (now whole) < 2 ^ 60) ⌝ }
     ensures { λ r. ⌜ Sure r (StandsAt (now (whole .entry)) (start .0) (end .0)) ⌝ }
 {
-    let opened = front(whole, bits::place_after(start));
-    if opened.count == 0 {
-        return false;
-    }
-    let way = patterns(whole, opened.at, opened.count, marks);
+    let way = song(whole, start, marks);
     if !way.sure {
         return false;
     }
     ends(whole, way.at, end)
+}
+
+// How many octets the tone has that starts behind so many, through its own end octet; none where no tone starts there.
+pub fn tone_at(whole: &[u8], start: OctetCount, marks: &[u8; 512]) -> OctetCount
+    requires { ⌜ Marks (now marks) ⌝ }
+    requires { ⌜ (start .0 ≤ length (now whole)) × (length (now whole) < 2 ^ 60) ⌝ }
+    ensures { λ r. ⌜ r .0 ≡ toneAt (now (whole .entry)) (start .0) ⌝ }
+{
+    let way = song(whole, start, marks);
+    if !way.sure {
+        return OctetCount(0);
+    }
+    let end = end_behind(whole, way.at);
+    if end.0 <= start.0 {
+        return OctetCount(0);
+    }
+    OctetCount(end.0 - start.0)
 }
