@@ -184,12 +184,6 @@ module _ (m : List ℕ) (at : ℕ) (u : Bool) {x : ℕ} (i : Within m at) (s : S
   pub typed-refused : {p n c : ℕ} {b : Bool} → c ≡ 0 → x / 2 ^ 61 ≡ 1 → n ≡ x / 2 ^ 57 % 16 → Complete b (AllowedAt m (at + 7) u n) → not b ≡ true → Starts (typed u) m at p c
   typed-refused {b = b} z e en a h = starts-nowhere z (λ k. nothing-sure b h (a .passes (subst (AllowedAt m (at + 7) u) (sym en) (basic-counts k e .0))))
 
-  -- no count behind the title
-  pub typed-cut : {p n c width end : ℕ} → c ≡ 0 → x / 2 ^ 61 ≡ 1 → (width ≡ n * characterBits u) × (width ≤ 240) → n ≡ x / 2 ^ 57 % 16 → end ≡ 8 * length m → end < at + 7 + width + 8 → Starts (typed u) m at p c
-  typed-cut z e w en ee h = starts-nowhere z (λ k.
-      let y = ap (λ (j : ℕ). j * characterBits u) en in
-      omega (arith, basic-counts k e .1, y, w .0, ee, h))
-
   -- a temporary song: the pattern count is next
   pub typed-temporary : x / 2 ^ 61 ≡ 2 → Starts (typed u) m at (at + 11) (x / 2 ^ 53 % 256)
   unfolding typed titled title counted
@@ -211,6 +205,12 @@ module _ (m : List ℕ) (at : ℕ) (u : Bool) {x : ℕ} (i : Within m at) (s : S
         let v : Within m (at + 7) = record { inside = omega arith; counted = i .counted } in
         let t = characters-good (text u n (bitsOf m) (at + 7)) (text-told m (at + 7) u n {o = perCharacter u} w (refl, one-or-two u .0, one-or-two u .1) v a (was-sure b sure)) in
         (t .0, t .1)
+
+    -- no count is behind them
+    pub typed-cut : {p c : ℕ} → c ≡ 0 → end < at + 7 + width + 8 → Starts (typed u) m at p c
+    typed-cut z h = starts-nowhere z (λ k.
+        let v = ap (λ (j : ℕ). j * characterBits u) en in
+        omega (arith, basic-counts k e .1, v, w .0, ee, h))
 
     pub typed-basic : {y : ℕ} → at + 7 + width + 8 ≤ end → Look (drop (at + 7 + width) (bitsOf m)) y → Starts (typed u) m at (at + 7 + width + 8) (y / 65536)
     unfolding typed titled title counted

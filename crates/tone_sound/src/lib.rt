@@ -1,6 +1,6 @@
-// Whether a tone is well formed that lies among other octets, told as fast as can be: where it is sure, it says yes, else nothing
-// is said of the tone. The kinds of instructions come in an order that the processor cannot foresee, so none is told by a branch:
-// the bits are turned round, so that the kind of the next one stands where a shift wants it, and faults are looked up.
+// Whether a tone is well formed that lies among other octets, told as fast as can be and with no word on what is wrong with it.
+// The kinds of instructions come in an order that the processor cannot foresee, so none is told by a branch: the bits are turned
+// round, so that the kind of the next one stands where a shift wants it, and faults are looked up.
 ghost use mathlib.Core.Path.{_≡_};
 ghost use mathlib.Core.Bool.{false};
 ghost use Prim.Native.Nat.{_+_, _*_, _/_, _%_, _^_, _≤_, _<_};
@@ -116,14 +116,13 @@ fn few(x: u64, n: u32, met: u8, marks: &[u8; 512]) -> Told
 
 // ---- a body
 
-// What instructions take up: their bits, and whether each is surely one of the table.
+// What instructions take up: their bits, and whether each is one of the table.
 struct Span {
     bits: usize,
     sure: bool,
 }
 
-// The `n` instructions at a place. They are sure where the end octet's bits are left behind them, for then the bits that were
-// looked at are there.
+// The `n` instructions at a place, and the end octet's bits behind them: with those the bits that were looked at are there.
 fn some(whole: &[u8], at: BitPlace, n: u32, marks: &[u8; 512]) -> Span
     requires { ⌜ Marks (now marks) ⌝ }
     requires { ⌜ Within (now whole) (at .0) ⌝ }
@@ -249,13 +248,13 @@ fn body(whole: &[u8], at: BitPlace, n: u32, marks: &[u8; 512]) -> Way
 
 // ---- the front
 
-// Where the patterns of a tone begin, and how many there are; none where no front is sure.
+// Where the patterns of a tone begin, and how many there are; none where no front stands.
 struct Start {
     at: BitPlace,
     count: u32,
 }
 
-// No front is sure.
+// No front stands there.
 fn no_start(at: BitPlace) -> Start
     ensures { λ r. ⌜ r .count ≡ 0 ⌝ }
 {

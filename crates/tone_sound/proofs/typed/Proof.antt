@@ -2,7 +2,7 @@
 use borrow.Author.Needs.{needs}
 use Rattle.tone_sound.proofs.typed.Statement.{statement}
 use Rattle.tone_sound.proofs.typed.Tie as tie
-use Rattle.tone_sound.proofs.Fronting.{typed-cut, fronting}
+use Rattle.tone_sound.proofs.Fronting.{fronting}
 
 add-t9 : tie.Need-add-t9
 add-t9 c = search needs
@@ -53,9 +53,7 @@ no-start-requires-3 : tie.Need-no-start-requires-3
 no-start-requires-3 c κs = search needs
 
 returns-4 : tie.Need-returns-4
-returns-4 c =
-    let start = c .before .before .before .before .before .before .before .before .before .before .before .before .before in
-    typed-cut _ _ _ {x = start .args .x} (search needs) (search needs) (search needs) (c .no-start3 .ensures) (search needs) (c .before .before .before .before .before .span .ensures) (search needs) (c .before .before .before .before .place-after .ensures) (c .before .if4 .taken)
+returns-4 c = search (fronting, needs)
 
 add-t16-3 : tie.Need-add-t16-3
 add-t16-3 c = search needs
