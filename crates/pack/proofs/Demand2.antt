@@ -97,7 +97,8 @@ module _ (ts : List Tone) (k : Packable ts) where
   unfolding packOctets
   long = length-packOf octets ns
 
-  first-there : firstRow p ≡ length octets
+  -- where its rows begin
+  pub first-there : firstRow p ≡ length octets
   unfolding packOctets packOf
   first-there =
       let front = octets ++ (rows ++ pair (length ns)) in

@@ -230,7 +230,7 @@ fn judge_lengths(octets: &[u8], lengths: &[u32]) -> Inside
 }
 
 // Puts a row behind so many octets.
-fn put_row(out: &mut [u8], at: OctetCount, start: OctetCount, n: OctetCount)
+pub fn put_row(out: &mut [u8], at: OctetCount, start: OctetCount, n: OctetCount)
     requires { ⌜ (at .0 + 4 ≤ length (now out)) × (start .0 < 65536) × (n .0 < 65536) ⌝ }
     ensures { λ _. ⌜ now (out .exit) ≡ sets (now (out .entry)) (at .0) (pair (start .0) ++ pair (n .0)) ⌝ }
 {

@@ -1,4 +1,4 @@
--- How large the largest tone is: the octets of its title, and the entries of its table.
+-- How large the largest tone is: the octets of its title, and the entries of its table; and how short the shortest.
 use Prim.Native.Nat.{ℕ, zero, suc, _+_, _*_, _≤_}
 use native.Mathlib.Omega.{arith}
 use mathlib.Core.Bool.{Bool, true, false}
@@ -6,9 +6,10 @@ use mathlib.Core.List.{List, [], _∷_, _++_}
 use lib.ListN.{length, length-append}
 use Rattle.bits.proofs.Numbers.{length-bits}
 use Rattle.tone.specs.Table.{kind, width}
-use Rattle.tone.specs.Tone.{Pattern, Tone, Front, frontOf, header, cells, learn, noneKnown, Titled, Instructions, Sequence}
-use Rattle.tone.specs.Writing.{commandBits, entryBits, tableBits, frontBits, songBits, WellFormed}
+use Rattle.tone.specs.Tone.{Pattern, Tone, Front, frontOf, header, cells, learn, noneKnown, Titled, Instructions, Sequence, Formed}
+use Rattle.tone.specs.Writing.{commandBits, entryBits, tableBits, frontBits, songBits, toneLength, WellFormed}
 use Rattle.tone.proofs.Rows.{length-entryBits, header-small, header-wide, tableBits-append}
+use Rattle.tone.proofs.Recalls.{first-defines}
 
 -- a title has at most 30 octets: fifteen characters of two
 pub title-most : (song : ℕ) (unicode : Bool) (title : List ℕ) → Titled song unicode title → length title ≤ 30
@@ -52,6 +53,23 @@ table-least known (p ∷ ps) h =
 front-least : (f : Front) → 34 ≤ length (frontBits f)
 unfolding frontBits commandBits
 front-least f = simp (length-append, length-bits) (omega arith)
+
+-- a table has two entries at least: the first header, and its first instruction
+cells-least : (ps : List Pattern) → 1 ≤ length ps → Sequence noneKnown ps → 2 ≤ length (cells ps)
+cells-least [] h q = absurd (omega arith)
+cells-least (p ∷ ps) h q = omega (arith, length-append (p .body) (cells ps), first-defines p (q .0) (q .1))
+
+-- a song has 56: a front, a header, and an instruction of five
+song-least : (t : Tone) → Formed t → 56 ≤ length (songBits t)
+unfolding songBits
+song-least t f =
+    let ps = t .patterns in
+    let l = length-append (frontBits (frontOf t)) (tableBits (cells ps)) in
+    omega (arith, l, front-least (frontOf t), table-least noneKnown ps (f .sequence), cells-least ps (f .front .some) (f .sequence))
+
+-- a tone has at least eight octets
+pub octets-least : (t : Tone) → Formed t → 8 ≤ toneLength t
+octets-least t f = omega (arith, song-least t f)
 
 -- ---- the most entries
 

@@ -11,3 +11,4 @@ pub mod Positions
 pub mod Instructions
 pub mod Recalls
 pub mod Largest
+pub mod Standing

@@ -102,3 +102,12 @@ pub definition-allowed : (known : List Bool) (p : Pattern) → Sound p → 1 ≤
 definition-allowed known p s h =
     let z : specifier (header p) ≡ 0 → ⊥ = λ q. omega (arith, header-small p s .1) in
     rw (ne-eqb (specifier (header p)) 0 z) refl
+
+-- the first pattern defines: there is nothing yet that it could recall
+pub first-defines : (p : Pattern) → Sound p → recallable noneKnown (header p) ≡ true → 1 ≤ length (p .body)
+unfolding after
+first-defines p s h = go (length (p .body)) refl
+  where
+    go : (n : ℕ) → length (p .body) ≡ n → 1 ≤ length (p .body)
+    go zero e = absurd (recall-allowed [] p tt s e .0 h)
+    go (suc n) e = omega (arith, e)
