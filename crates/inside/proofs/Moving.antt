@@ -3,7 +3,7 @@ use Prim.Native.Nat.{ℕ, suc, _+_, _-_, _≤_, _<_}
 use native.Mathlib.Omega.{arith}
 use native.Mathlib.Numerals.{add-one}
 use mathlib.Core.Path.{_≡_, refl, sym, ap, _∙_}
-use mathlib.Core.Bool.{Bool, true}
+use mathlib.Core.Bool.{Bool}
 use mathlib.Core.List.{List}
 use lib.ListN.{length, take, drop, set, length-set}
 use Rattle.bits.specs.Bits.{placeAfter}
@@ -12,11 +12,10 @@ use Rattle.bits.specs.Places.{place}
 use Rattle.bits.specs.declared.BitPlace.{BitPlace}
 use Rattle.bits.specs.declared.OctetCount.{OctetCount}
 use Rattle.tone.specs.Tone.{Tone}
-use Rattle.tone.specs.Reading.{readTone}
+use Rattle.tone.specs.Reading.{got, readTone, toneAt}
 use Rattle.tone.proofs.Refusals.{place-most}
 use Rattle.tone.proofs.Stretch.{stretch-reads}
-use Rattle.tone_elements.specs.Answers.{Sure}
-use Rattle.tone_sound.specs.Answers.{StandsAt}
+use Rattle.tone.proofs.Standing.{at-stands, stands-read}
 use Rattle.tone_judge.specs.declared.Total.{Total}
 use Rattle.tone_judge.specs.declared.Judged.{Judged}
 use Rattle.tone_judge.specs.declared.Judged.the-variants.{Sound, Faulty}
@@ -27,9 +26,12 @@ use Rattle.inside.specs.Answers.{insideOf}
 
 -- ---- a message in its place
 
--- a tone that stands there is what reading the stretch accepts
-pub inside-sure : (m : List ℕ) (s e : ℕ) {b : Bool} → Sure b (StandsAt m s e) → b ≡ true → s ≤ e → e ≤ length m → e - s ≤ 4096 → Fine ≡ insideOf (movedBy s (readTone (take (e - s) (drop s m))))
-inside-sure m s e t h i k l = let a = t .so h in rw (stretch-reads m s e i k l (a .reads)) refl
+-- a tone that fills a stretch is what reading the stretch accepts
+pub inside-filled : (m : List ℕ) (s e : ℕ) {n : ℕ} → n ≡ toneAt m s → n ≡ e - s → s < e → e ≤ length m → e - s ≤ 4096 → Fine ≡ insideOf (movedBy s (readTone (take (e - s) (drop s m))))
+inside-filled m s e {n} q f i k l =
+    let a = at-stands m s (omega arith) (omega (arith, q)) in
+    let z : s + toneAt m s ≡ e = omega (arith, q) in
+    rw (stretch-reads m s e (omega arith) k l (stands-read m s (omega arith) a ∙ ap (λ (x : ℕ). got (a .tone) (placeAfter x)) z)) refl
 
 module _ (m : List ℕ) (start : ℕ) {j : Judged} (q : j ≡ judgedOf (readTone m)) where
   pub inside-fine : {s : ℕ} {u : Bool} {o : OctetCount} {k : ℕ} {v : Total} {f : BitPlace} → j ≡ Sound s f o k v u → Fine ≡ insideOf (movedBy start (readTone m))
@@ -55,7 +57,7 @@ module _ (m : List ℕ) (start : ℕ) {j : Judged} (q : j ≡ judgedOf (readTone
     pub inside-fault : {r : BitPlace} → r .0 ≡ placeAfter start + f .0 → Fault n r ≡ insideOf (movedBy start (readTone m))
     inside-fault {r} e = rw faulty-there (ap (λ (x : ℕ). Fault n (place x)) e)
 
-pub ruleset insides = (inside-sure, inside-fine, inside-short, inside-fault)
+pub ruleset insides = (inside-filled, inside-fine, inside-short, inside-fault)
 
 -- ---- two octets
 

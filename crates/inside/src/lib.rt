@@ -56,8 +56,8 @@ pub fn moved(at: BitPlace, start: OctetCount) -> BitPlace
     BitPlace(bits::place_after(start).0 + at.0)
 }
 
-// Judges the tone message that is a stretch of something larger, from one octet up to another. Where it is not surely sound, it is
-// judged by itself, which finds the fault and its place.
+// Judges the tone message that is a stretch of something larger, from one octet up to another. Where no tone fills it, it is judged
+// by itself, which finds the fault and its place.
 pub fn judge_inside(whole: &[u8], start: OctetCount, end: OctetCount, marks: &[u8; 512]) -> Inside
     requires { ⌜ Marks (now marks) ⌝ }
     requires { ⌜ (start .0 ≤ end .0) × (end .0 ≤ length (now whole)) × (length (now whole) ≤ 65535) ⌝ }
@@ -66,8 +66,11 @@ pub fn judge_inside(whole: &[u8], start: OctetCount, end: OctetCount, marks: &[u
     let from = start.0;
     let to = end.0;
     if to - from <= 4096 {
-        if tone_sound::sound(whole, start, end, marks) {
-            return Inside::Fine;
+        let own = tone_sound::tone_at(whole, start, marks);
+        if own.0 == to - from {
+            if from < to {
+                return Inside::Fine;
+            }
         }
     }
     match tone_judge::judge(&whole[from..to]) {

@@ -46,13 +46,17 @@ use Rattle.bitmap_kinds.proofs.Largest.{mostOctets as kindMost, spelt-most as k
 use Rattle.written.specs.Written.{writeNumbers as packWritten}
 use Rattle.pack.specs.Pack.{writePack}
 use Rattle.pack.proofs.Order.{never-eleven}
-use Rattle.pack_answers.specs.Promise.{PackWriteExport}
+use Rattle.salvage.specs.Salvage.{Salvaged, salvage}
+use Rattle.salvage.specs.Promises.{salvageNumbers}
+use Rattle.salvage.proofs.Order.{never-eleven as salvage-never-eleven}
+use Rattle.pack_answers.specs.declared.SalvageAnswer.{SalvageAnswer}
+use Rattle.pack_answers.specs.Promise.{PackWriteExport, PackSalvageExport}
 use Rattle.ohakelm.specs.declared.ToneAnswer.{ToneAnswer}
 use Rattle.written.specs.declared.WrittenAnswer.{WrittenAnswer}
 use Rattle.ohakelm.specs.declared.ListAnswer.{ListAnswer}
 use Rattle.ohakelm.specs.declared.EditAnswer.{EditAnswer}
 use Rattle.ohakelm.specs.Promise.{ReadExport, WriteExport, ListExport, RowsExport, EditExport, BitmapWriteExport, KindWriteExport}
-use Rattle.ohakelm.specs.Room.{titleRoom, tableRoom, toneRoom, entriesRoom, listRoom, bitmapRoom, kindRoom, packRoom}
+use Rattle.ohakelm.specs.Room.{titleRoom, tableRoom, toneRoom, entriesRoom, listRoom, bitmapRoom, kindRoom, packRoom, reportRoom}
 
 -- accepted, or refused on another ground than 11
 data Spared {A : Type 0} : Outcome A → Type 0 where
@@ -246,3 +250,11 @@ pack-write-room octets ns out out′ r x h e = go (writePack octets ns (length o
     go : (o : Outcome (List ℕ)) → writePack octets ns (length out) ≡ o → packWritten o .refusal ≡ 11 → ⊥
     go (accepted w) q z = omega arith
     go (refused n p) q z = never-eleven octets ns (length out) h (q ∙ ap (λ (k : ℕ). refused k p) z)
+
+-- `ohakelm_pack_salvage`, with 65,535 octets and 16,381 numbers
+pub pack-salvage-room : (p out report out′ report′ : List ℕ) (r : SalvageAnswer) → PackSalvageExport p out report out′ report′ r → packRoom ≤ length out → reportRoom ≤ length report → r .refusal ≡ 11 → ⊥
+pack-salvage-room p out report out′ report′ r x h l e = go (salvage p (length out) (length report)) refl (sym (ap (λ (a : SalvageAnswer). a .refusal) (x .answer)) ∙ e)
+  where
+    go : (o : Outcome Salvaged) → salvage p (length out) (length report) ≡ o → salvageNumbers o .refusal ≡ 11 → ⊥
+    go (accepted s) q z = omega arith
+    go (refused n f) q z = salvage-never-eleven p (length out) (length report) h l (q ∙ ap (λ (k : ℕ). refused k f) z)

@@ -31,9 +31,9 @@ use Rattle.ohakelm.specs.declared.EditAnswer.{EditAnswer}
 
 -- ---- the version
 
--- a version is first × 10,000 + second × 100 + third; this one is 0.9.1
+-- a version is first × 10,000 + second × 100 + third; this one is 0.10.0
 abbrev pub version : ℕ
-version = 0 * 10000 + 9 * 100 + 1
+version = 0 * 10000 + 10 * 100 + 0
 
 -- `ohakelm_version`: the version
 pub record VersionExport (r : ℕ) : Type 0 where

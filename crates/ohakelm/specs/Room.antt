@@ -45,3 +45,7 @@ kindRoom Logo = logoRoom
 -- octets for a pack
 abbrev pub packRoom : ℕ
 packRoom = 65535
+
+-- numbers for the report of tones that are got out of a broken pack
+abbrev pub reportRoom : ℕ
+reportRoom = 16381

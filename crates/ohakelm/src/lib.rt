@@ -7,7 +7,7 @@ ghost use Rattle.bitmap.specs.Promises.{numbersOfWriting as bitmapNumbers};
 ghost use Rattle.bitmap_ahead.specs.declared.Kind.the-variants.{Icon, Logo};
 ghost use Rattle.bitmap_ahead.specs.Ahead.{said, nothing};
 ghost use Rattle.bitmap_answers.specs.Promise.{IconReadExport, LogoReadExport};
-ghost use Rattle.pack_answers.specs.Promise.{PackReadExport, PackMessageExport, PackWriteExport};
+ghost use Rattle.pack_answers.specs.Promise.{PackReadExport, PackMessageExport, PackWriteExport, PackSalvageExport};
 ghost use Rattle.ohakelm.specs.Promise.{VersionExport, ReadExport, WriteExport, LabelExport, ListExport, RowsExport, EditExport, BitmapReadExport, BitmapWriteExport, KindWriteExport, listedAs, editedAs, bitmapWrittenAs};
 use bitmap_ahead::Kind;
 use bitmap_answers::BitmapAnswer;
@@ -19,6 +19,7 @@ use label::Supplier;
 use list::Listed;
 use list_rules::Entry;
 use pack_answers::PackAnswer;
+use pack_answers::SalvageAnswer;
 use pack_answers::StretchAnswer;
 use tone_read::Reading;
 use tone_write::Writing;
@@ -68,12 +69,12 @@ pub struct EditAnswer {
 
 // ---- the version
 
-// The version of the library, 0.9.1.
+// The version of the library, 0.10.0.
 #[no_mangle]
 pub extern "C" fn ohakelm_version() -> u32
     ensures { λ r. ⌜ VersionExport r ⌝ }
 {
-    901
+    1000
 }
 
 // ---- tones
@@ -437,4 +438,16 @@ pub extern "C" fn ohakelm_pack_write(msgs: &[u8], lengths: &[u32], out: &mut [u8
     ensures { λ r. ⌜ PackWriteExport (now (msgs .entry)) (now (lengths .entry)) (now (out .entry)) (now (out .exit)) r ⌝ }
 {
     pack_answers::write_pack(msgs, lengths, out)
+}
+
+// Gets the tones out of a broken pack: a new pack of the messages that are kept, and a report.
+#[no_mangle]
+pub extern "C" fn ohakelm_pack_salvage(
+    pack: &[u8],
+    out: &mut [u8],
+    report: &mut [u32],
+) -> SalvageAnswer
+    ensures { λ r. ⌜ PackSalvageExport (now (pack .entry)) (now (out .entry)) (now (report .entry)) (now (out .exit)) (now (report .exit)) r ⌝ }
+{
+    pack_answers::salvage_pack(pack, out, report)
 }

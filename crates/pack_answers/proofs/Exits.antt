@@ -13,7 +13,10 @@ use Rattle.pack.specs.declared.Finding.{Finding}
 use Rattle.pack.specs.declared.Finding.the-variants.{Found, Refused as Missing}
 use Rattle.pack.specs.Pack.{Row, nthRow}
 use Rattle.pack.specs.Promises.{numbersOfReading, ReadPromise, numbersOfFinding, findNumbers, FindPromise, stretchOf}
-use Rattle.pack_answers.specs.Promise.{packAs, PackReadExport, stretchAs, PackMessageExport}
+use Rattle.salvage.specs.declared.Salvaging.{Salvaging}
+use Rattle.salvage.specs.declared.Salvaging.the-variants.{Done, Refused as Unsaved}
+use Rattle.salvage.specs.Promises.{numbersOfSalvaging, SalvagePromise}
+use Rattle.pack_answers.specs.Promise.{packAs, PackReadExport, stretchAs, PackMessageExport, salvageAs, PackSalvageExport}
 
 -- ---- read_pack
 
@@ -46,4 +49,16 @@ module _ (p : List ℕ) (n : ℕ) {x : Finding} (q : FindPromise p n x) where
   pub message-found : {s l : OctetCount} → x ≡ Found s l → PackMessageExport p n (stretchAs (numbersOfFinding (Found s l)))
   message-found {s} {l} e = found (Found s l) e
 
-pub ruleset answers = (pack-refused, pack-read, message-refused, message-found, by-numbers)
+-- ---- salvage_pack
+
+module _ (p out report out′ report′ : List ℕ) {x : Salvaging} (q : SalvagePromise p out report out′ report′ x) where
+  came : (y : Salvaging) → x ≡ y → PackSalvageExport p out report out′ report′ (salvageAs (numbersOfSalvaging y))
+  came y e = record { answer = ap (λ (z : Salvaging). salvageAs (numbersOfSalvaging z)) (sym e) ∙ ap salvageAs (q .said); pack = q .pack; reported = q .reported }
+
+  pub salvage-refused : {n : ℕ} {f : BitPlace} → x ≡ Unsaved n f → PackSalvageExport p out report out′ report′ (salvageAs (numbersOfSalvaging (Unsaved n f)))
+  salvage-refused {n} {f} e = came (Unsaved n f) e
+
+  pub salvage-done : {k : ℕ} {o s : OctetCount} → x ≡ Done k o s → PackSalvageExport p out report out′ report′ (salvageAs (numbersOfSalvaging (Done k o s)))
+  salvage-done {k} {o} {s} e = came (Done k o s) e
+
+pub ruleset answers = (pack-refused, pack-read, message-refused, message-found, by-numbers, salvage-refused, salvage-done)

@@ -1,7 +1,8 @@
 // What the calls on packs answer across the C border: numbers alone, a message by where it begins and its octets.
-ghost use Rattle.pack_answers.specs.Promise.{PackReadExport, PackMessageExport, PackWriteExport};
+ghost use Rattle.pack_answers.specs.Promise.{PackReadExport, PackMessageExport, PackWriteExport, PackSalvageExport};
 use pack::Finding;
 use pack::Reading;
+use salvage::Salvaging;
 use written::WrittenAnswer;
 
 // A pack: how many messages it has.
@@ -19,6 +20,16 @@ pub struct StretchAnswer {
     pub place: usize,
     pub start: usize,
     pub length: usize,
+}
+
+// Tones that were got out of a broken pack: messages kept, octets of the new pack, octets skipped.
+#[repr(C)]
+pub struct SalvageAnswer {
+    pub refusal: u32,
+    pub place: usize,
+    pub messages: usize,
+    pub octets: usize,
+    pub skipped: usize,
 }
 
 // Reads a pack.
@@ -67,4 +78,30 @@ pub fn write_pack(messages: &[u8], lengths: &[u32], out: &mut [u8]) -> WrittenAn
     ensures { λ r. ⌜ PackWriteExport (now (messages .entry)) (now (lengths .entry)) (now (out .entry)) (now (out .exit)) r ⌝ }
 {
     written::answer(pack::write(messages, lengths, out))
+}
+
+// Gets the tones out of a broken pack: a new pack, and a report.
+pub fn salvage_pack(pack: &[u8], out: &mut [u8], report: &mut [u32]) -> SalvageAnswer
+    ensures { λ r. ⌜ PackSalvageExport (now (pack .entry)) (now (out .entry)) (now (report .entry)) (now (out .exit)) (now (report .exit)) r ⌝ }
+{
+    match salvage::salvage(pack, out, report) {
+        Salvaging::Refused { number, place } => SalvageAnswer {
+            refusal: number,
+            place: place.0,
+            messages: 0,
+            octets: 0,
+            skipped: 0,
+        },
+        Salvaging::Done {
+            messages,
+            octets,
+            skipped,
+        } => SalvageAnswer {
+            refusal: 0,
+            place: 0,
+            messages,
+            octets: octets.0,
+            skipped: skipped.0,
+        },
+    }
 }

@@ -2,6 +2,7 @@
 use Rattle.bitmap.proofs.Samples.{bitmap-samples}
 use Rattle.bitmap_kinds.proofs.Samples.{kind-samples}
 use Rattle.pack.proofs.Samples.{pack-samples}
+use Rattle.salvage.proofs.Samples.{salvage-samples}
 use Rattle.list_rules.proofs.Samples as lengths
 use Rattle.samples.specs.Pinned.{Pinned}
 use Rattle.samples.proofs.Message.{messages}
@@ -33,5 +34,6 @@ pinned = record {
   bitmaps = bitmap-samples;
   kinds = kind-samples;
   packs = pack-samples;
+  salvages = salvage-samples;
   texts = texts;
 }

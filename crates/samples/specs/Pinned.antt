@@ -2,6 +2,7 @@
 use Rattle.bitmap.specs.Samples.{BitmapSamples}
 use Rattle.bitmap_kinds.specs.Samples.{KindSamples}
 use Rattle.pack.specs.Samples.{PackSamples}
+use Rattle.salvage.specs.Samples.{SalvageSamples}
 use Rattle.list_rules.specs.Samples.{Durations}
 use Rattle.samples.specs.Message.{Messages}
 use Rattle.samples.specs.Table.{Readings, Writings}
@@ -32,4 +33,5 @@ pub record Pinned : Type 0 where
   pub bitmaps : BitmapSamples
   pub kinds : KindSamples
   pub packs : PackSamples
+  pub salvages : SalvageSamples
   pub texts : Texts

@@ -185,13 +185,14 @@ kept some c = pick (allowedCharacter c) (not (eqb (bitAnd c some) 0) && not (eqb
 failed : (a b : ℕ) → not (eqb a b) ≡ true → a ≡ b → ⊥
 failed a b h e = let z : _≡_ {A = Bool} true false = sym h ∙ ap not (eq-eqb a b e) in let y : _≡_ {A = ℕ} 0 1 = cc in omega (arith, y)
 
+-- each number of one octet that is allowed
 kept-below : (some c : ℕ) → passes (kept some) 256 ≡ true → c < 256 → allowedCharacter c ≡ true → (bitAnd c some ≡ 0 → ⊥) × (bitXor c 127 ≡ 0 → ⊥)
 kept-below some c p l a =
     let t : kept some c ≡ (not (eqb (bitAnd c some) 0) && not (eqb (bitXor c 127) 0)) = rw a refl in
     let b = both (not (eqb (bitAnd c some) 0)) (not (eqb (bitXor c 127) 0)) (sym t ∙ at-each (kept some) 256 p c l) in
     (failed (bitAnd c some) 0 (b .0), failed (bitXor c 127) 0 (b .1))
 
--- a number above 127 is not 127, and under UNICODE one with a high octet has such a bit
+-- under UNICODE a number with a high octet has such a bit, and is not 127
 kept-above : (c : ℕ) → 256 ≤ c → c < 65536 → (bitAnd c 0xFF60 ≡ 0 → ⊥) × (bitXor c 127 ≡ 0 → ⊥)
 kept-above c h l = (
   (λ e.
@@ -239,6 +240,7 @@ module _ (w h low high some other here : ℕ) (e : w ≡ 1 + h) (keeps : (c : �
   abbrev shows : ℕ → Bool
   shows k = tells w low high some other here k && (eqb (lane w k low) (2 ^ h - 1) && eqb (lane w k high) (2 ^ h))
 
+  -- so does a lane with an allowed character
   lane-fine : (x k : ℕ) → shows k ≡ true → allowedCharacter (lane w k x) ≡ true → lane w k (fine low some other x) / 2 ^ h ≡ 1
   lane-fine x k t a =
       let b = both (tells w low high some other here k) _ t in
@@ -552,6 +554,7 @@ module _ (m : List ℕ) (at : ℕ) (unicode : Bool) (n : ℕ) {all : ℕ} (e : (
       let d : q * w + w ≤ 64 = omega (arith, lane-place unicode q (omega (arith, c))) in
       lane-told m at unicode n j f sees a i q g d (omega (arith, g, l))
 
+  -- where the first row and the last do not pass, one is not
   pub two-pass : {x y : ℕ} {r : Bool} → Sight 64 (drop at (bitsOf m)) x → Sight 64 (drop (at + (all - 64)) (bitsOf m)) y → Complete r (BothAllowed (characterBits unicode) x y) → r ≡ false → Complete false (AllowedAt m at unicode n)
   two-pass {x} {y} first last s t = record { passes = λ a. absurd (false≢true (sym t ∙ s .passes (ends-told a))) }
     where
@@ -563,6 +566,7 @@ module _ (m : List ℕ) (at : ℕ) (unicode : Bool) (n : ℕ) {all : ℕ} (e : (
             second = row-told a (n - perRow unicode) (at + (all - 64)) (omega (arith, e .0, row-place unicode n 1 (n - perRow unicode) (omega arith))) (omega (arith, l)) last;
           }
 
+  -- where they do, the two between them tell
   pub four-pass : {x y : ℕ} {r : Bool} → 128 < all → Sight 64 (drop (at + 64) (bitsOf m)) x → Sight 64 (drop (at + (all - 128)) (bitsOf m)) y → Complete r (BothAllowed (characterBits unicode) x y) → Complete r (AllowedAt m at unicode n)
   four-pass k second third s = record {
     passes = λ a.

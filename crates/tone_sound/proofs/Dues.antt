@@ -35,6 +35,7 @@ module _ (w : ℕ) (fine : ℕ → Bool) (number : ℕ) (l : List Bool) (at : �
   Read (got a p) = (at + w ≤ length l) × (a ≡ field l at w) × (p ≡ at + w) × (fine a ≡ true)
   Read (bad n p e) = Unit {0}
 
+  -- it was read, or nothing is said
   either : Read (element w fine number l at)
   unfolding element
   either =
@@ -139,6 +140,7 @@ module _ (m : List ℕ) (at : ℕ) {x : ℕ} (s : Sight 57 (drop at (bitsOf m)) 
   Called false p = (x / 2 ^ 41 ≡ 75037) × (p ≡ at + 23)
   Called true p = (x / 2 ^ 33 ≡ 27599389) × (p ≡ at + 31)
 
+  -- they are so
   pub command-seen : {u : Bool} {p : ℕ} → command (bitsOf m) at ≡ got u p → Called u p
   unfolding command parts whetherUnicode soundPart
   command-seen {u} {p} d =
@@ -159,6 +161,7 @@ module _ (m : List ℕ) (at : ℕ) {x : ℕ} (s : Sight 57 (drop at (bitsOf m)) 
       (λ t. three (eqb-true n 3 t) i₁ f₁ f₂ (f .2) (c .2) (g .1))
       (or-true (eqb n 2) (eqb n 3) (i .3)))
     where
+      -- without UNICODE
       two : {n q r v : ℕ} {w : Bool} → n ≡ 2 → x / 2 ^ 56 % 256 ≡ n → x / 2 ^ 49 % 128 ≡ 37 → x / 2 ^ 48 % 2 ≡ 0 → q ≡ at + 16 → whetherUnicode n (bitsOf m) q ≡ got w r
           → element 7 (eqb sound) 3 (bitsOf m) r ≡ got v p → Called w p
       two {n} {q} {r} {v} {w} e i f g h c d =
@@ -170,6 +173,7 @@ module _ (m : List ℕ) (at : ℕ) {x : ℕ} (s : Sight 57 (drop at (bitsOf m)) 
           let k₁ : x / 2 ^ 41 % 128 ≡ 29 = sym (k .1) ∙ sym (eqb-true sound v (k .3)) in
           subst (λ (y : Bool). Called y p) ew (more-bits x 41 7 (more-bits x 48 1 (more-bits x 49 7 t f) g) k₁, omega (arith, k .2, er, h))
 
+      -- with UNICODE
       three : {n q r v : ℕ} {w : Bool} → n ≡ 3 → x / 2 ^ 56 % 256 ≡ n → x / 2 ^ 49 % 128 ≡ 37 → x / 2 ^ 48 % 2 ≡ 0 → q ≡ at + 16 → whetherUnicode n (bitsOf m) q ≡ got w r
           → element 7 (eqb sound) 3 (bitsOf m) r ≡ got v p → Called w p
       three {n} {q} {r} {v} {w} e i f g h c d =
@@ -204,6 +208,7 @@ text-read m u (suc n) p {t} {q} h d =
     let more : (j : ℕ) → j < n → allowedCharacter (field l (p + w + j * w) w) ≡ true = λ j k. subst (λ (y : ℕ). allowedCharacter (field l (y + j * w) w) ≡ true) (f .2) (r .0 .each j k) in
     (record { there = omega (arith, e, f .2, r .0 .there); each = first w c more }, omega (arith, e, f .2, r .1))
   where
+    -- the first character, and those behind it
     first : (w : ℕ) → allowedCharacter (field (bitsOf m) p w) ≡ true → ((j : ℕ) → j < n → allowedCharacter (field (bitsOf m) (p + w + j * w) w) ≡ true)
         → (j : ℕ) → j < suc n → allowedCharacter (field (bitsOf m) (p + j * w) w) ≡ true
     first w c more zero k = let z : p + 0 * w ≡ p = omega arith in rw z c

@@ -98,6 +98,7 @@ seen-unicode x n c = go (c .unicode) (command-seen (c .octets) (c .at) (c .sees)
     go true k = k .0
     go false k = absurd (n (k .0))
 
+-- what `called` answers of either
 pub command-plain : (x : ℕ) → x / 2 ^ 41 ≡ 75037 → Tells true (CommandOn x false 23) (CommandSeen x)
 command-plain x h = surely (plain-on x h)
 
@@ -126,6 +127,7 @@ module _ (m : List ℕ) (at : ℕ) (u : Bool) {x : ℕ} (i : Within m at) (s : S
       count : ℕ
       counts : element 8 (leb 1) 5 (bitsOf m) place ≡ got count (k .end)
 
+    -- it can be taken apart so
     apart : Apart
     unfolding typed titled counted
     apart =

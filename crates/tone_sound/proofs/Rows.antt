@@ -66,6 +66,7 @@ header-read known l p {v} {q} e =
     got-value : {h t : ℕ} → got h t ≡ got v q → h ≡ v
     got-value f = cc
 
+-- where patterns were read, there is a first
 pub first-of : (m : List ℕ) (known : List Bool) (p left : ℕ) {ps : List Pattern} {end : ℕ} → 0 < left → patternsDue left known (bitsOf m) p ≡ got ps end → First m known p left end
 unfolding patternsDue
 first-of m known p left {ps} {end} h d =

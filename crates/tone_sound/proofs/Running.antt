@@ -49,6 +49,7 @@ clear-less : (left y : ℕ) → 0 < left → markIn y ≡ clear → AllClear (le
 clear-less zero y h e a = absurd (omega arith)
 clear-less (suc k) y h e a = let z : suc k - 1 ≡ k = omega arith in (e, subst (λ (j : ℕ). AllClear j (onward y)) z a)
 
+-- the first of those that are clear, and the others
 clear-more : (left y : ℕ) → 0 < left → AllClear left y → (markIn y ≡ clear) × AllClear (left - 1) (onward y)
 clear-more zero y h a = absurd (omega arith)
 clear-more (suc k) y h a = let z : suc k - 1 ≡ k = omega arith in (a .0, subst (λ (j : ℕ). AllClear j (onward y)) (sym z) (a .1))

@@ -17,26 +17,16 @@ use Rattle.tone.specs.Tone.{Front, Pattern, Tone, noneKnown}
 use Rattle.tone.specs.Reading.{Got, got, bad, onward, element, front as frontDue, patternsDue, ending, rest, wholeTone, octetsRead, toneAt}
 use Rattle.tone.proofs.Fronts.{front-exact}
 use Rattle.tone.proofs.Rows.{header-exact, header-wide, body-exact, patterns-exact}
-use Rattle.tone_elements.specs.Answers.{Within, Sure, allKnown}
+use Rattle.tone_elements.specs.Answers.{Within, allKnown}
 use Rattle.tone_elements.proofs.Steps.{step-there, onward-got, onward-made}
 use Rattle.tone_elements.proofs.Openings.{ending-told}
 use Rattle.tone_elements.proofs.Walks.{stays}
-use Rattle.tone_sound.specs.Answers.{Tells, PatternsPast, PatternsStand, FrontAt, FrontStands, Starts, SongPast, ToneFrom, EndAt, StandsAt}
+use Rattle.tone_sound.specs.Answers.{Tells, PatternsPast, PatternsStand, FrontAt, FrontStands, Starts, SongPast, ToneFrom}
 use Rattle.tone_sound.proofs.Dues.{element-read, element-seen}
 use Rattle.tone_sound.proofs.Bodies.{nothing-sure, nowhere, was-sure}
 use Rattle.tone_sound.proofs.Rows.{first-of}
 
 -- ---- the end
-
--- where the code says no, nothing is said
-pub nothing : {P : Type 0} → Sure false P
-nothing = record { so = nothing-sure false refl }
-
--- zeros through the last octet
-pub ends-told : (m : List ℕ) (at end : ℕ) {x y : ℕ} → y ≡ octetsTo at → y + 1 ≡ end → end ≤ length m → Sight (fillerTo at + 8) (drop at (bitsOf m)) x → Sure (eqb x 0) (EndAt m at end)
-ends-told m at end {x} {y} ey e h s = record {
-  so = λ t. record { value = 0; reads = step-there (ending (bitsOf m) at) (ending-told m at ey (omega arith) s (eqb-true x 0 t) {p = place (placeAfter end)} (omega arith)) };
-}
 
 -- an end that was read: filler, and the octet behind it
 module _ (m : List ℕ) (at : ℕ) where
@@ -46,6 +36,7 @@ module _ (m : List ℕ) (at : ℕ) where
     last : ℕ
     ends : element 8 (eqb 0) 9 (bitsOf m) (at + fillerTo at) ≡ got last p
 
+  -- it can be taken apart so
   end-read : {v p : ℕ} → ending (bitsOf m) at ≡ got v p → Ended p
   unfolding ending
   end-read {v} {p} d =
@@ -76,6 +67,7 @@ module _ (m : List ℕ) (at : ℕ) where
 
     -- a sight through it
     module _ {x z : ℕ} (s : Sight (fillerTo at + 8) (drop at (bitsOf m)) x) (ez : z ≡ placeAfter y) where
+      -- the filler, as the code has it
       filler-is : z - at ≡ fillerTo at
       filler-is = ap (λ (k : ℕ). k - at) (ez ∙ ap (λ (k : ℕ). 8 * k) ey)
 
@@ -103,6 +95,7 @@ module _ (m : List ℕ) (at : ℕ) where
           let d = step-there (ending (bitsOf m) at) (ending-told m at ey h zeros refl {p = place (placeAfter (y + 1))} refl) in
           rw d (omega arith)
         where
+          -- nothing but zeros
           none : (o w : ℕ) → o + w ≤ fillerTo at + 8 → x / 2 ^ (64 - (o + w)) ≡ 0
           none o w l =
               let j = 56 - fillerTo at in
@@ -136,6 +129,7 @@ module _ (m : List ℕ) (start : ℕ) where
   abbrev toneOf : Front → List Pattern → Tone
   toneOf f ps = record { song = f .song; unicode = f .unicode; title = f .title; patterns = ps }
 
+  -- it can be taken apart so
   whole-read : (t : ToneFrom m start) → Whole m start (t .end)
   unfolding wholeTone rest
   whole-read t =
@@ -229,40 +223,26 @@ module _ (m : List ℕ) (start : ℕ) where
       pub song-within : length m < 2 ^ 60 → Within m q
       song-within l = record { inside = past .inside; counted = l }
 
-      -- the tone that was read
-      abbrev tone : Tone
-      tone = toneOf (past .front) (past .patterns)
-
       -- what is read of a tone is what is read of its end
       all-read : wholeTone (bitsOf m) (placeAfter start) ≡ onward (onward (ending (bitsOf m) q) (λ _ z. got (past .patterns) z) bad) (λ ps z. got (toneOf (past .front) ps) z) bad
       unfolding wholeTone rest
       all-read = rw (past .opens, past .reads) refl
 
-      -- so it stands between the two octets
-      pub stands : (end : ℕ) {r : Bool} → Sure r (EndAt m q end) → Sure r (StandsAt m start end)
-      stands end e = record { so = λ h. record { tone = tone; reads = all-read ∙ (rw (e .so h .reads) refl) } }
-
-      -- or has as many octets as lie ahead of its end
-      tone-ends : {e : ℕ} → e ≡ octetsRead 0 (ending (bitsOf m) q) → e - start ≡ toneAt m start
+      -- it has as many octets as lie ahead of its end and behind its start
+      pub tone-there : {e : ℕ} → e ≡ octetsRead 0 (ending (bitsOf m) q) → e - start ≡ toneAt m start
       unfolding toneAt
-      tone-ends h = ap (λ (k : ℕ). k - start) h ∙ go (ending (bitsOf m) q) ∙ sym (ap (octetsRead start) all-read)
+      tone-there h = ap (λ (k : ℕ). k - start) h ∙ go (ending (bitsOf m) q) ∙ sym (ap (octetsRead start) all-read)
         where
           go : (x : Got ℕ) → octetsRead 0 x - start ≡ octetsRead start (onward (onward x (λ _ z. got (past .patterns) z) bad) (λ ps z. got (toneOf (past .front) ps) z) bad)
           go (got v z) = omega arith
           go (bad k p z) = omega arith
 
+      -- none where that is not behind its start
       pub tone-cut : {e : ℕ} → e ≡ octetsRead 0 (ending (bitsOf m) q) → e ≤ start → 0 ≡ toneAt m start
-      tone-cut h l = omega (arith, tone-ends h)
-
-      pub tone-there : {e : ℕ} → e ≡ octetsRead 0 (ending (bitsOf m) q) → e - start ≡ toneAt m start
-      tone-there h = tone-ends h
-
-pub ruleset endings = (nothing, ends-told)
+      tone-cut h l = omega (arith, tone-there h)
 
 pub ruleset ended = (end-cut, end-other, end-there)
 
 pub ruleset songs = (song-none, opened-within, song-told)
-
-pub ruleset standing = (nothing, song-within, stands)
 
 pub ruleset tones = (tone-none, song-within, tone-cut, tone-there)

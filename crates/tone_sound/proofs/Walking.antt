@@ -38,6 +38,7 @@ unmarked : (b : Bool) → _≡_ {A = ℕ} (pick b clear 49) clear → _≡_ {A =
 unmarked true h = refl
 unmarked false h = absurd (omega arith)
 
+-- and back
 marked : (b : Bool) → _≡_ {A = ℕ} (pick b 0 1) 0 → _≡_ {A = ℕ} (pick b clear 49) clear
 marked true h = refl
 marked false h = absurd (omega arith)

@@ -98,13 +98,3 @@ pub record ToneFrom (m : List ℕ) (start : ℕ) : Type 0 where
   pub tone : Tone
   pub end : ℕ
   pub reads : wholeTone (bitsOf m) (placeAfter start) ≡ got tone end
-
--- filler and the end octet stand from a place up to the end of an octet
-pub record EndAt (m : List ℕ) (at end : ℕ) : Type 0 where
-  pub value : ℕ
-  pub reads : ending (bitsOf m) at ≡ got value (placeAfter end)
-
--- a tone stands from one octet up to another
-pub record StandsAt (m : List ℕ) (start end : ℕ) : Type 0 where
-  pub tone : Tone
-  pub reads : wholeTone (bitsOf m) (placeAfter start) ≡ got tone (placeAfter end)

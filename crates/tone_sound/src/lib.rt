@@ -10,9 +10,9 @@ ghost use Rattle.bits.specs.Bits.{bitsOf, placeAfter};
 ghost use Rattle.bits.specs.Window.{Sight};
 ghost use Rattle.tone.specs.Tone.{recallable};
 ghost use Rattle.tone.specs.Reading.{typed as typedDue, front as frontDue, ending, octetsRead, toneAt};
-ghost use Rattle.tone_elements.specs.Answers.{Within, Sure};
+ghost use Rattle.tone_elements.specs.Answers.{Within};
 ghost use Rattle.tone_sound.specs.Turning.{turn, onward, wideIn, markIn, Mark, Marks};
-ghost use Rattle.tone_sound.specs.Answers.{Tells, ToldOf, Past, Stand, Gone, CommandOn, CommandSeen, PatternsPast, PatternsStand, Starts, SongPast, ToneFrom, EndAt, StandsAt};
+ghost use Rattle.tone_sound.specs.Answers.{Tells, ToldOf, Past, Stand, Gone, CommandOn, CommandSeen, PatternsPast, PatternsStand, Starts, SongPast, ToneFrom};
 use bits::BitPlace;
 use bits::OctetCount;
 use bits::TwoSights;
@@ -399,18 +399,6 @@ fn song(whole: &[u8], start: OctetCount, marks: &[u8; 512]) -> Way
     patterns(whole, opened.at, opened.count, marks)
 }
 
-// Do filler and the end octet stand at a place, and nothing else up to the end of an octet?
-fn ends(whole: &[u8], at: BitPlace, end: OctetCount) -> bool
-    requires { ⌜ Within (now whole) (at .0) ⌝ }
-    requires { ⌜ end .0 ≤ length (now whole) ⌝ }
-    ensures { λ r. ⌜ Sure r (EndAt (now (whole .entry)) (at .0) (end .0)) ⌝ }
-{
-    if bits::octets_to(at).0 + 1 != end.0 {
-        return false;
-    }
-    bits::through_octet(whole, at) == 0
-}
-
 // Behind how many octets filler and the end octet end that stand at a place; 0 where they do not stand there.
 fn end_behind(whole: &[u8], at: BitPlace) -> OctetCount
     requires { ⌜ Within (now whole) (at .0) ⌝ }
@@ -425,19 +413,6 @@ fn end_behind(whole: &[u8], at: BitPlace) -> OctetCount
         return OctetCount(0);
     }
     OctetCount(reached.0 + 1)
-}
-
-// Does a tone stand between two octets, and nothing else? Where it is not sure of that, it says no.
-pub fn sound(whole: &[u8], start: OctetCount, end: OctetCount, marks: &[u8; 512]) -> bool
-    requires { ⌜ Marks (now marks) ⌝ }
-    requires { ⌜ (start .0 ≤ end .0) × (end .0 ≤ length (now whole)) × (length (now whole) < 2 ^ 60) ⌝ }
-    ensures { λ r. ⌜ Sure r (StandsAt (now (whole .entry)) (start .0) (end .0)) ⌝ }
-{
-    let way = song(whole, start, marks);
-    if !way.sure {
-        return false;
-    }
-    ends(whole, way.at, end)
 }
 
 // How many octets the tone has that starts behind so many, through its own end octet; none where no tone starts there.

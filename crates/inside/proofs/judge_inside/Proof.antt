@@ -7,8 +7,11 @@ use Rattle.inside.proofs.Moving.{insides}
 sub-if1 : tie.Need-sub-if1
 sub-if1 c = search needs
 
-sound-requires : tie.Need-sound-requires
-sound-requires c κs = search needs
+tone-at-requires : tie.Need-tone-at-requires
+tone-at-requires c κs = search needs
+
+sub-if2 : tie.Need-sub-if2
+sub-if2 c = search needs
 
 returns : tie.Need-returns
 returns c = search (insides, needs)
@@ -45,7 +48,8 @@ judge-inside-spec =
     tie.close
     (tie.spec
     sub-if1
-    sound-requires
+    tone-at-requires
+    sub-if2
     returns
     sub-judge
     part-judge-start
