@@ -11,7 +11,7 @@ use crate::title;
 use crate::window::{full_window, window};
 
 /// A part of one instruction of five bits. Ahead of the patterns are 34.
-const SMALLEST_TONE: usize = 8;
+pub const SMALLEST_TONE: usize = 8;
 
 /// Whether the octets from one on, and ahead of another, are a message.
 #[inline(always)]
@@ -19,9 +19,14 @@ pub fn is_sound(octets: &[u8], start: usize, end: usize) -> bool {
     if !(SMALLEST_TONE..=LARGEST_TONE).contains(&(end - start)) {
         return false;
     }
-    let Some(mut place) = title_passed(octets, start) else {
-        return false;
-    };
+    end_of_sound(octets, start, end) == Some(end)
+}
+
+/// The end of the message that starts at an octet, if one does and ends no later than
+/// it may.
+#[inline(always)]
+pub fn end_of_sound(octets: &[u8], start: usize, last_end: usize) -> Option<usize> {
+    let mut place = title_passed(octets, start)?;
     let patterns = window(octets, place) >> 56;
     place += 8;
     let mut defined = 0;
@@ -29,16 +34,17 @@ pub fn is_sound(octets: &[u8], start: usize, end: usize) -> bool {
         let next = window(octets, place);
         let Header { part, count, .. } = header(next);
         defined |= ((count > 0) as u32) << part;
-        if next >> 61 != 0 || defined >> part & 1 == 0 || place > 8 * end {
-            return false;
+        if next >> 61 != 0 || defined >> part & 1 == 0 || place > 8 * last_end {
+            return None;
         }
         let (body, classes) = body_passed(octets, place + 17, count);
         if classes & NO_INSTRUCTION != 0 {
-            return false;
+            return None;
         }
         place = body;
     }
-    patterns > 0 && is_end(octets, place, end)
+    let end = end_passed(octets, place)?;
+    (patterns > 0 && end <= last_end).then_some(end)
 }
 
 /// The place behind the title, if all up to there is as it should be.
@@ -106,9 +112,11 @@ fn passed(turned: &mut u64, count: usize, classes: &mut u8) -> u64 {
     used
 }
 
-/// Whether filler and an end octet are here, and the message ends behind them.
+/// The octet behind filler and end octet, if both are here. What is read behind the last
+/// octet looks like them: see that the end is not behind it.
 #[inline(always)]
-fn is_end(octets: &[u8], place: usize, end: usize) -> bool {
+fn end_passed(octets: &[u8], place: usize) -> Option<usize> {
     let filler = place.wrapping_neg() % 8;
-    window(octets, place) >> (56 - filler) == 0 && place + filler + 8 == 8 * end
+    let end = (place + filler) / 8 + 1;
+    (window(octets, place) >> (56 - filler) == 0).then_some(end)
 }
