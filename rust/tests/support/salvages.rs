@@ -1,0 +1,165 @@
+//! Broken packs: cut, spoilt, spliced, with a message inside another, or of noise.
+
+use super::packs::{self, Made, LARGEST_PACK};
+use super::rng::Rng;
+use super::tones::{self, Bounds};
+
+/// The smallest message that there is: a part of one scale, in eight octets.
+pub fn smallest() -> Vec<u8> {
+    tones::written(2, false, &[], &[1, 131_072])
+}
+
+/// Octets out of which messages are to be gotten. Few are about as long as counts.
+pub fn broken(rng: &mut Rng) -> Vec<u8> {
+    match rng.below(300) {
+        0 => at_bound(rng),
+        1 => nearly_too_many(rng),
+        2 => too_long(rng),
+        3..=30 => packs::pack(rng),
+        _ => small(rng),
+    }
+}
+
+/// The same, but none of them long.
+pub fn small(rng: &mut Rng) -> Vec<u8> {
+    match rng.below(6) {
+        0 => cut(rng),
+        1 => spoilt(rng),
+        2 => spliced(rng),
+        3 => with_message_inside(rng),
+        4 => among_noise(rng),
+        _ => noise(rng),
+    }
+}
+
+fn message(rng: &mut Rng) -> Vec<u8> {
+    let bounds = Bounds::small(rng);
+    tones::tone(rng, bounds).message
+}
+
+fn messages(rng: &mut Rng) -> Vec<Vec<u8>> {
+    (0..rng.below(5)).map(|_| message(rng)).collect()
+}
+
+fn whole(rng: &mut Rng) -> Vec<u8> {
+    Made::of(&messages(rng)).pack()
+}
+
+/// A pack that stops anywhere, often in its rows or its last four octets.
+fn cut(rng: &mut Rng) -> Vec<u8> {
+    let mut pack = whole(rng);
+    let length = pack.len();
+    let left = match rng.below(2) {
+        0 => rng.below(length),
+        _ => length - 1 - rng.below(length.min(12)),
+    };
+    pack.truncate(left);
+    pack
+}
+
+/// A pack with a few octets changed, more or less.
+fn spoilt(rng: &mut Rng) -> Vec<u8> {
+    let mut pack = whole(rng);
+    for _ in 0..rng.pick(&[1, 1, 2, 4]) {
+        let at = rng.below(pack.len());
+        match rng.below(6) {
+            0 | 1 => pack[at] ^= 1 << rng.below(8),
+            2 => pack[at] = rng.octet(),
+            3 => pack[at] = rng.pick(&[0, 2, 3, 0x4A]),
+            4 => pack.insert(at, rng.pick(&[0, 2, 3, 0x4A])),
+            _ if pack.len() > 1 => {
+                pack.remove(at);
+            }
+            _ => {}
+        }
+    }
+    pack
+}
+
+/// The front of one pack and the back of another.
+fn spliced(rng: &mut Rng) -> Vec<u8> {
+    let (one, two) = (whole(rng), whole(rng));
+    let (end, start) = (rng.within(0, one.len()), rng.within(0, two.len()));
+    [&one[..end], &two[start..]].concat()
+}
+
+/// A message that is broken off, or whose title has a character that is refused, and
+/// goes on as a whole one.
+fn with_message_inside(rng: &mut Rng) -> Vec<u8> {
+    let (outer, inner) = (message(rng), message(rng));
+    let at = rng.within(1, outer.len());
+    let ahead = match rng.below(3) {
+        0 => untitled(rng),
+        _ => outer[..at].to_vec(),
+    };
+    [&ahead[..], &inner, &outer[at..]].concat()
+}
+
+/// A message that would be sound if its title had no refused character.
+fn untitled(rng: &mut Rng) -> Vec<u8> {
+    let mut title = tones::characters_of_title(rng, false, 3);
+    title[rng.below(3)] = tones::refused_character(rng) as u8;
+    tones::written(1, false, &title, &[1, 131_072])
+}
+
+/// Messages with some octets ahead of each and behind.
+fn among_noise(rng: &mut Rng) -> Vec<u8> {
+    let mut octets = noise(rng);
+    for message in messages(rng) {
+        octets.extend(message);
+        octets.extend(noise(rng));
+    }
+    octets
+}
+
+/// A few octets, with many fronts among them.
+fn noise(rng: &mut Rng) -> Vec<u8> {
+    let mut octets = Vec::new();
+    for _ in 0..rng.below(6) {
+        match rng.below(4) {
+            0 => octets.extend([2, 0x4A, 0x3A]),
+            1 => octets.extend([3, 0x4A, 0x44, 0x3A]),
+            2 => octets.extend([2, 0x4A, 0x3A, 0x80, 0x40]),
+            _ => octets.push(rng.octet()),
+        }
+    }
+    octets
+}
+
+/// A message that ends at the last octet that counts, or an octet or two beside it, and
+/// then more octets or none.
+fn at_bound(rng: &mut Rng) -> Vec<u8> {
+    let message = message(rng);
+    let end = LARGEST_PACK - 1 + rng.below(4);
+    let mut octets = vec![0; end - message.len()];
+    octets.extend(message);
+    octets.extend(match rng.below(3) {
+        0 => vec![],
+        1 => smallest(),
+        _ => vec![0; rng.below(5000)],
+    });
+    octets
+}
+
+/// As many messages as a pack has room for, or nearly so, or one more.
+fn nearly_too_many(rng: &mut Rng) -> Vec<u8> {
+    // 12 octets each and four make 65,524, so that 11 are left.
+    let mut octets = smallest().repeat(5460 - 4 + rng.below(2));
+    for _ in 0..4 {
+        // Two to five scales more take one to three octets more.
+        let scales = rng.pick(&[1, 2, 4, 6]);
+        let table = [vec![scales], vec![131_072; scales as usize]].concat();
+        octets.extend(tones::written(2, false, &[], &table));
+    }
+    octets
+}
+
+/// A tone of 4,096 octets or one more.
+fn too_long(rng: &mut Rng) -> Vec<u8> {
+    // 82 and 83 in the last part have as many octets as 81, and 84 one more.
+    let last = rng.pick(&[81, 82, 83, 84]);
+    let mut octets = noise(rng);
+    octets.extend(super::largest::temporary(&super::largest::parts(last)));
+    octets.extend(noise(rng));
+    octets
+}

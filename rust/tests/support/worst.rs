@@ -1,0 +1,53 @@
+//! The inputs out of which it takes longest to get messages, for there is none.
+//!
+//! At each octet a reading may begin and go on for 4,096 octets. Here about one octet in
+//! seven begins one, and each of these readings is sound as far as it may go. Then it is
+//! found to be too long, and the next octet is tried.
+//!
+//! How it is built. All readings go through the same octets. One that begins has its own
+//! front, pattern count and header, and the others pass these as instructions: 02 4A 3A
+//! from its bit 5, 6 or 9 on, and all of them meet at its bit 22; 03 4A 44 3A from its
+//! bit 4, 9 or 11 on, and it is left at bit 30 or 34. So soon after it began a reading
+//! meets those before it at the same bit, where an instruction is due, and goes on as one
+//! with them, if both have as many instructions left up to the next header. The number
+//! in its own header is just so large. A header comes after up to 255 instructions, for
+//! all readings alike. A title of 16-bit characters passes over other fronts, and one of
+//! 8-bit characters does not, for it would have character 146.
+//!
+//! How dense it can be. With fronts of the first kind alone, each of a temporary song, it
+//! is one in eight octets: a search through all inputs that repeat themselves after four,
+//! five or six octets found none, and at seven the own header ends where the next front
+//! has nothing but zeros. With both kinds and titles two fronts can be five octets apart.
+//! The periods below were found by a search from front to front that kept those states
+//! of all readings with the most fronts so far, and the most instructions, up to a state
+//! that it had met. They have 34 to 36 fronts in 250 to 270 octets. It is not shown that
+//! there is no denser one.
+
+/// What repeats itself. The readings of one go on from its end to its start.
+const PERIODS: [&str; 1] = [
+    "024A3A9100A5902454B929034A443A6BCEDD6D034A443A5A98034A443A4D024A3AA1C4A190341346 \
+     024A3A4D07034A443A7A8BCA30034A443A6B3A024A3AA9C2258A25034A443A4E024A3A4A89CBD874 \
+     3CC9034A443A6A3AF1034A443AB584A18951034A443A4A024A3A426875A7377ACD034A443A950459 \
+     11AE65034A443A6B5A6471034A443A5A91034A443A4E024A3A914635504550871C49034A443A66BD \
+     034A443A5A706E38034A443A4A024A3A41A45517769449034A443A6EF9034A443A629D034A443A54 \
+     E9034A443A49024A3A42843AD0C978034A443A66888E85034A443A56A8034A443A484AED034A443A \
+     9504490B20034A443A69DD3959034A443A5A98034A443A4E",
+];
+
+/// As many octets as count.
+pub const OCTETS: usize = 65_535;
+
+/// One of these inputs. Each number has another one, as long as there are any.
+pub fn of_number(number: usize) -> Vec<u8> {
+    let mut period = octets(PERIODS[number % PERIODS.len()]);
+    // Another octet is the first one.
+    let turn = number / PERIODS.len() * 7 % period.len();
+    period.rotate_left(turn);
+    period.into_iter().cycle().take(OCTETS).collect()
+}
+
+fn octets(digits: &str) -> Vec<u8> {
+    let digits: Vec<u32> = digits.chars().filter_map(|c| c.to_digit(16)).collect();
+    let octet = |pair: &[u32]| (pair[0] * 16 + pair[1]) as u8;
+    digits.chunks(2).map(octet).collect()
+}
