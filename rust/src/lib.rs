@@ -533,11 +533,7 @@ pub fn write_pack(messages: &[u8], lengths: &[u32], out: &mut [u8]) -> Result<us
 /// assert_eq!(refused.map_err(|refusal| refusal.kind()), Err(Kind::NoRoom));
 /// # Ok::<(), ohakelm::Refusal>(())
 /// ```
-pub fn salvage_pack(
-    pack: &[u8],
-    out: &mut [u8],
-    report: &mut [u32],
-) -> Result<Salvage, Refusal> {
+pub fn salvage_pack(pack: &[u8], out: &mut [u8], report: &mut [u32]) -> Result<Salvage, Refusal> {
     let answer = numbers::pack_salvage(pack, out, report);
     accepted(answer.refusal, answer.place)?;
     Ok(Salvage {

@@ -228,6 +228,15 @@ fn wrong_codecs_are_found() {
     }
 }
 
+/// Where the wrong ways share steps, these must be right: else each would be found for
+/// what is not its own fault.
+#[test]
+fn what_the_wrong_salvages_share_is_right() {
+    let right = Wrong(Fault::SalvagesOtherwise(Missalvage::None));
+    let right: &'static dyn Codec = Box::leak(Box::new(right));
+    Comparison::new(&[&Obvious, right], 1).run(ENOUGH_FOR_ALL);
+}
+
 /// Whether an edit's entry is of an instruction's kind. A deletion has none.
 fn names_instruction(edit: Edit) -> bool {
     match edit {

@@ -193,11 +193,7 @@ fn write_into(messages: &[u8], lengths: &[u32], out: &mut [u8]) -> Result<usize,
 /// Fills what is behind the messages: a row for each, how many there are, and where
 /// the first row starts.
 #[inline(always)]
-pub fn fill_rows(
-    behind: &mut [u8],
-    lengths: impl ExactSizeIterator<Item = u32>,
-    first_row: usize,
-) {
+pub fn fill_rows(behind: &mut [u8], lengths: impl ExactSizeIterator<Item = u32>, first_row: usize) {
     let count = lengths.len();
     let (rows, last) = behind.split_at_mut(ROW * count);
     let mut start = 0;

@@ -20,9 +20,9 @@ pub use bitmap::{bitmap_read, bitmap_write};
 pub use editing::{delete, insert, replace};
 pub use kinds::{icon_read, icon_write, logo_read, logo_write};
 pub use packs::{pack_message, pack_read, pack_write};
-pub use salvage::pack_salvage;
 pub use playing::{list, rows};
 pub use reading::{label, read};
+pub use salvage::pack_salvage;
 pub use table::write;
 
 use ohakelm_answers::Written;

@@ -7,6 +7,8 @@ use super::packs::{Made, LARGEST_PACK};
 
 #[derive(Clone, Copy, Debug, PartialEq, Eq)]
 pub enum Missalvage {
+    /// The right way, by the same steps.
+    None,
     SkipsToFault,
     SkipsTwoOctets,
     StopsAtFirstFault,
@@ -310,6 +312,9 @@ fn with_title_of_ones(octets: &[u8]) -> Vec<u8> {
 }
 
 fn new_pack(pack: &[u8], found: &Found) -> Vec<u8> {
-    let messages = found.rows.iter().map(|row| pack[row[0]..][..row[1]].to_vec());
+    let messages = found
+        .rows
+        .iter()
+        .map(|row| pack[row[0]..][..row[1]].to_vec());
     Made::of(&messages.collect::<Vec<_>>()).pack()
 }

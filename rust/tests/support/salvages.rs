@@ -156,8 +156,8 @@ fn nearly_too_many(rng: &mut Rng) -> Vec<u8> {
 
 /// A tone of 4,096 octets or one more.
 fn too_long(rng: &mut Rng) -> Vec<u8> {
-    // 82 and 83 in the last part have as many octets as 81, and 84 one more.
-    let last = rng.pick(&[81, 82, 83, 84]);
+    // One instruction more than 81 in the last part takes one octet more.
+    let last = rng.pick(&[81, 82]);
     let mut octets = noise(rng);
     octets.extend(super::largest::temporary(&super::largest::parts(last)));
     octets.extend(noise(rng));

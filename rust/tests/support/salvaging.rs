@@ -100,7 +100,10 @@ impl Comparison {
         let pack = made.pack();
         let needed = self.salvage_size(&pack);
         let salvaged = self.pack_salvage(&pack, needed.octets, 3 * needed.messages + 1);
-        let own = made.rows.iter().map(|&[start, length]| [start, start, length]);
+        let own = made
+            .rows
+            .iter()
+            .map(|&[start, length]| [start, start, length]);
         let moved = salvaged.messages();
         let first = moved.len() >= made.rows.len() && own.zip(&moved).all(|(own, it)| own == *it);
         let rule = "a sound pack's messages come first";
