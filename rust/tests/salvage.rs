@@ -399,7 +399,9 @@ fn the_new_pack_comes_out_as_it_is() {
 
 // ---- The inputs that take longest.
 
-/// Readings go on for as long as they may from about one octet in seven.
+/// Of a thousand octets so many begin a reading that goes on for as long as it may.
+const IN_A_THOUSAND: usize = 122;
+
 #[test]
 fn the_worst_inputs_are_as_bad_as_is_said() {
     for number in 0..worst::PERIODS.len() {
@@ -410,14 +412,19 @@ fn the_worst_inputs_are_as_bad_as_is_said() {
             answer.refusal == 2 && answer.place > 8 * 4094
         });
         let dense = 1000 * starts.count() / (worst::OCTETS - 4096);
-        assert!(dense >= worst::IN_A_THOUSAND, "{dense} of input {number}");
+        assert!(dense >= IN_A_THOUSAND, "{dense} of input {number}");
     }
 }
 
 #[test]
 fn the_worst_inputs_have_no_message() {
     for number in 0..worst::PERIODS.len() {
-        assert_salvaged(&worst::of_number(number), &nothing(65_535));
+        let input = worst::of_number(number);
+        each_call(|call| {
+            let (mut out, mut report) = ([OLD_OCTET; 4], [OLD]);
+            let answer = call(&input, &mut out, &mut report);
+            assert_eq!(answer, nothing(65_535).answer());
+        });
     }
     assert_ne!(worst::of_number(0), worst::of_number(worst::PERIODS.len()));
 }

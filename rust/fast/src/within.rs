@@ -19,13 +19,25 @@ pub fn is_sound(octets: &[u8], start: usize, end: usize) -> bool {
     if !(SMALLEST_TONE..=LARGEST_TONE).contains(&(end - start)) {
         return false;
     }
-    end_of_sound(octets, start, end) == Some(end)
+    match patterns_passed(octets, start, end) {
+        Some(place) => is_end(octets, place) && end_behind(place) == end,
+        None => false,
+    }
 }
 
 /// The end of the message that starts at an octet, if one does and ends no later than
 /// it may.
 #[inline(always)]
 pub fn end_of_sound(octets: &[u8], start: usize, last_end: usize) -> Option<usize> {
+    let place = patterns_passed(octets, start, last_end)?;
+    let end = end_behind(place);
+    (is_end(octets, place) && end <= last_end).then_some(end)
+}
+
+/// The place behind the patterns, if all up to there is as it should be. It may be behind
+/// the last end, but no pattern begins there.
+#[inline(always)]
+fn patterns_passed(octets: &[u8], start: usize, last_end: usize) -> Option<usize> {
     let mut place = title_passed(octets, start)?;
     let patterns = window(octets, place) >> 56;
     place += 8;
@@ -43,8 +55,7 @@ pub fn end_of_sound(octets: &[u8], start: usize, last_end: usize) -> Option<usiz
         }
         place = body;
     }
-    let end = end_passed(octets, place)?;
-    (patterns > 0 && end <= last_end).then_some(end)
+    (patterns > 0).then_some(place)
 }
 
 /// The place behind the title, if all up to there is as it should be.
@@ -112,11 +123,16 @@ fn passed(turned: &mut u64, count: usize, classes: &mut u8) -> u64 {
     used
 }
 
-/// The octet behind filler and end octet, if both are here. What is read behind the last
-/// octet looks like them: see that the end is not behind it.
+/// Whether filler and an end octet are here. What is read behind the last octet looks
+/// like them.
 #[inline(always)]
-fn end_passed(octets: &[u8], place: usize) -> Option<usize> {
+fn is_end(octets: &[u8], place: usize) -> bool {
     let filler = place.wrapping_neg() % 8;
-    let end = (place + filler) / 8 + 1;
-    (window(octets, place) >> (56 - filler) == 0).then_some(end)
+    window(octets, place) >> (56 - filler) == 0
+}
+
+/// The end of a message whose patterns end at a place.
+#[inline(always)]
+fn end_behind(place: usize) -> usize {
+    place.div_ceil(8) + 1
 }
