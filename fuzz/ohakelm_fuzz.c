@@ -820,6 +820,9 @@ static size_t put_late(size_t count, size_t end)
 static size_t message_at(const uint8_t *octets, size_t count)
 {
     size_t most = count < OHAKELM_LARGEST_TONE ? count : OHAKELM_LARGEST_TONE;
+    /* None starts with 0, and many zeros may be put ahead. */
+    if (octets[0] == 0)
+        return 0;
     struct ohakelm_tone tone = judged(octets, most);
     if (tone.refusal == OHAKELM_ACCEPTED)
         return most;

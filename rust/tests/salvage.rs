@@ -228,7 +228,7 @@ fn it_goes_on_behind_a_message() {
 #[test]
 fn a_message_with_unicode_comes_out() {
     let message = written(1, true, &[0, 65], &[1, 131_072]);
-    let pack = Made::of(&[message.clone()]).pack();
+    let pack = Made::of(std::slice::from_ref(&message)).pack();
     let expected = Salvaged::new(&pack, &[[2, 0, message.len() as u32]], 3);
     assert_salvaged(&[&[3, 3], &message[..], &[3]].concat(), &expected);
 }
