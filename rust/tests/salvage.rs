@@ -406,19 +406,20 @@ const IN_A_THOUSAND: usize = 122;
 fn the_worst_inputs_are_as_bad_as_is_said() {
     for number in 0..worst::PERIODS.len() {
         let input = worst::of_number(number);
-        let starts = (0..worst::OCTETS - 4096).filter(|&start| {
+        // It repeats itself after fewer octets than these.
+        let starts = (0..1000).filter(|&start| {
             let answer = Obvious.read(&input[start..start + 4096], &mut [], &mut []);
             // It is cut short, and in its last octets.
             answer.refusal == 2 && answer.place > 8 * 4094
         });
-        let dense = 1000 * starts.count() / (worst::OCTETS - 4096);
+        let dense = starts.count();
         assert!(dense >= IN_A_THOUSAND, "{dense} of input {number}");
     }
 }
 
 #[test]
 fn the_worst_inputs_have_no_message() {
-    for number in 0..worst::PERIODS.len() {
+    for number in [0, 1] {
         let input = worst::of_number(number);
         each_call(|call| {
             let (mut out, mut report) = ([OLD_OCTET; 4], [OLD]);

@@ -94,7 +94,7 @@ fn found(octets: &[u8]) -> (Vec<Kept>, usize) {
 }
 
 /// So many octets are looked at together.
-const CHUNK: usize = 32;
+const CHUNK: usize = 64;
 
 /// Where the next message may start, by its first two octets.
 #[inline(always)]

@@ -12,10 +12,10 @@ pub fn smallest() -> Vec<u8> {
 /// Octets out of which messages are to be gotten. Few are about as long as counts.
 pub fn broken(rng: &mut Rng) -> Vec<u8> {
     match rng.below(300) {
-        0 => at_bound(rng),
-        1 => nearly_too_many(rng),
-        2 => too_long(rng),
-        3..=30 => packs::pack(rng),
+        0 | 1 => at_bound(rng),
+        2 | 3 => nearly_too_many(rng),
+        4 => too_long(rng),
+        5..=30 => packs::pack(rng),
         _ => small(rng),
     }
 }
@@ -141,17 +141,16 @@ fn at_bound(rng: &mut Rng) -> Vec<u8> {
     octets
 }
 
-/// As many messages as a pack has room for, or nearly so, or one more.
+/// Messages whose pack has as many octets as it may, or one less or more.
 fn nearly_too_many(rng: &mut Rng) -> Vec<u8> {
-    // 12 octets each and four make 65,524, so that 11 are left.
-    let mut octets = smallest().repeat(5460 - 4 + rng.below(2));
-    for _ in 0..4 {
-        // Two to five scales more take one to three octets more.
-        let scales = rng.pick(&[1, 2, 4, 6]);
-        let table = [vec![scales], vec![131_072; scales as usize]].concat();
-        octets.extend(tones::written(2, false, &[], &table));
-    }
-    octets
+    // 5,460 of them, of 12 octets each with its row, and four make 65,524. Two scales take
+    // nine octets.
+    let longer = rng.within(10, 12);
+    let two_scales = tones::written(2, false, &[], &[2, 131_072, 131_072]);
+    let mut messages = vec![smallest(); 5460 - longer];
+    messages.extend(vec![two_scales; longer]);
+    messages.rotate_left(rng.below(5460));
+    messages.concat()
 }
 
 /// A tone of 4,096 octets or one more.

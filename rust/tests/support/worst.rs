@@ -6,22 +6,21 @@
 //!
 //! How it is built. All readings go through the same octets. One that begins has its own
 //! front, pattern count and header, and the others pass these as instructions: 02 4A 3A
-//! from its bit 5, 6 or 9 on, and all of them meet at its bit 22; 03 4A 44 3A from its
-//! bit 4, 9 or 11 on, and it is left at bit 30 or 34. So soon after it began a reading
-//! meets those before it at the same bit, where an instruction is due, and goes on as one
-//! with them, if both have as many instructions left up to the next header. The number
-//! in its own header is just so large. A header comes after up to 255 instructions, for
-//! all readings alike. A title of 16-bit characters passes over other fronts, and one of
-//! 8-bit characters does not, for it would have character 146.
+//! from its bit 5, 6 or 9 on, and all of them leave it at its bit 22; 03 4A 44 3A from its
+//! bit 4, 9 or 11 on, and they leave it at bit 30 or 34. So soon after it began a reading
+//! comes to the same bit as those before it, where an instruction is due. From there on it
+//! is as one with them, if both have as many instructions left up to the next header. The
+//! number in its own header is just so large. The next header is one for all of them, and
+//! each pattern count is large enough for 4,096 octets.
 //!
-//! How dense it can be. With fronts of the first kind alone, each of a temporary song, it
-//! is one in eight octets: a search through all inputs that repeat themselves after four,
-//! five or six octets found none, and at seven the own header ends where the next front
-//! has nothing but zeros. With both kinds and titles two fronts can be five octets apart.
-//! The periods below were found by a search from front to front that kept those states
-//! of all readings with the most fronts so far, and the most instructions, up to a state
-//! that it had met. They have 34 to 36 fronts in 250 to 270 octets. It is not shown that
-//! there is no denser one.
+//! How dense it can be. By all that a reading can meet, the next front is at least so many
+//! octets behind its own: seven, where both are 02 4A 3A and the song is temporary; eight,
+//! where it is basic; five, where its own is 03 4A 44 3A and it has a title, for 16-bit
+//! characters pass over other fronts. (8-bit ones do not: one would be 146.) That is for
+//! one reading and the next; those before them must pass both too. A search that went from
+//! front to front, and kept the states of all readings with the most fronts and elements
+//! so far, up to a state that it had met, found the periods below: up to five fronts in 36
+//! octets. It did not try everything, so there may be denser ones.
 
 /// What repeats itself. The readings of one go on from its end to its start.
 pub const PERIODS: [&str; 7] = [
