@@ -399,8 +399,8 @@ fn the_new_pack_comes_out_as_it_is() {
 
 // ---- The inputs that take longest.
 
-/// Of a thousand octets so many begin a reading that goes on for as long as it may.
-const IN_A_THOUSAND: usize = 122;
+/// Of a thousand octets so many begin a reading that goes on for nearly as long as it may.
+const IN_A_THOUSAND: usize = 114;
 
 #[test]
 fn the_worst_inputs_are_as_bad_as_is_said() {
@@ -409,8 +409,7 @@ fn the_worst_inputs_are_as_bad_as_is_said() {
         // It repeats itself after fewer octets than these.
         let starts = (0..1000).filter(|&start| {
             let answer = Obvious.read(&input[start..start + 4096], &mut [], &mut []);
-            // It is cut short, and in its last octets.
-            answer.refusal == 2 && answer.place > 8 * 4094
+            answer.place > 8 * 3900
         });
         let dense = starts.count();
         assert!(dense >= IN_A_THOUSAND, "{dense} of input {number}");
@@ -419,6 +418,12 @@ fn the_worst_inputs_are_as_bad_as_is_said() {
 
 #[test]
 fn the_worst_inputs_have_no_message() {
+    for number in 0..worst::PERIODS.len() {
+        let input = worst::of_number(number);
+        let answer = safe(&input, &mut [OLD_OCTET; 4], &mut [OLD]);
+        assert_eq!(answer, nothing(65_535).answer());
+    }
+    // The obvious one takes some time.
     for number in [0, 1] {
         let input = worst::of_number(number);
         each_call(|call| {

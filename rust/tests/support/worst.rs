@@ -1,8 +1,8 @@
 //! The inputs out of which it takes longest to get messages, for there is none.
 //!
 //! At each octet a reading may begin and go on for 4,096 octets. Here about one octet in
-//! seven begins one, and each of these readings is sound as far as it may go. Then it is
-//! found to be too long, and the next octet is tried.
+//! seven begins one, and each of these readings is sound as far as it may go, or nearly
+//! so. Then it is found to be too long, and the next octet is tried.
 //!
 //! How it is built. All readings go through the same octets. One that begins has its own
 //! front, pattern count and header, and the others pass these as instructions: 02 4A 3A
@@ -23,7 +23,7 @@
 //! octets. It did not try everything, so there may be denser ones.
 
 /// What repeats itself. The readings of one go on from its end to its start.
-pub const PERIODS: [&str; 7] = [
+pub const PERIODS: [&str; 8] = [
     "024A3A48E1C7E426416E024A3ABC81034A443A6E3A3E024A3AB900A18A2358034A443A4D",
     "034A443A43E446436A024A3ABC85034A443A6C1C024A3AB907A1CB38034A443A524A0A38",
     "024A3A9100A5902454B929034A443A6BCEDD6D034A443A5A98034A443A4D024A3AA1C4A190341346 \
@@ -48,6 +48,8 @@ pub const PERIODS: [&str; 7] = [
      034A443A6CDA31034A443A9B45D08D2B034A443A4E2691024A3A41B006EA8B16200E",
     "024A3A412842557A024A3A413026452F72024A3AAC85034A443A61A31CE8034A443A52C868034A44 \
      3A930240460332034A443A6E402145CCE8034A443A5888034A443A4E5E6E",
+    // Few instructions to a pattern, so that a reading has many headers.
+    "024A3ABB84622562716E3729034A443A6D2E91024A3ABB82E1EEB53312E9034A443A4A",
 ];
 
 /// As many octets as count.
