@@ -3,6 +3,7 @@
 use super::packs::{self, Made, LARGEST_PACK};
 use super::rng::Rng;
 use super::tones::{self, Bounds};
+use super::worst;
 
 /// The smallest message that there is: a part of one scale, in eight octets.
 pub fn smallest() -> Vec<u8> {
@@ -22,12 +23,13 @@ pub fn broken(rng: &mut Rng) -> Vec<u8> {
 
 /// The same, but none of them long.
 pub fn small(rng: &mut Rng) -> Vec<u8> {
-    match rng.below(6) {
+    match rng.below(7) {
         0 => cut(rng),
         1 => spoilt(rng),
         2 => spliced(rng),
         3 => with_message_inside(rng),
         4 => among_noise(rng),
+        5 => dense(rng),
         _ => noise(rng),
     }
 }
@@ -123,6 +125,19 @@ fn noise(rng: &mut Rng) -> Vec<u8> {
             _ => octets.push(rng.octet()),
         }
     }
+    octets
+}
+
+/// Many fronts of messages that go on for long. One of them may end with what is behind.
+fn dense(rng: &mut Rng) -> Vec<u8> {
+    let (number, count) = (rng.below(100), rng.within(1, 200));
+    let mut octets = worst::first_octets(number, count);
+    if rng.one_in(2) {
+        let at = rng.below(count);
+        octets[at] = rng.pick(&[0, 1, 0x28, 0xFF]);
+    }
+    octets.extend(vec![0; rng.below(4)]);
+    octets.extend(message(rng));
     octets
 }
 

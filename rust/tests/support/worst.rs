@@ -15,12 +15,13 @@
 //!
 //! How dense it can be. By all that a reading can meet, the next front is at least so many
 //! octets behind its own: seven, where both are 02 4A 3A and the song is temporary; eight,
-//! where it is basic; five, where its own is 03 4A 44 3A and it has a title, for 16-bit
-//! characters pass over other fronts. (8-bit ones do not: one would be 146.) That is for
-//! one reading and the next; those before them must pass both too. A search that went from
-//! front to front, and kept the states of all readings with the most fronts and elements
-//! so far, up to a state that it had met, found the periods below: up to five fronts in 36
-//! octets. It did not try everything, so there may be denser ones.
+//! where it is basic; four, where it is basic and the next is 03 4A 44 3A; five, where its
+//! own is that and it has a title, for 16-bit characters pass over other fronts. (8-bit
+//! ones do not: one would be 146.) That is for one reading and the next; those before them
+//! must pass both too. A search that went from front to front, and kept the states of all
+//! readings with the most fronts and elements so far, up to a state that it had met, found
+//! the periods below: up to five fronts in 36 octets. It did not try everything, so there
+//! may be denser ones.
 
 /// What repeats itself. The readings of one go on from its end to its start.
 pub const PERIODS: [&str; 8] = [
@@ -57,11 +58,16 @@ pub const OCTETS: usize = 65_535;
 
 /// One of these inputs. Each number has another one, as long as there are any.
 pub fn of_number(number: usize) -> Vec<u8> {
+    first_octets(number, OCTETS)
+}
+
+/// So many octets of one.
+pub fn first_octets(number: usize, count: usize) -> Vec<u8> {
     let mut period = octets(PERIODS[number % PERIODS.len()]);
     // Another octet is the first one.
     let turn = number / PERIODS.len() * 7 % period.len();
     period.rotate_left(turn);
-    period.into_iter().cycle().take(OCTETS).collect()
+    period.into_iter().cycle().take(count).collect()
 }
 
 fn octets(digits: &str) -> Vec<u8> {
