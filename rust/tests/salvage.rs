@@ -216,7 +216,7 @@ fn messages_move_up() {
     assert_salvaged(&spread, &expected);
 }
 
-/// P2 is ahead of P1, and its last octets are also the front of nothing.
+/// Two messages and nothing else.
 #[test]
 fn it_goes_on_behind_a_message() {
     let both = [octets(P2), octets(P1)];
@@ -244,7 +244,7 @@ fn a_refused_character_is_skipped_octet_by_octet() {
 
 /// A title of 11 characters begins at bit 30. With two bits ahead of them it has the
 /// octets of P1 from bit 32 on, and so from octet 4. The second character is 92, which is
-/// refused. With 16 octets of front, count, part and end, 20 in all, six are behind P1.
+/// refused. The whole has 20 octets: four are ahead of P1, and six behind.
 #[test]
 fn a_message_in_a_refused_title_comes_out() {
     let title = octets("40 92 8E A0 10 00 14 71 A4 00 20");

@@ -24,7 +24,7 @@ fn broken_pack(number: u64, messages: usize, octets: usize) -> Vec<u8> {
     let mut numbers = Numbers::from(number);
     for _ in 0..(messages / 100).max(1) {
         let at = numbers.below(pack.len() as u32) as usize;
-        // It is no octet of instructions, but for some.
+        // Hardly any instructions have such an octet.
         pack[at] = 0xFF;
     }
     let mut start = 0;
