@@ -18,8 +18,10 @@
  * logo that were written must read again. A pack must be refused just where one of
  * its messages is, at that message's place, or where its rows are not those of
  * messages back to back; what was read must write again, and each message must be
- * the one that its row names. Buffers end at a page that cannot be touched, and
- * guard cells stand ahead of them, so a read or a write past the end ends the run.
+ * the one that its row names. What is gotten out of a broken pack must be what the
+ * rule gives, octet by octet, and the new pack must read. Buffers end at a page that
+ * cannot be touched, and guard cells stand ahead of them, so a read or a write past
+ * the end ends the run.
  *
  * Input. One octet names the call and whether a buffer of nothing is passed as
  * null to the library, some more are the call's numbers, and the rest is the
@@ -49,6 +51,8 @@ struct ohakelm_pack guide_pack_read(const uint8_t *, size_t);
 struct ohakelm_stretch guide_pack_message(const uint8_t *, size_t, uint32_t);
 struct ohakelm_written guide_pack_write(const uint8_t *, size_t, const uint32_t *, size_t,
                                         uint8_t *, size_t);
+struct ohakelm_salvage guide_pack_salvage(const uint8_t *, size_t, uint8_t *, size_t, uint32_t *,
+                                          size_t);
 struct ohakelm_bitmap guide_bitmap_read(const uint8_t *, size_t);
 struct ohakelm_written guide_bitmap_write(uint32_t, uint32_t, const uint8_t *, size_t, uint8_t *,
                                           size_t);
@@ -113,6 +117,12 @@ static bool same_message(struct ohakelm_stretch a, struct ohakelm_stretch b)
 {
     return a.refusal == b.refusal && a.place == b.place && a.start == b.start &&
            a.length == b.length;
+}
+
+static bool same_salvage(struct ohakelm_salvage a, struct ohakelm_salvage b)
+{
+    return a.refusal == b.refusal && a.place == b.place && a.messages == b.messages &&
+           a.octets == b.octets && a.skipped == b.skipped;
 }
 
 static bool same_bitmap(struct ohakelm_bitmap a, struct ohakelm_bitmap b)
@@ -793,6 +803,87 @@ static void fuzz_pack_write(struct input *in)
           "its messages are the same");
 }
 
+/* Room for a report on 8,192 octets: a message has eight at least. */
+#define AMPLE_REPORT (3 * 1024 + 1)
+
+/* Puts zeros ahead of the first buffer, so that it ends with this octet. */
+static size_t put_late(size_t count, size_t end)
+{
+    static uint8_t late[LARGEST];
+    memset(late, 0, end - count);
+    memcpy(late + end - count, first.before, count);
+    lend(&first, end, late, end);
+    return end;
+}
+
+/* How many octets the message has that starts with these. 0 where none does. */
+static size_t message_at(const uint8_t *octets, size_t count)
+{
+    size_t most = count < OHAKELM_LARGEST_TONE ? count : OHAKELM_LARGEST_TONE;
+    /* None starts with 0, and many zeros may be put ahead. */
+    if (octets[0] == 0)
+        return 0;
+    struct ohakelm_tone tone = judged(octets, most);
+    if (tone.refusal == OHAKELM_ACCEPTED)
+        return most;
+    return tone.refusal == OHAKELM_AFTER_END ? tone.place / 8 : 0;
+}
+
+/* What was gotten out of the first buffer is what the rule gives, octet by octet. */
+static void check_salvage(size_t count, struct ohakelm_salvage done)
+{
+    const uint32_t *row = words(third.ours);
+    size_t counted = count < OHAKELM_LARGEST_PACK ? count : OHAKELM_LARGEST_PACK;
+    size_t at = 0, start = 0, messages = 0, skipped = 0;
+    while (at < counted) {
+        size_t length = message_at(first.ours + at, counted - at);
+        if (length == 0) {
+            at++;
+            skipped++;
+            continue;
+        }
+        check(messages++ < done.messages, "each whole message is kept");
+        check(row[0] == at && row[1] == start && row[2] == length,
+              "the report says where a message was and is");
+        check(memcmp(second.ours + start, first.ours + at, length) == 0, "a message is the same");
+        row += 3;
+        at += length;
+        start += length;
+    }
+    check(messages == done.messages, "nothing else is kept");
+    check(skipped == done.skipped && *row == skipped, "each octet skipped is counted once");
+    struct ohakelm_pack pack = ohakelm_pack_read(second.ours, done.octets);
+    check(pack.refusal == 0 && pack.messages == messages, "the new pack is read");
+}
+
+static void fuzz_pack_salvage(struct input *in)
+{
+    size_t room = take(in, 1);
+    room = room < 64 ? room : OHAKELM_LARGEST_PACK;
+    size_t numbers = take_room(in, AMPLE_REPORT);
+    /* Now and then it ends about where no octet counts any more. */
+    size_t end = take(in, 1);
+    size_t count = take_pack(in);
+    if (end >= 240)
+        count = put_late(count, OHAKELM_LARGEST_PACK + end - 248);
+    lend(&second, room, NULL, 0);
+    lend(&third, 4 * numbers, NULL, 0);
+    struct ohakelm_salvage done = ohakelm_pack_salvage(given(&first), count, given(&second), room,
+                                                       words(given(&third)), numbers);
+    struct ohakelm_salvage other = guide_pack_salvage(first.theirs, count, second.theirs, room,
+                                                      words(third.theirs), numbers);
+    check(same_salvage(done, other), "both salvage alike");
+    check_lent(&first);
+    check_lent(&second);
+    check_lent(&third);
+    if (done.refusal == 0) {
+        check_salvage(count, done);
+        return;
+    }
+    check_untouched(&second);
+    check_untouched(&third);
+}
+
 static void fuzz_bitmap_read(struct input *in)
 {
     static uint8_t out[8192];
@@ -946,8 +1037,8 @@ int LLVMFuzzerTestOneInput(const uint8_t *data, size_t size)
 {
     struct input in = {data, size};
     uint32_t number = take(&in, 1);
-    null_for_nothing = number / 17 % 2 == 1;
-    switch (number % 17) {
+    null_for_nothing = number / 18 % 2 == 1;
+    switch (number % 18) {
     case 0: fuzz_read(&in); break;
     case 1: fuzz_write(&in); break;
     case 2: fuzz_label(&in); break;
@@ -964,7 +1055,8 @@ int LLVMFuzzerTestOneInput(const uint8_t *data, size_t size)
     case 13: fuzz_logo_write(&in); break;
     case 14: fuzz_pack_read(&in); break;
     case 15: fuzz_pack_message(&in); break;
-    default: fuzz_pack_write(&in); break;
+    case 16: fuzz_pack_write(&in); break;
+    default: fuzz_pack_salvage(&in); break;
     }
     return 0;
 }

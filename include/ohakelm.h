@@ -115,8 +115,8 @@ extern "C" {
  * refusal or a rule is new or another; CHANGELOG.md says what a caller must
  * change then. The third is raised where none is. A header goes with an archive
  * of the same first two numbers. */
-#define OHAKELM_VERSION_STRING "0.9.1"
-#define OHAKELM_VERSION 901 /* first * 10000 + second * 100 + third */
+#define OHAKELM_VERSION_STRING "0.10.0"
+#define OHAKELM_VERSION 1000 /* first * 10000 + second * 100 + third */
 
 /* Answers the OHAKELM_VERSION of the archive that is linked. */
 uint32_t ohakelm_version(void);
@@ -201,6 +201,7 @@ static inline const char *ohakelm_words(uint32_t refusal)
 #define OHAKELM_LARGEST_ICON 7910
 #define OHAKELM_LARGEST_LOGO 7932
 #define OHAKELM_LARGEST_PACK 65535
+#define OHAKELM_LARGEST_REPORT 16381 /* numbers: 5,460 messages, and one */
 
 /* The largest list is that of a part of 255 notes with 254 recalls, all with
  * loop 14, and takes 11.7 million octets; an endless part adds two passes only.
@@ -208,8 +209,9 @@ static inline const char *ohakelm_words(uint32_t refusal)
  * then says that one has more. */
 
 /* How many octets of stack a call needs at most, those of memmove and memset not
- * counted: the edits; the calls of packs; reading, writing and listing a tone;
- * all others. */
+ * counted: getting messages out of a broken pack; the edits; the other calls of
+ * packs; reading, writing and listing a tone; all others. */
+#define OHAKELM_STACK_SALVAGE 24576
 #define OHAKELM_STACK_EDITS 6144
 #define OHAKELM_STACK_PACKS 2048
 #define OHAKELM_STACK_TONES 1024
@@ -320,6 +322,14 @@ struct ohakelm_stretch {
     size_t place;
     size_t start;  /* the message's first octet in the pack */
     size_t length; /* the message's octets */
+};
+
+struct ohakelm_salvage {
+    uint32_t refusal;
+    size_t place;
+    size_t messages; /* how many were kept */
+    size_t octets;   /* the new pack's octets */
+    size_t skipped;  /* octets in no message kept */
 };
 
 struct ohakelm_bitmap {
@@ -463,6 +473,26 @@ struct ohakelm_written ohakelm_pack_write(const uint8_t *msgs, size_t msgs_len,
                                           const uint32_t *lengths,
                                           size_t lengths_len, uint8_t *out,
                                           size_t out_len);
+
+/* Gets the messages out of a broken pack. From octet 0: where a whole message
+ * starts, with its end octet, and is well formed, it is kept, and it goes on
+ * behind it; else one octet is skipped. Only the first 65,535 octets count, and
+ * a message that runs past them is not whole. Fills the front of `out` with a
+ * new pack of the messages kept, and the front of `report` with three numbers
+ * for each of them: its start in `pack`, its start in the new pack, and its
+ * length. The number behind these is the octets skipped. Answers how many
+ * messages were kept, the new pack's octets and the octets skipped. Refuses 1
+ * where the new pack has more than 65,535 octets, and then 11 if `out` or
+ * `report` is too small, both at place 0. `report_len` counts numbers and not
+ * messages.
+ * Nothing but the messages is looked at, so any octets will do. Those of a
+ * pack's own rows count as skipped, but for some that happen to be a message.
+ * It is proved that the messages of a sound pack, if it is not refused, are the
+ * first ones kept. */
+struct ohakelm_salvage ohakelm_pack_salvage(const uint8_t *pack,
+                                            size_t pack_len, uint8_t *out,
+                                            size_t out_len, uint32_t *report,
+                                            size_t report_len);
 
 /* ---- Bitmaps, icons and logos */
 

@@ -36,8 +36,8 @@ mod version;
 
 pub use refusal::{Kind, Refusal};
 pub use room::{
-    LARGEST_BITMAP, LARGEST_ICON, LARGEST_LIST, LARGEST_LOGO, LARGEST_PACK, LARGEST_ROWS,
-    LARGEST_TABLE, LARGEST_TITLE, LARGEST_TONE,
+    LARGEST_BITMAP, LARGEST_ICON, LARGEST_LIST, LARGEST_LOGO, LARGEST_PACK, LARGEST_REPORT,
+    LARGEST_ROWS, LARGEST_TABLE, LARGEST_TITLE, LARGEST_TONE,
 };
 pub use version::{version, VERSION};
 
@@ -77,6 +77,17 @@ pub struct Edited {
     pub mark: Option<u32>,
     /// The new length minus the old one.
     pub change: i32,
+}
+
+/// What getting the messages out of a broken pack tells of them.
+#[derive(Clone, Copy, Debug, PartialEq, Eq)]
+pub struct Salvage {
+    /// Messages that were kept.
+    pub messages: usize,
+    /// The new pack's octets.
+    pub octets: usize,
+    /// Octets of the input's first 65,535 that are in no message kept.
+    pub skipped: usize,
 }
 
 /// A bitmap, alone or in an icon or a logo. The image is the part of the message
@@ -480,6 +491,56 @@ pub fn pack_message(pack: &[u8], n: u32) -> Result<&[u8], Refusal> {
 /// ```
 pub fn write_pack(messages: &[u8], lengths: &[u32], out: &mut [u8]) -> Result<usize, Refusal> {
     written(numbers::pack_write(messages, lengths, out))
+}
+
+/// Gets the messages out of a broken pack. Fills the front of `out` with a new pack of
+/// them, and the front of `report` with where they were.
+///
+/// From octet 0: where a whole message starts, with its end octet, and is well formed, it
+/// is kept, and it goes on behind it. Else one octet is skipped. Only the first 65,535
+/// octets count, and a message that runs past them is not whole.
+///
+/// The report has three numbers for each message: its start in `pack`, its start in the
+/// new pack, and its length. The number behind the last message's is the octets skipped.
+/// [`LARGEST_PACK`] octets and [`LARGEST_REPORT`] numbers are always enough.
+///
+/// Nothing but the messages is looked at, so any octets will do. Those of a pack's own
+/// rows count as skipped, but for some that happen to be a message: there may be more
+/// messages in the new pack than in the one that was broken. The messages of a sound pack
+/// are the first ones kept.
+///
+/// # Errors
+///
+/// Refuses 1 where the new pack has more than 65,535 octets, and then 11 where `out` or
+/// `report` is too small.
+///
+/// ```
+/// use ohakelm::{Kind, Salvage};
+/// let broken = [
+///     0x02, 0x4A, 0x3A, 0x80, 0x40, 0x00, 0x51, 0xC6, 0x90, 0x01, // its end octet is not 00
+///     0x02, 0x4A, 0x3A, 0x80, 0x40, 0x00, 0x26, 0x90, 0x00, // a tone of 9 octets
+///     0, 0, 0, 10, 0, // the rows were cut
+/// ];
+/// let (mut out, mut report) = ([0; 17], [0; 4]);
+/// let salvage = ohakelm::salvage_pack(&broken, &mut out, &mut report)?;
+/// assert_eq!(salvage, Salvage { messages: 1, octets: 17, skipped: 15 });
+/// assert_eq!(out[..9], broken[10..19]);
+/// assert_eq!(out[9..], [0, 0, 0, 9, 0, 1, 0, 9]);
+/// assert_eq!(report, [10, 0, 9, 15]);
+/// assert_eq!(ohakelm::read_pack(&out), Ok(1));
+///
+/// let refused = ohakelm::salvage_pack(&broken, &mut out, &mut report[1..]);
+/// assert_eq!(refused.map_err(|refusal| refusal.kind()), Err(Kind::NoRoom));
+/// # Ok::<(), ohakelm::Refusal>(())
+/// ```
+pub fn salvage_pack(pack: &[u8], out: &mut [u8], report: &mut [u32]) -> Result<Salvage, Refusal> {
+    let answer = numbers::pack_salvage(pack, out, report);
+    accepted(answer.refusal, answer.place)?;
+    Ok(Salvage {
+        messages: answer.messages,
+        octets: answer.octets,
+        skipped: answer.skipped,
+    })
 }
 
 /// Reads a bitmap. The image is handed back as a part of the message.

@@ -4,7 +4,8 @@
 // SAFETY, for all of them: each pointer and length is a live slice's, and the
 // borrows keep the lent ones apart from all others. `Entry` has C's layout.
 
-use ohakelm_answers::{Bitmap, Edited, Entry, Label, Listed, Logo, Pack, Stretch, Tone, Written};
+use ohakelm_answers::{Bitmap, Edited, Entry, Label, Listed, Logo};
+use ohakelm_answers::{Pack, Salvage, Stretch, Tone, Written};
 
 use crate::raw;
 
@@ -169,6 +170,20 @@ pub fn pack_write(messages: &[u8], lengths: &[u32], out: &mut [u8]) -> Written {
             lengths.len(),
             out.as_mut_ptr(),
             out.len(),
+        )
+    }
+}
+
+#[inline(always)]
+pub fn pack_salvage(pack: &[u8], out: &mut [u8], report: &mut [u32]) -> Salvage {
+    unsafe {
+        raw::ohakelm_pack_salvage(
+            pack.as_ptr(),
+            pack.len(),
+            out.as_mut_ptr(),
+            out.len(),
+            report.as_mut_ptr(),
+            report.len(),
         )
     }
 }

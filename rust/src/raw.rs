@@ -4,7 +4,7 @@
 //! must overlap no other argument. `include/ohakelm.h` says what each call does.
 
 pub use ohakelm_answers::{
-    Bitmap, Edited, Entry, Label, Listed, Logo, Pack, Stretch, Tone, Written, NO_MARK,
+    Bitmap, Edited, Entry, Label, Listed, Logo, Pack, Salvage, Stretch, Tone, Written, NO_MARK,
 };
 
 extern "C" {
@@ -93,6 +93,15 @@ extern "C" {
         out: *mut u8,
         out_len: usize,
     ) -> Written;
+
+    pub fn ohakelm_pack_salvage(
+        pack: *const u8,
+        pack_len: usize,
+        out: *mut u8,
+        out_len: usize,
+        report: *mut u32,
+        report_len: usize,
+    ) -> Salvage;
 
     pub fn ohakelm_bitmap_read(msg: *const u8, msg_len: usize) -> Bitmap;
 

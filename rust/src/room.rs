@@ -31,3 +31,7 @@ pub const LARGEST_LOGO: usize = 7932;
 
 /// Octets of a pack.
 pub const LARGEST_PACK: usize = 65_535;
+
+/// Numbers of the report on a broken pack: three for each of 5,460 messages, and one. A
+/// message has eight octets at least, so with their rows no more of them fit in a pack.
+pub const LARGEST_REPORT: usize = 16_381;

@@ -53,12 +53,13 @@ fn null_is_as_good_as_any_address_of_nothing() {
         assert!(!tally.nulls.contains_key(&(name, buffers)), "{name}");
     }
     // An image has at least one octet, and so has what is written of it. A pack has four
-    // octets at least, and may be written from nothing.
+    // octets at least, and may be written from nothing and gotten out of nothing.
     let can = [
         "delete",
         "insert",
         "label",
         "list",
+        "pack_salvage",
         "pack_write",
         "read",
         "replace",

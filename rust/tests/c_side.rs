@@ -53,7 +53,7 @@ fn the_header_and_the_archive_are_as_the_rules_say() {
 }
 
 /// Changes of the header that the sources must find, with the one that does.
-const WRONG_HEADERS: [(&str, &str, &str); 19] = [
+const WRONG_HEADERS: [(&str, &str, &str); 21] = [
     ("(id) * 4096u", "(id) * 2048u", "entries.c"),
     ("(note) * 32u", "note * 32u", "entries.c"),
     (
@@ -90,7 +90,17 @@ const WRONG_HEADERS: [(&str, &str, &str); 19] = [
         "OHAKELM_LARGEST_PACK 65536",
         "constants.c",
     ),
+    (
+        "OHAKELM_LARGEST_REPORT 16381",
+        "OHAKELM_LARGEST_REPORT 16380",
+        "constants.c",
+    ),
     ("bool unicode;  ", "size_t unicode;  ", "calls.c"),
+    (
+        "size_t octets;   /* the new pack's octets */\n    size_t skipped;",
+        "size_t skipped;\n    size_t octets;",
+        "calls.c",
+    ),
     (
         "size_t start;  /* the message's first octet in the pack */\n    size_t length;",
         "size_t length;\n    size_t start;",
@@ -253,7 +263,7 @@ fn header_version() -> String {
 #[test]
 fn the_archives_have_the_calls_and_need_two_functions() {
     let calls = calls_of_header();
-    assert_eq!(calls.len(), 18, "{calls:?}");
+    assert_eq!(calls.len(), 19, "{calls:?}");
     let needed = BTreeSet::from(["memmove".to_string(), "memset".to_string()]);
     for archive in archives() {
         let Some(symbols) = symbols_of(&archive) else {

@@ -12,12 +12,14 @@ use std::panic::{catch_unwind, AssertUnwindSafe};
 use std::time::Instant;
 
 use ohakelm::LARGEST_TABLE;
-use ohakelm_answers::{Bitmap, Edited, Entry, Label, Listed, Logo, Pack, Stretch, Tone, Written};
+use ohakelm_answers::{Bitmap, Edited, Entry, Label, Listed, Logo};
+use ohakelm_answers::{Pack, Salvage, Stretch, Tone, Written};
 use ohakelm_answers::{ENTRY_CELLS, NO_MARK};
 use support::codecs::{Codec, Edit, LogoParts, Obvious, Spot, ALL};
 use support::compare::Comparison;
 use support::heard::{list_of, restarts, Event, EVENTS};
 use support::mispacks::{Mispack, MISPACKS};
+use support::missalvages::{Missalvage, MISSALVAGES};
 use support::origins::{apart, Patterns};
 use support::rng::{cases_set, seed_from_clock, seed_set};
 use support::tones::LARGEST_TONE;
@@ -64,7 +66,7 @@ fn each_refusal_came_up(comparison: &Comparison) {
     let message: Vec<u32> = (0..=11).collect();
     let with = |more: &[u32]| [&message[..], more].concat();
     let in_pack = |more: &[u32]| [&message[..11], more].concat();
-    let expected: [(&str, Vec<u32>); 17] = [
+    let expected: [(&str, Vec<u32>); 18] = [
         ("read", with(&[21])),
         ("list", with(&[21])),
         ("rows", with(&[21])),
@@ -76,6 +78,7 @@ fn each_refusal_came_up(comparison: &Comparison) {
         ("pack_read", in_pack(&[21, 26, 27])),
         ("pack_message", in_pack(&[12, 21, 26, 27])),
         ("pack_write", with(&[21, 27])),
+        ("pack_salvage", vec![0, 1, 11]),
         ("bitmap_read", vec![0, 2, 15, 16]),
         ("bitmap_write", vec![0, 11, 15, 16]),
         ("icon_read", vec![0, 2, 15, 16, 20]),
@@ -138,6 +141,8 @@ enum Fault {
     CountsOriginsOtherwise(Miscount),
     /// Reads, cuts or writes a pack the wrong way.
     MakesPacksOtherwise(Mispack),
+    /// Gets messages out of a broken pack the wrong way.
+    SalvagesOtherwise(Missalvage),
 }
 
 /// A wrong way to count a header or a position.
@@ -211,7 +216,9 @@ fn wrong_codecs_are_found() {
     let restarts = EVENTS.map(Fault::RestartsOtherwise);
     let miscounts = MISCOUNTS.map(Fault::CountsOriginsOtherwise);
     let mispacks = MISPACKS.map(Fault::MakesPacksOtherwise);
-    let others = restarts.into_iter().chain(miscounts).chain(mispacks);
+    let missalvages = MISSALVAGES.map(Fault::SalvagesOtherwise);
+    let others = restarts.into_iter().chain(miscounts);
+    let others = others.chain(mispacks).chain(missalvages);
     for fault in FAULTS.into_iter().chain(others) {
         let wrong: &'static dyn Codec = Box::leak(Box::new(Wrong(fault)));
         let found = catch_unwind(AssertUnwindSafe(|| {
@@ -219,6 +226,15 @@ fn wrong_codecs_are_found() {
         }));
         assert!(found.is_err(), "nobody noticed {fault:?}");
     }
+}
+
+/// Where the wrong ways share steps, these must be right: else each would be found for
+/// what is not its own fault.
+#[test]
+fn what_the_wrong_salvages_share_is_right() {
+    let right = Wrong(Fault::SalvagesOtherwise(Missalvage::None));
+    let right: &'static dyn Codec = Box::leak(Box::new(right));
+    Comparison::new(&[&Obvious, right], 1).run(ENOUGH_FOR_ALL);
 }
 
 /// Whether an edit's entry is of an instruction's kind. A deletion has none.
@@ -568,6 +584,13 @@ impl Codec for Wrong {
                 .write(messages, lengths, out, right)
                 .unwrap_or(right),
             _ => right,
+        }
+    }
+
+    fn pack_salvage(&self, pack: &[u8], out: &mut [u8], report: &mut [u32]) -> Salvage {
+        match self.0 {
+            Fault::SalvagesOtherwise(missalvage) => missalvage.salvage(pack, out, report),
+            _ => Obvious.pack_salvage(pack, out, report),
         }
     }
 

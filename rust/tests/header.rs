@@ -38,7 +38,7 @@ fn number(digits: &str) -> usize {
 }
 
 /// A room's name in the header and in the proof, and its number in the package.
-const ROOMS: [(&str, &str, usize); 9] = [
+const ROOMS: [(&str, &str, usize); 10] = [
     ("TITLE", "titleRoom", ohakelm::LARGEST_TITLE),
     ("TABLE", "tableRoom", ohakelm::LARGEST_TABLE),
     ("TONE", "toneRoom", ohakelm::LARGEST_TONE),
@@ -48,6 +48,7 @@ const ROOMS: [(&str, &str, usize); 9] = [
     ("ICON", "iconRoom", ohakelm::LARGEST_ICON),
     ("LOGO", "logoRoom", ohakelm::LARGEST_LOGO),
     ("PACK", "packRoom", ohakelm::LARGEST_PACK),
+    ("REPORT", "reportRoom", ohakelm::LARGEST_REPORT),
 ];
 
 #[test]

@@ -9,7 +9,8 @@ mod support;
 use std::any::type_name_of_val;
 use std::mem::{offset_of, size_of, size_of_val};
 
-use ohakelm_answers::{Bitmap, Edited, Entry, Label, Listed, Logo, Pack, Stretch, Tone, Written};
+use ohakelm_answers::{Bitmap, Edited, Entry, Label, Listed, Logo};
+use ohakelm_answers::{Pack, Salvage, Stretch, Tone, Written};
 use support::{c, text};
 
 #[derive(Debug, PartialEq, Eq)]
@@ -28,7 +29,7 @@ struct Layout {
 }
 
 /// The names of one struct in the package, in the header and in the library.
-const NAMES: [(&str, &str, &str); 10] = [
+const NAMES: [(&str, &str, &str); 11] = [
     ("Tone", "ohakelm_tone", "ToneAnswer"),
     ("Written", "ohakelm_written", "WrittenAnswer"),
     ("Label", "ohakelm_label_stretch", "LabelAnswer"),
@@ -36,6 +37,7 @@ const NAMES: [(&str, &str, &str); 10] = [
     ("Edited", "ohakelm_edited", "EditAnswer"),
     ("Pack", "ohakelm_pack", "PackAnswer"),
     ("Stretch", "ohakelm_stretch", "StretchAnswer"),
+    ("Salvage", "ohakelm_salvage", "SalvageAnswer"),
     ("Bitmap", "ohakelm_bitmap", "BitmapAnswer"),
     ("Logo", "ohakelm_logo", "LogoAnswer"),
     ("Entry", "ohakelm_entry", "Entry"),
@@ -61,7 +63,7 @@ macro_rules! layout {
     }};
 }
 
-fn package() -> [Layout; 10] {
+fn package() -> [Layout; 11] {
     [
         layout!(Tone: refusal place song unicode characters patterns entries),
         layout!(Written: refusal place octets),
@@ -70,6 +72,7 @@ fn package() -> [Layout; 10] {
         layout!(Edited: refusal place length entries mark change),
         layout!(Pack: refusal place messages),
         layout!(Stretch: refusal place start length),
+        layout!(Salvage: refusal place messages octets skipped),
         layout!(Bitmap: refusal place width height black start length),
         layout!(Logo: refusal place width height black start length
             mcc_start mcc_length mnc_start mnc_length date_start date_length),

@@ -5,16 +5,17 @@ mod support;
 
 use ohakelm::{entry, Entry};
 use ohakelm::{
-    LARGEST_BITMAP, LARGEST_ICON, LARGEST_LIST, LARGEST_LOGO, LARGEST_PACK, LARGEST_ROWS,
-    LARGEST_TABLE, LARGEST_TITLE, LARGEST_TONE,
+    LARGEST_BITMAP, LARGEST_ICON, LARGEST_LIST, LARGEST_LOGO, LARGEST_PACK, LARGEST_REPORT,
+    LARGEST_ROWS, LARGEST_TABLE, LARGEST_TITLE, LARGEST_TONE,
 };
-use ohakelm_answers::{Edited, Listed, Tone, Written, ENTRY_CELLS, NO_MARK};
+use ohakelm_answers::{Edited, Listed, Salvage, Tone, Written, ENTRY_CELLS, NO_MARK};
 use support::codecs::{each, Edit, LogoParts, Spot};
 use support::largest::{
     behind, fullest, longest, origin_in_longest, parts, temporary, IMAGE, NOTE_C,
 };
 use support::origins::apart;
 use support::packs::{of_octets, Made};
+use support::salvages::smallest;
 use support::tones::written;
 
 /// What lies in a lent cell before a call, and in a lent octet.
@@ -285,4 +286,47 @@ fn the_largest_pack_is_written() {
             codec.pack_write(&made.octets, &lengths, out)
         });
     });
+}
+
+/// 15 messages of 4,096 octets and one of 4,027, with no rows behind them.
+#[test]
+fn the_largest_pack_is_salvaged() {
+    let made = Made::of(&of_octets(LARGEST_PACK));
+    each(|codec| {
+        let mut report = [OLD; 3 * 16 + 1];
+        let mut out = vec![OLD_OCTET; LARGEST_PACK];
+        let answer = codec.pack_salvage(&made.octets, &mut out[1..], &mut report);
+        assert_eq!(answer, refused_salvage());
+        assert!(out.iter().all(|&octet| octet == OLD_OCTET) && is_old(&report));
+        let answer = codec.pack_salvage(&made.octets, &mut out, &mut report);
+        assert_eq!((answer.refusal, answer.messages), (0, 16));
+        assert!(out == made.pack());
+    });
+}
+
+/// Messages of eight octets, as many as fit in a pack with their rows.
+#[test]
+fn the_largest_report_is_made() {
+    let most = (LARGEST_PACK - 4) / (8 + 4);
+    assert_eq!(LARGEST_REPORT, 3 * most + 1);
+    let input = smallest().repeat(most);
+    let moved = (0..most as u32).flat_map(|n| [8 * n, 8 * n, 8]);
+    let expected: Vec<u32> = moved.chain([0]).collect();
+    each(|codec| {
+        let mut report = vec![OLD; LARGEST_REPORT];
+        let mut out = vec![OLD_OCTET; LARGEST_PACK];
+        let answer = codec.pack_salvage(&input, &mut out, &mut report[1..]);
+        assert_eq!(answer, refused_salvage());
+        assert!(out.iter().all(|&octet| octet == OLD_OCTET) && is_old(&report));
+        let answer = codec.pack_salvage(&input, &mut out, &mut report);
+        assert_eq!((answer.refusal, answer.messages), (0, most));
+        assert!(report == expected);
+    });
+}
+
+fn refused_salvage() -> Salvage {
+    Salvage {
+        refusal: 11,
+        ..Salvage::default()
+    }
 }

@@ -1,6 +1,6 @@
 //! The safe functions of the package, as a caller uses them.
 
-use ohakelm::{Edit, Edited, Entry, Kind, Playing, Refusal, Tone, ENTRY_CELLS};
+use ohakelm::{Edit, Edited, Entry, Kind, Playing, Refusal, Salvage, Tone, ENTRY_CELLS};
 
 const P1: [u8; 10] = [0x02, 0x4A, 0x3A, 0x80, 0x40, 0x00, 0x51, 0xC6, 0x90, 0x00];
 
@@ -282,6 +282,34 @@ fn a_refusal_in_a_pack_has_its_place_there() {
     };
     assert_eq!(refused, Err(refusal));
     assert_eq!(refusal.kind(), Kind::PackRows);
+}
+
+/// The report leads to the same octets in the broken pack and in the new one.
+#[test]
+fn messages_are_gotten_out_of_a_broken_pack() {
+    // P1 behind two octets of another, and what is left of the rows.
+    let broken = [&P1[..2], &P1, &[0, 0, 0, 10, 0]].concat();
+    let (mut out, mut report) = ([7; 20], [7; 5]);
+    let salvage = ohakelm::salvage_pack(&broken, &mut out, &mut report);
+    let expected = Salvage {
+        messages: 1,
+        octets: 18,
+        skipped: 7,
+    };
+    assert_eq!(salvage, Ok(expected));
+    assert_eq!(report, [2, 0, 10, 7, 7]);
+    assert_eq!((&out[..10], &out[18..]), (&P1[..], &[7, 7][..]));
+    assert_eq!(ohakelm::pack_message(&out[..18], 0), Ok(&broken[2..12]));
+    for (octets, numbers) in [(17, 4), (18, 3)] {
+        let (mut out, mut report) = ([7; 20], [7; 5]);
+        let refused = ohakelm::salvage_pack(&broken, &mut out[..octets], &mut report[..numbers]);
+        let refusal = Refusal {
+            number: 11,
+            place: 0,
+        };
+        assert_eq!(refused, Err(refusal));
+        assert_eq!((out, report), ([7; 20], [7; 5]));
+    }
 }
 
 /// Whether a part is just this stretch of the message, and no copy of it.

@@ -12,7 +12,8 @@ use std::path::{Path, PathBuf};
 use std::process::Command;
 
 use ohakelm::{entry, Entry};
-use ohakelm::{LARGEST_LIST, LARGEST_LOGO, LARGEST_PACK, LARGEST_ROWS, LARGEST_TABLE};
+use ohakelm::{LARGEST_LIST, LARGEST_LOGO, LARGEST_PACK, LARGEST_REPORT, LARGEST_ROWS};
+use ohakelm::{LARGEST_TABLE, LARGEST_TONE};
 use support::c::{own_archive, printed};
 use support::codecs::{Codec, Edit, LogoParts, Obvious, Spot};
 use support::compare::Comparison;
@@ -20,8 +21,9 @@ use support::document::blocks;
 use support::largest::{behind, fullest, longest, temporary, IMAGE, NOTE_C};
 use support::measured::Measured;
 use support::packs::{of_octets, Made};
+use support::salvages::smallest;
 use support::tones::written;
-use support::{root, text};
+use support::{root, text, worst};
 
 const RANDOM_CASES: usize = 20_000;
 
@@ -38,7 +40,7 @@ fn no_call_takes_more_stack_than_is_said() {
     }
     Comparison::new(&[&Obvious, measured], 1).run(RANDOM_CASES);
     let (added, most) = (added_up(&own_folder()), measured.most());
-    assert_eq!((most.len(), added.len()), (18, 18));
+    assert_eq!((most.len(), added.len()), (19, 19));
     println!("| call | measured | added up | the header says |\n|---|--:|--:|--:|");
     for (call, measured) in most {
         let said = said_by_header(call);
@@ -62,7 +64,7 @@ fn what_is_added_up_is_what_the_document_says() {
         ("target/aarch64", "Arm, added up"),
     ] {
         let added = added_up(&root(folder));
-        assert_eq!(added.len(), 18, "{folder}");
+        assert_eq!(added.len(), 19, "{folder}");
         for (call, octets) in added {
             assert_eq!(said_by_document(&call, column), Some(octets), "{call}");
         }
@@ -78,6 +80,7 @@ fn put_all(codec: &Measured) {
     put_lists(codec);
     put_edits(codec);
     put_packs(codec);
+    put_broken_packs(codec);
     put_bitmaps(codec);
 }
 
@@ -156,6 +159,25 @@ fn put_packs(codec: &Measured) {
     }
 }
 
+/// As many messages as a new pack has at most, the largest ones, one too many, one of the
+/// inputs that take longest, and nothing.
+fn put_broken_packs(codec: &Measured) {
+    let (mut out, mut report) = (vec![0; LARGEST_PACK], vec![0; LARGEST_REPORT]);
+    let most = smallest().repeat(5460);
+    let largest = of_octets(LARGEST_PACK).concat();
+    let worst = worst::of_number(0)[..2 * LARGEST_TONE].to_vec();
+    for (input, messages) in [(most, 5460), (largest, 16), (worst, 0), (vec![], 0)] {
+        let answer = codec.pack_salvage(&input, &mut out, &mut report);
+        assert_eq!((answer.refusal, answer.messages), (0, messages));
+    }
+    let more = smallest().repeat(8191);
+    assert_eq!(codec.pack_salvage(&more, &mut out, &mut report).refusal, 1);
+    assert_eq!(
+        codec.pack_salvage(&more[..800], &mut out, &mut []).refusal,
+        11
+    );
+}
+
 fn put_bitmaps(codec: &Measured) {
     let mut out = vec![0; LARGEST_LOGO];
     for (width, height) in [(248, 255), (8, 1)] {
@@ -186,6 +208,7 @@ fn said_by_header(call: &str) -> usize {
         "replace" | "insert" | "delete" => "EDITS",
         "read" | "write" | "list" | "rows" => "TONES",
         "pack_read" | "pack_message" | "pack_write" => "PACKS",
+        "pack_salvage" => "SALVAGE",
         _ => "OTHERS",
     };
     let header = text("include/ohakelm.h");

@@ -6,7 +6,8 @@
 
 use std::slice::{from_raw_parts, from_raw_parts_mut};
 
-use ohakelm_answers::{Bitmap, Edited, Entry, Label, Listed, Logo, Pack, Stretch, Tone, Written};
+use ohakelm_answers::{Bitmap, Edited, Entry, Label, Listed, Logo};
+use ohakelm_answers::{Pack, Salvage, Stretch, Tone, Written};
 use ohakelm_reference as reference;
 
 /// # Safety
@@ -196,6 +197,24 @@ pub unsafe extern "C" fn guide_pack_write(
         from_raw_parts(msgs, msgs_len),
         from_raw_parts(lengths, lengths_len),
         from_raw_parts_mut(out, out_len),
+    )
+}
+
+/// # Safety
+/// As `guide_read`.
+#[no_mangle]
+pub unsafe extern "C" fn guide_pack_salvage(
+    pack: *const u8,
+    pack_len: usize,
+    out: *mut u8,
+    out_len: usize,
+    report: *mut u32,
+    report_len: usize,
+) -> Salvage {
+    reference::pack_salvage(
+        from_raw_parts(pack, pack_len),
+        from_raw_parts_mut(out, out_len),
+        from_raw_parts_mut(report, report_len),
     )
 }
 

@@ -94,6 +94,20 @@ pub struct Stretch {
     pub length: usize,
 }
 
+/// What getting the messages out of a broken pack answers.
+#[repr(C)]
+#[derive(Clone, Copy, Debug, Default, PartialEq, Eq)]
+pub struct Salvage {
+    pub refusal: u32,
+    pub place: usize,
+    /// How many messages were kept.
+    pub messages: usize,
+    /// The new pack's octets.
+    pub octets: usize,
+    /// Octets of the input that are in no message kept.
+    pub skipped: usize,
+}
+
 /// What reading a bitmap or an icon answers. The image is a stretch of the
 /// message.
 #[repr(C)]
@@ -172,6 +186,9 @@ mod tests {
         assert_eq!(offset_of!(Pack, messages), 16);
         assert_eq!(size_of::<Stretch>(), 32);
         assert_eq!(offset_of!(Stretch, length), 24);
+        assert_eq!(size_of::<Salvage>(), 40);
+        assert_eq!(offset_of!(Salvage, messages), 16);
+        assert_eq!(offset_of!(Salvage, skipped), 32);
         assert_eq!(size_of::<Bitmap>(), 48);
         assert_eq!(offset_of!(Bitmap, black), 24);
         assert_eq!(size_of::<Logo>(), 96);

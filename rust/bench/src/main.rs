@@ -4,11 +4,17 @@
 //! Lists and buffers are cleared ahead of each run, outside the time taken.
 //! Answers and buffers are compared after each run.
 
+mod broken;
 mod clock;
 mod measure;
 mod tones;
+// The tests have them too.
+#[path = "../../tests/support/worst.rs"]
+mod worst;
 
-use measure::{compare, once_each, repeated, Batch, Row};
+use std::cell::Cell;
+
+use measure::{compare, once_each, repeated, Batch, Row, RUNS};
 use ohakelm::numbers as proved;
 use ohakelm_answers::{Entry, Listed, ENTRY_CELLS};
 use tones::{Tone, BASIC};
@@ -43,6 +49,7 @@ fn main() {
     for (messages, octets) in [(10, 400), (1000, 61)] {
         rows.extend(packs(messages, octets));
     }
+    rows.extend(salvages());
     for (width, height) in [(72, 14), (248, 255)] {
         rows.extend(bitmaps(width, height));
         rows.extend(icons(width, height));
@@ -190,6 +197,7 @@ fn long_list(message: &[u8], name: &str, plain: impl Fn(&[u8], &mut [u32]) -> Li
     let batch = Batch {
         buffers: 1,
         times: 1,
+        runs: RUNS,
     };
     compare(
         name,
@@ -210,7 +218,7 @@ fn endless_part() -> [Row; 2] {
 
 /// A pack of different tones, read, its last message found, and written.
 fn packs(count: usize, octets: usize) -> [Row; 4] {
-    let (messages, lengths) = tones::of_pack(count, octets);
+    let (messages, lengths) = tones::of_pack(0, count, octets);
     let mut pack = vec![0; messages.len() + 4 * count + 4];
     let written = ohakelm_fast::pack_write(&messages, &lengths, &mut pack);
     assert_eq!((written.refusal, written.octets), (0, pack.len()));
@@ -245,6 +253,50 @@ fn packs(count: usize, octets: usize) -> [Row; 4] {
         |out| ohakelm_fast::pack_write(&messages, &lengths, out),
     );
     [read, branching, message, write]
+}
+
+/// Messages gotten out of broken packs, of noise, and of what takes longest.
+fn salvages() -> [Row; 4] {
+    // A run goes through all of them.
+    let all = |inputs: &[Vec<u8>]| Batch {
+        buffers: 1,
+        times: inputs.len(),
+        runs: RUNS,
+    };
+    let (few, many) = (broken::packs(10, 400), broken::packs(1000, 61));
+    let (noise, worst) = (broken::noise(), broken::worst());
+    // These take so long that a run has one, and there are few runs.
+    let one = Batch {
+        times: 1,
+        runs: RUNS / 8,
+        ..all(&worst)
+    };
+    [
+        salvage("10 messages", &few, all(&few)),
+        salvage("1000 messages", &many, all(&many)),
+        salvage("noise", &noise, all(&noise)),
+        salvage("the worst inputs", &worst, one),
+    ]
+}
+
+/// Each call takes the next input. Both sides make as many calls, so they go in step.
+fn salvage(what: &str, inputs: &[Vec<u8>], batch: Batch) -> Row {
+    let turns = (Cell::new(0), Cell::new(0));
+    let next = |turn: &Cell<usize>| {
+        let at = turn.replace(turn.get() + 1);
+        &inputs[at % inputs.len()][..]
+    };
+    let room = (
+        vec![0; ohakelm::LARGEST_PACK],
+        vec![0; ohakelm::LARGEST_REPORT],
+    );
+    compare(
+        &format!("pack, salvage, {what}"),
+        batch,
+        &room,
+        |(out, report)| proved::pack_salvage(next(&turns.0), out, report),
+        |(out, report)| ohakelm_fast::pack_salvage(next(&turns.1), out, report),
+    )
 }
 
 fn image(width: u32, height: u32) -> Vec<u8> {

@@ -6,13 +6,15 @@ use std::hint::black_box;
 use crate::clock::nanoseconds;
 
 /// Runs of each side. The median is that of an odd number.
-const RUNS: usize = 201;
+pub const RUNS: usize = 201;
 
-/// How many calls one run makes: each of some buffers, some times over.
+/// How many calls one run makes: each of some buffers, some times over. And how many runs
+/// there are.
 #[derive(Clone, Copy)]
 pub struct Batch {
     pub buffers: usize,
     pub times: usize,
+    pub runs: usize,
 }
 
 /// A batch for a call that may be repeated on the same buffers, by about how
@@ -21,6 +23,7 @@ pub fn repeated(octets: usize) -> Batch {
     Batch {
         buffers: 1,
         times: (8000 / octets).clamp(1, 200),
+        runs: RUNS,
     }
 }
 
@@ -29,6 +32,7 @@ pub fn once_each(octets: usize) -> Batch {
     Batch {
         buffers: (8000 / octets).clamp(1, 100),
         times: 1,
+        runs: RUNS,
     }
 }
 
@@ -52,7 +56,7 @@ where
     A: PartialEq + Debug,
 {
     let (mut rattle_times, mut plain_times) = (Vec::new(), Vec::new());
-    for run in 0..RUNS {
+    for run in 0..batch.runs {
         let (one, two);
         // Neither side always comes first.
         if run % 2 == 0 {
@@ -106,6 +110,7 @@ fn median(mut times: Vec<f64>) -> f64 {
 /// Prints the rows as a table.
 pub fn print(rows: &[Row]) {
     println!("Median of {RUNS} runs, nanoseconds of processor time a call.");
+    println!("The worst inputs have fewer runs.");
     println!();
     println!("| Case | Rattle ns | Plain Rust ns | Ratio |");
     println!("|---|--:|--:|--:|");

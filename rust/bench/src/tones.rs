@@ -63,7 +63,7 @@ fn filled(octets: usize, title: &[u8]) -> Tone {
 
 /// The same with other instructions for each number.
 fn filled_from(state: u64, octets: usize, title: &[u8]) -> Tone {
-    let mut instructions = Instructions { state };
+    let mut instructions = Instructions::from(state);
     let mut parts: Vec<Vec<u32>> = vec![Vec::new()];
     while written(false, title, &table(&parts)).len() <= octets {
         if parts[parts.len() - 1].len() == BODY {
@@ -91,7 +91,7 @@ pub fn of_recalls(setting: Option<u32>) -> Vec<u8> {
 
 /// So many notes and nothing else, or with a tempo ahead of every tenth.
 pub fn of_notes(notes: usize, with_tempos: bool) -> Vec<u8> {
-    let mut instructions = Instructions { state: 7 };
+    let mut instructions = Instructions::from(7);
     let mut all = Vec::new();
     for position in 0..notes {
         if with_tempos && position % 10 == 0 {
@@ -105,19 +105,20 @@ pub fn of_notes(notes: usize, with_tempos: bool) -> Vec<u8> {
 
 /// The tone of one full part that sounds for ever.
 pub fn of_endless_part() -> Vec<u8> {
-    let mut instructions = Instructions { state: 7 };
+    let mut instructions = Instructions::from(7);
     let mut table = vec![15 * 256 + 255];
     table.extend((0..255).map(|_| instructions.next()));
     written(false, b"Chime", &table)
 }
 
 /// The messages of a pack, back to back, and their lengths: so many, none of them
-/// longer than so many octets. No two have the same instructions.
-pub fn of_pack(messages: usize, octets: usize) -> (Vec<u8>, Vec<u32>) {
+/// longer than so many octets. No two have the same instructions, and none has those of
+/// another first number, if that is far enough.
+pub fn of_pack(first: u64, messages: usize, octets: usize) -> (Vec<u8>, Vec<u32>) {
     let titles = [&b"Ring"[..], b"", b"Chime", TITLE, b"Signal"];
     let tones = (0..messages).map(|position| {
         let title = titles[position % titles.len()];
-        filled_from(position as u64, octets, title).message
+        filled_from(first + position as u64, octets, title).message
     });
     let tones: Vec<Vec<u8>> = tones.collect();
     let lengths = tones.iter().map(|tone| tone.len() as u32).collect();
@@ -179,10 +180,16 @@ fn middle_pattern(table: &[u32]) -> (usize, usize) {
 
 /// A stream of instructions, four in five of them notes.
 struct Instructions {
-    state: u64,
+    numbers: Numbers,
 }
 
 impl Instructions {
+    fn from(state: u64) -> Instructions {
+        Instructions {
+            numbers: Numbers::from(state),
+        }
+    }
+
     fn next(&mut self) -> u32 {
         match self.below(20) {
             0 => 2 * 65536 + self.below(4),
@@ -201,8 +208,24 @@ impl Instructions {
         65536 + self.below(13) * 32 + self.below(6) * 4 + self.below(4)
     }
 
-    /// The high bits of a linear congruential generator.
     fn below(&mut self, bound: u32) -> u32 {
+        self.numbers.below(bound)
+    }
+}
+
+/// A stream of numbers.
+pub struct Numbers {
+    state: u64,
+}
+
+impl Numbers {
+    /// Another one for each number.
+    pub fn from(state: u64) -> Numbers {
+        Numbers { state }
+    }
+
+    /// The high bits of a linear congruential generator.
+    pub fn below(&mut self, bound: u32) -> u32 {
         self.state = self
             .state
             .wrapping_mul(6_364_136_223_846_793_005)

@@ -3,8 +3,9 @@
 //!
 //! A message is judged in one pass and its outputs are filled in another, so
 //! that a refusal changes nothing. Bits are read through windows of eight
-//! octets, four instructions to a window. Nothing is allocated, and all of it
-//! is safe Rust.
+//! octets, four instructions to a window. All of it is safe Rust. Nothing is
+//! allocated but the rows of a broken pack, of which it is not known ahead how
+//! many there are.
 
 #![forbid(unsafe_code)]
 
@@ -16,6 +17,7 @@ mod kinds;
 mod list;
 mod packs;
 mod read;
+mod salvage;
 mod title;
 mod window;
 mod within;
@@ -27,4 +29,5 @@ pub use kinds::{icon_read, icon_write, logo_read, logo_write};
 pub use list::{list, list_by_copying, rows};
 pub use packs::{pack_message, pack_read, pack_read_by_branches, pack_write};
 pub use read::{label, read};
+pub use salvage::pack_salvage;
 pub use write::write;

@@ -8,11 +8,11 @@ use ohakelm_answers::{Pack, Stretch, Written};
 use crate::judge::{judge_alone, refusal, Refusal};
 use crate::within::is_sound;
 
-const LARGEST_PACK: usize = 65_535;
+pub const LARGEST_PACK: usize = 65_535;
 
 /// Octets of a row, and of what is behind the rows.
-const ROW: usize = 4;
-const LAST: usize = 4;
+pub const ROW: usize = 4;
+pub const LAST: usize = 4;
 
 /// Reads a pack. Answers how many messages it has.
 pub fn pack_read(pack: &[u8]) -> Pack {
@@ -186,20 +186,21 @@ fn write_into(messages: &[u8], lengths: &[u32], out: &mut [u8]) -> Result<usize,
     };
     let (front, behind) = pack.split_at_mut(first_row);
     front.copy_from_slice(messages);
-    fill_rows(behind, lengths, first_row);
+    fill_rows(behind, lengths.iter().copied(), first_row);
     Ok(octets)
 }
 
 /// Fills what is behind the messages: a row for each, how many there are, and where
 /// the first row starts.
 #[inline(always)]
-fn fill_rows(behind: &mut [u8], lengths: &[u32], first_row: usize) {
-    let (rows, last) = behind.split_at_mut(ROW * lengths.len());
+pub fn fill_rows(behind: &mut [u8], lengths: impl ExactSizeIterator<Item = u32>, first_row: usize) {
+    let count = lengths.len();
+    let (rows, last) = behind.split_at_mut(ROW * count);
     let mut start = 0;
-    for (row, &length) in rows.chunks_exact_mut(ROW).zip(lengths) {
+    for (row, length) in rows.chunks_exact_mut(ROW).zip(lengths) {
         row.copy_from_slice(&(start << 16 | length).to_be_bytes());
         start += length;
     }
-    let numbers = (lengths.len() as u32) << 16 | first_row as u32;
+    let numbers = (count as u32) << 16 | first_row as u32;
     last.copy_from_slice(&numbers.to_be_bytes());
 }

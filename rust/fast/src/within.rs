@@ -11,7 +11,7 @@ use crate::title;
 use crate::window::{full_window, window};
 
 /// A part of one instruction of five bits. Ahead of the patterns are 34.
-const SMALLEST_TONE: usize = 8;
+pub const SMALLEST_TONE: usize = 8;
 
 /// Whether the octets from one on, and ahead of another, are a message.
 #[inline(always)]
@@ -19,9 +19,26 @@ pub fn is_sound(octets: &[u8], start: usize, end: usize) -> bool {
     if !(SMALLEST_TONE..=LARGEST_TONE).contains(&(end - start)) {
         return false;
     }
-    let Some(mut place) = title_passed(octets, start) else {
-        return false;
-    };
+    match patterns_passed(octets, start, end) {
+        Some(place) => is_end(octets, place) && end_behind(place) == end,
+        None => false,
+    }
+}
+
+/// The end of the message that starts at an octet, if one does and ends no later than
+/// it may.
+#[inline(always)]
+pub fn end_of_sound(octets: &[u8], start: usize, last_end: usize) -> Option<usize> {
+    let place = patterns_passed(octets, start, last_end)?;
+    let end = end_behind(place);
+    (is_end(octets, place) && end <= last_end).then_some(end)
+}
+
+/// The place behind the patterns, if all up to there is as it should be. It may be behind
+/// the last end, but no pattern begins there.
+#[inline(always)]
+fn patterns_passed(octets: &[u8], start: usize, last_end: usize) -> Option<usize> {
+    let mut place = title_passed(octets, start)?;
     let patterns = window(octets, place) >> 56;
     place += 8;
     let mut defined = 0;
@@ -29,16 +46,16 @@ pub fn is_sound(octets: &[u8], start: usize, end: usize) -> bool {
         let next = window(octets, place);
         let Header { part, count, .. } = header(next);
         defined |= ((count > 0) as u32) << part;
-        if next >> 61 != 0 || defined >> part & 1 == 0 || place > 8 * end {
-            return false;
+        if next >> 61 != 0 || defined >> part & 1 == 0 || place > 8 * last_end {
+            return None;
         }
         let (body, classes) = body_passed(octets, place + 17, count);
         if classes & NO_INSTRUCTION != 0 {
-            return false;
+            return None;
         }
         place = body;
     }
-    patterns > 0 && is_end(octets, place, end)
+    (patterns > 0).then_some(place)
 }
 
 /// The place behind the title, if all up to there is as it should be.
@@ -106,9 +123,16 @@ fn passed(turned: &mut u64, count: usize, classes: &mut u8) -> u64 {
     used
 }
 
-/// Whether filler and an end octet are here, and the message ends behind them.
+/// Whether filler and an end octet are here. What is read behind the last octet looks
+/// like them.
 #[inline(always)]
-fn is_end(octets: &[u8], place: usize, end: usize) -> bool {
+fn is_end(octets: &[u8], place: usize) -> bool {
     let filler = place.wrapping_neg() % 8;
-    window(octets, place) >> (56 - filler) == 0 && place + filler + 8 == 8 * end
+    window(octets, place) >> (56 - filler) == 0
+}
+
+/// The end of a message whose patterns end at a place.
+#[inline(always)]
+fn end_behind(place: usize) -> usize {
+    place.div_ceil(8) + 1
 }

@@ -1,22 +1,26 @@
-//! A message as a list of bits, most significant first.
+//! A message as bits, most significant first.
 
 use crate::{refuse_at, Refusal};
 
 /// Takes a message apart from left to right.
-pub struct BitReader {
-    bits: Vec<bool>,
+pub struct BitReader<'a> {
+    octets: &'a [u8],
     place: usize,
 }
 
-impl BitReader {
-    pub fn new(octets: &[u8]) -> BitReader {
-        let mut bits = Vec::new();
-        for octet in octets {
-            for weight in [128, 64, 32, 16, 8, 4, 2, 1] {
-                bits.push(octet & weight != 0);
-            }
-        }
-        BitReader { bits, place: 0 }
+impl<'a> BitReader<'a> {
+    pub fn new(octets: &'a [u8]) -> BitReader<'a> {
+        BitReader { octets, place: 0 }
+    }
+
+    /// How many bits the message has.
+    fn bits(&self) -> usize {
+        8 * self.octets.len()
+    }
+
+    fn bit(&self, place: usize) -> bool {
+        let weight = [128, 64, 32, 16, 8, 4, 2, 1][place % 8];
+        self.octets[place / 8] & weight != 0
     }
 
     /// The place of the next bit.
@@ -25,18 +29,18 @@ impl BitReader {
     }
 
     pub fn is_at_end(&self) -> bool {
-        self.place == self.bits.len()
+        self.place == self.bits()
     }
 
     /// The next element as a number. One that is not complete is refused.
     pub fn take(&mut self, width: usize) -> Result<u32, Refusal> {
         let end = self.place + width;
-        if end > self.bits.len() {
+        if end > self.bits() {
             return refuse_at(2, self.place);
         }
         let mut number = 0;
-        for &bit in &self.bits[self.place..end] {
-            number = number * 2 + bit as u32;
+        for place in self.place..end {
+            number = number * 2 + self.bit(place) as u32;
         }
         self.place = end;
         Ok(number)

@@ -1,7 +1,7 @@
 //! The rules once more, slow and obvious, to hold the proved library against.
 //!
 //! It was written from the rules and not from the proved code, in another
-//! shape on purpose. A message becomes a list of bits, the bits become a tone,
+//! shape on purpose. A message is taken apart bit by bit, the bits become a tone,
 //! and each answer is worked out from the tone. An edit changes the tone and
 //! writes it afresh. It allocates freely and is in no hurry.
 
@@ -12,6 +12,7 @@ mod kinds;
 mod packs;
 mod playing;
 mod reading;
+mod salvage;
 mod table;
 mod tone;
 
@@ -21,6 +22,7 @@ pub use kinds::{icon_read, icon_write, logo_read, logo_write};
 pub use packs::{pack_message, pack_read, pack_write};
 pub use playing::{list, rows};
 pub use reading::{label, read};
+pub use salvage::pack_salvage;
 pub use table::write;
 
 use ohakelm_answers::Written;

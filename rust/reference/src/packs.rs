@@ -6,16 +6,16 @@ use crate::reading::tone_of;
 use crate::{put_first, refuse, refuse_at, written_answer, Refusal};
 
 /// A pack has at most this many octets.
-const LARGEST_PACK: usize = 65_535;
+pub const LARGEST_PACK: usize = 65_535;
 
 /// Octets of a row, and of what is behind the rows: the count and the first row's start.
 const ROW: usize = 4;
 const LAST: usize = 4;
 
 /// Where a message starts in a pack, and how many octets it has.
-struct Row {
-    start: usize,
-    length: usize,
+pub struct Row {
+    pub start: usize,
+    pub length: usize,
 }
 
 /// Reads a pack. Answers how many messages it has.
@@ -144,7 +144,8 @@ fn write_into(messages: &[u8], lengths: &[u32], out: &mut [u8]) -> Result<usize,
     Ok(pack.len())
 }
 
-fn rows_of_lengths(lengths: &[u32]) -> Vec<Row> {
+/// The rows of messages back to back.
+pub fn rows_of_lengths(lengths: &[u32]) -> Vec<Row> {
     let mut rows = Vec::new();
     let mut start = 0;
     for &length in lengths {
@@ -156,7 +157,7 @@ fn rows_of_lengths(lengths: &[u32]) -> Vec<Row> {
 }
 
 /// The messages, the rows, how many there are, and where the first one starts.
-fn packed(messages: &[u8], rows: &[Row]) -> Vec<u8> {
+pub fn packed(messages: &[u8], rows: &[Row]) -> Vec<u8> {
     let mut pack = messages.to_vec();
     for row in rows {
         put_number(&mut pack, row.start);

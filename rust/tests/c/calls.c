@@ -188,6 +188,29 @@ static void check_wrong_packs(void)
     CHECK(done.refusal == OHAKELM_END_OCTET && done.place == 152 && out[0] == 0);
 }
 
+/* The sample, spoilt in its last octet, and behind it the same without its tempo. */
+static void check_salvage(void)
+{
+    static const uint8_t broken[24] = {0x02, 0x4A, 0x3A, 0x80, 0x40, 0x00, 0x51, 0xC6,
+                                       0x90, 0x01, 0x02, 0x4A, 0x3A, 0x80, 0x40, 0x00,
+                                       0x26, 0x90, 0x00, 0,    0,    0,    10,   0};
+    static const uint8_t row[8] = {0, 0, 0, 9, 0, 1, 0, 9};
+    uint8_t out[18] = {0};
+    uint32_t report[5] = {0};
+    struct ohakelm_salvage done = ohakelm_pack_salvage(broken, 24, out, 16, report, 4);
+    CHECK(done.refusal == OHAKELM_NO_ROOM && done.place == 0 && done.messages == 0);
+    CHECK(done.octets == 0 && done.skipped == 0 && out[0] == 0 && report[0] == 0);
+    CHECK(ohakelm_pack_salvage(broken, 24, out, 17, report, 3).refusal == OHAKELM_NO_ROOM);
+    done = ohakelm_pack_salvage(broken, 24, out, 18, report, 5);
+    CHECK(done.refusal == OHAKELM_ACCEPTED && done.place == 0 && done.messages == 1);
+    CHECK(done.octets == 17 && done.skipped == 15);
+    CHECK(memcmp(out, broken + 10, 9) == 0 && memcmp(out + 9, row, 8) == 0 && out[17] == 0);
+    CHECK(report[0] == 10 && report[1] == 0 && report[2] == 9 && report[3] == 15);
+    CHECK(report[4] == 0);
+    done = ohakelm_pack_salvage(NULL, 0, out, 18, report, 5);
+    CHECK(done.refusal == OHAKELM_ACCEPTED && done.octets == 4 && out[0] == 0 && report[0] == 0);
+}
+
 static void check_bitmaps(void)
 {
     static const uint8_t icon[7] = {'0', 0x00, 0x08, 0x02, 0x01, 0xFF, 0x01};
@@ -236,6 +259,7 @@ int main(void)
     check_edits();
     check_packs();
     check_wrong_packs();
+    check_salvage();
     check_bitmaps();
     check_logos();
     CHECK(ohakelm_version() == OHAKELM_VERSION);

@@ -55,10 +55,14 @@ SAME(largest_logo, OHAKELM_LARGEST_LOGO, 1 + 3 + 2 + 16 + 1 + 4 + 248 / 8 * 255)
 
 /* 15 messages of 4,096 octets and one of 4,027, with 16 rows and four octets. */
 SAME(largest_pack, OHAKELM_LARGEST_PACK, 15 * 4096 + 4027 + 16 * 4 + 4);
+/* A message has eight octets at least, and a row four. */
+SAME(largest_report, OHAKELM_LARGEST_REPORT, 3 * ((OHAKELM_LARGEST_PACK - 4) / (8 + 4)) + 1);
 
 /* An edit does what listing a tone does and more, and a bitmap has no list. */
 SAME(stack_of_edits, OHAKELM_STACK_EDITS > OHAKELM_STACK_TONES, true);
 SAME(stack_of_others, OHAKELM_STACK_TONES > OHAKELM_STACK_OTHERS, true);
+/* To get messages out of a broken pack takes a row for each that may be kept. */
+SAME(stack_of_salvage, OHAKELM_STACK_SALVAGE > OHAKELM_STACK_PACKS, true);
 
 /* In an enum, in a static's first value, in a table and as an array's size. */
 enum part { PART_A = OHAKELM_HEADER(0, 0, 2), PART_B = OHAKELM_HEADER(1, 0, 2) };

@@ -4,7 +4,8 @@
 //! several may run on one case at once. What it lends is copied for each run.
 
 use ohakelm::raw;
-use ohakelm_answers::{Bitmap, Edited, Entry, Label, Listed, Logo, Pack, Stretch, Tone, Written};
+use ohakelm_answers::{Bitmap, Edited, Entry, Label, Listed, Logo};
+use ohakelm_answers::{Pack, Salvage, Stretch, Tone, Written};
 
 use super::codecs::{Edit, Spot};
 use super::lent::Lent;
@@ -20,6 +21,7 @@ pub enum Call {
     PackRead,
     PackMessage { n: u32 },
     PackWrite,
+    PackSalvage,
     BitmapRead,
     BitmapWrite { width: u32, height: u32 },
     IconRead,
@@ -29,7 +31,7 @@ pub enum Call {
 }
 
 /// The exports and how many buffers each has.
-pub const BUFFERS: [(&str, usize); 17] = [
+pub const BUFFERS: [(&str, usize); 18] = [
     ("bitmap_read", 1),
     ("bitmap_write", 2),
     ("delete", 2),
@@ -42,6 +44,7 @@ pub const BUFFERS: [(&str, usize); 17] = [
     ("logo_write", 5),
     ("pack_message", 1),
     ("pack_read", 1),
+    ("pack_salvage", 3),
     ("pack_write", 3),
     ("read", 3),
     ("replace", 2),
@@ -61,6 +64,7 @@ impl Call {
             Call::PackRead => "pack_read",
             Call::PackMessage { .. } => "pack_message",
             Call::PackWrite => "pack_write",
+            Call::PackSalvage => "pack_salvage",
             Call::BitmapRead => "bitmap_read",
             Call::BitmapWrite { .. } => "bitmap_write",
             Call::IconRead => "icon_read",
@@ -97,6 +101,7 @@ pub enum Answer {
     Edited(Edited),
     Pack(Pack),
     Stretch(Stretch),
+    Salvage(Salvage),
     Bitmap(Bitmap),
     Logo(Logo),
 }
@@ -112,6 +117,7 @@ impl Answer {
             Answer::Edited(answer) => answer.refusal,
             Answer::Pack(answer) => answer.refusal,
             Answer::Stretch(answer) => answer.refusal,
+            Answer::Salvage(answer) => answer.refusal,
             Answer::Bitmap(answer) => answer.refusal,
             Answer::Logo(answer) => answer.refusal,
         };
@@ -218,6 +224,7 @@ impl Passed {
             Call::Read | Call::Write { .. } | Call::Label { .. } => self.put_tone(call),
             Call::List | Call::Rows => Answer::Listed(self.list(call)),
             Call::PackRead | Call::PackMessage { .. } | Call::PackWrite => self.put_pack(call),
+            Call::PackSalvage => Answer::Salvage(self.salvage()),
             _ => self.put_bitmap(call),
         }
     }
@@ -314,6 +321,12 @@ impl Passed {
             }
             _ => unreachable!("{call:?} is no call of a pack"),
         }
+    }
+
+    unsafe fn salvage(&self) -> Salvage {
+        let (pack, pack_len) = self.inputs[0];
+        let ((out, out_len), (report, report_len)) = (self.octets[0], self.words[0]);
+        raw::ohakelm_pack_salvage(pack, pack_len, out, out_len, report, report_len)
     }
 
     unsafe fn put_bitmap(&self, call: Call) -> Answer {

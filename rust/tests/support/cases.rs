@@ -9,6 +9,7 @@ use super::lent::{lent_message, lent_octets, lent_rows, lent_words, Lent};
 use super::logos;
 use super::packs::{self, Parts};
 use super::rng::Rng;
+use super::salvages;
 use super::tones;
 
 /// One case of each export.
@@ -26,6 +27,7 @@ pub fn of_each(rng: &mut Rng) -> Vec<Case> {
         read_alone(rng, Call::PackRead, packs::pack),
         pack_message(rng),
         pack_write(rng),
+        pack_salvage(rng),
         read_alone(rng, Call::BitmapRead, inputs::bitmap),
         read_alone(rng, Call::IconRead, logos::icon),
         read_alone(rng, Call::LogoRead, logos::logo),
@@ -168,7 +170,15 @@ fn pack_write(rng: &mut Rng) -> Case {
     }
 }
 
-/// A call that reads one input, now and then of nothing, and is lent nothing.
+fn pack_salvage(rng: &mut Rng) -> Case {
+    let (octets, numbers) = (rng.pick(&[0, 4, 2000]), rng.pick(&[0, 1, 1000]));
+    let mut case = read_alone(rng, Call::PackSalvage, salvages::small);
+    case.room.octets.push(lent_octets(rng, octets));
+    case.room.words.push(lent_words(rng, numbers));
+    case
+}
+
+/// A call that reads one input, now and then of nothing.
 fn read_alone(rng: &mut Rng, call: Call, make: fn(&mut Rng) -> Vec<u8>) -> Case {
     let message = match rng.below(4) {
         0 => vec![],

@@ -1,7 +1,8 @@
 //! The implementations under one roof. Each answers in the same form.
 
 use ohakelm::numbers;
-use ohakelm_answers::{Bitmap, Edited, Entry, Label, Listed, Logo, Pack, Stretch, Tone, Written};
+use ohakelm_answers::{Bitmap, Edited, Entry, Label, Listed, Logo};
+use ohakelm_answers::{Pack, Salvage, Stretch, Tone, Written};
 
 #[derive(Clone, Copy, Debug, PartialEq, Eq)]
 pub enum Edit {
@@ -47,6 +48,7 @@ pub trait Codec {
     fn pack_read(&self, pack: &[u8]) -> Pack;
     fn pack_message(&self, pack: &[u8], n: u32) -> Stretch;
     fn pack_write(&self, messages: &[u8], lengths: &[u32], out: &mut [u8]) -> Written;
+    fn pack_salvage(&self, pack: &[u8], out: &mut [u8], report: &mut [u32]) -> Salvage;
     fn bitmap_read(&self, message: &[u8]) -> Bitmap;
     fn bitmap_write(&self, width: u32, height: u32, image: &[u8], out: &mut [u8]) -> Written;
     fn icon_read(&self, message: &[u8]) -> Bitmap;
@@ -132,6 +134,10 @@ macro_rules! codec {
 
             fn pack_write(&self, messages: &[u8], lengths: &[u32], out: &mut [u8]) -> Written {
                 $implementation::pack_write(messages, lengths, out)
+            }
+
+            fn pack_salvage(&self, pack: &[u8], out: &mut [u8], report: &mut [u32]) -> Salvage {
+                $implementation::pack_salvage(pack, out, report)
             }
 
             fn bitmap_read(&self, message: &[u8]) -> Bitmap {

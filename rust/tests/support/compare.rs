@@ -240,7 +240,7 @@ impl Comparison {
     }
 
     fn random_case(&mut self) {
-        match self.rng.below(103) {
+        match self.rng.below(110) {
             0..=5 => self.read_sound_tone(),
             6..=19 => self.read_any(),
             20..=25 => self.list_any(),
@@ -259,7 +259,9 @@ impl Comparison {
             80..=82 => self.edit_at_origin(),
             83..=85 => self.pack_sound(),
             86..=94 => self.pack_read_any(),
-            _ => self.pack_write_any(),
+            95..=102 => self.pack_write_any(),
+            103 => self.pack_salvage_sound(),
+            _ => self.pack_salvage_any(),
         }
     }
 

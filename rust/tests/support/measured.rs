@@ -6,13 +6,14 @@ use std::collections::BTreeMap;
 use std::mem::size_of;
 
 use ohakelm::raw;
-use ohakelm_answers::{Bitmap, Edited, Entry, Label, Listed, Logo, Pack, Stretch, Tone, Written};
+use ohakelm_answers::{Bitmap, Edited, Entry, Label, Listed, Logo};
+use ohakelm_answers::{Pack, Salvage, Stretch, Tone, Written};
 
 use super::codecs::{Codec, Edit, LogoParts, Spot};
 use super::compare::edit_name;
 
 /// The octets of that stack: several times what any call takes.
-const SIZE: usize = 1 << 15;
+const SIZE: usize = 1 << 17;
 
 /// Both processors want a stack to begin at a multiple of 16.
 #[repr(align(16))]
@@ -145,6 +146,12 @@ impl Codec for Measured {
         let words: [&[usize]; 3] = [&input(messages), &input(lengths), &lent(out)];
         let call = raw::ohakelm_pack_write as *const ();
         self.call("pack_write", call, &words)
+    }
+
+    fn pack_salvage(&self, pack: &[u8], out: &mut [u8], report: &mut [u32]) -> Salvage {
+        let words: [&[usize]; 3] = [&input(pack), &lent(out), &lent(report)];
+        let call = raw::ohakelm_pack_salvage as *const ();
+        self.call("pack_salvage", call, &words)
     }
 
     fn bitmap_read(&self, message: &[u8]) -> Bitmap {

@@ -20,11 +20,15 @@ pub mod lists;
 pub mod logos;
 pub mod measured;
 pub mod mispacks;
+pub mod missalvages;
 pub mod origins;
 pub mod packing;
 pub mod packs;
 pub mod rng;
+pub mod salvages;
+pub mod salvaging;
 pub mod tones;
+pub mod worst;
 
 use std::fs::read_to_string;
 use std::path::{Path, PathBuf};
