@@ -11,7 +11,7 @@ use mir.Syntax.{w32, w64}
 use Rattle.inside.specs.Inside.{sum}
 use Rattle.pack.specs.Pack.{mostPack, Row, lengthsIn}
 use Rattle.salvage.specs.Salvage.{messageAt, Piece, kept, skipped, taken, pieceAt, piecesFrom, pieces, keptIn}
-use Rattle.salvage.specs.Answers.{rowOf, rowsOf, packSize, allKept, KeptAll, KeptTooMuch}
+use Rattle.salvage.specs.Answers.{Passed, rowOf, rowsOf, packSize, allKept, KeptAll, KeptTooMuch}
 use Rattle.salvage.proofs.Pieces.{message-inside, message-least, message-most, piece-skipped, piece-kept, onward, onward-next, onward-end}
 
 -- ---- rows behind rows
@@ -23,6 +23,18 @@ sum-rows (r ∷ rs) qs = omega (arith, sum-rows rs qs)
 pub map-append : {A B : Type 0} (f : A → B) (l r : List A) → map f (l ++ r) ≡ map f l ++ map f r
 map-append f [] r = refl
 map-append {B = B} f (x ∷ l) r = ap (λ (ys : List B). f x ∷ ys) (map-append f l r)
+
+-- ---- octets that are passed
+
+-- where octets are passed, nothing is kept
+none-kept : (c : List ℕ) (at to : ℕ) → Passed c at to → keptIn (onward c at) ≡ keptIn (onward c to)
+none-kept c at to p = go (to - at) at (omega (arith, p .onward)) (λ i a b. p .none i a b)
+  where
+    go : (k at : ℕ) → at + k ≡ to → ((i : ℕ) → at ≤ i → i < to → messageAt c i ≡ 0) → keptIn (onward c at) ≡ keptIn (onward c to)
+    go zero at e n = let z : at ≡ to = omega arith in ap (λ (i : ℕ). keptIn (onward c i)) z
+    go (suc k) at e n =
+        ap keptIn (onward-next c at (omega (arith, p .inside)) ∙ ap (λ (x : Piece). x ∷ onward c (at + taken x)) (piece-skipped c at (n at (omega arith) (omega arith))))
+        ∙ go k (at + 1) (omega arith) (λ i a b. n i (omega arith) b)
 
 -- ---- on the way
 
@@ -71,13 +83,13 @@ module _ (c : List ℕ) where
       pub walk-pack : Fits w64 (octets + own + 4 * n + 8)
       walk-pack = record { fits = omega (arith, w .size, q, message-most c at) }
 
-      -- the octet is skipped
-      pub walk-skips : own ≡ 0 → Walking c cells (at + 1) n octets
-      walk-skips z =
+      -- the octet is skipped, and so are those that are passed behind it
+      pub walk-skips : own ≡ 0 → {to : ℕ} → Passed c (at + 1) to → Walking c cells to n octets
+      walk-skips z {to} p =
           let e : onward c at ≡ skipped at ∷ onward c (at + 1) = onward-next c at h ∙ ap (λ (x : Piece). x ∷ onward c (at + taken x)) (piece-skipped c at (sym q ∙ z)) in
           record {
-            inside = omega arith;
-            rows = w .rows ∙ ap (λ (xs : List Piece). rowsOf (take n cells) ++ keptIn xs) e;
+            inside = p .inside;
+            rows = w .rows ∙ ap (λ (xs : List Piece). rowsOf (take n cells) ++ keptIn xs) e ∙ ap (λ (rs : List Row). rowsOf (take n cells) ++ rs) (none-kept c (at + 1) to p);
             sums = w .sums;
             least = w .least;
             size = w .size;

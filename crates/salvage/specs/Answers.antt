@@ -1,14 +1,38 @@
--- What the code keeps of the messages that it meets, and what going through an input comes to.
+-- Where the code looks for messages, what it keeps of them, and what going through an input comes to.
 use Prim.Native.Nat.{ℕ, _+_, _*_, _/_, _%_, _≤_, _<_}
 use mathlib.Core.Path.{_≡_}
 use mathlib.Core.List.{List, map}
 use lib.ListN.{length, getD, take}
+use lib.Dec.{eqb}
+use Rattle.bits.specs.Choice.{pick}
 use Rattle.bits.specs.declared.OctetCount.{OctetCount}
 use Rattle.inside.specs.Inside.{sum}
 use Rattle.pack.specs.Pack.{mostPack, Row, lengthsIn}
 use Rattle.salvage.specs.declared.Walked.{Walked}
 use Rattle.salvage.specs.declared.Walked.the-variants.{Kept, TooLong}
-use Rattle.salvage.specs.Salvage.{keptIn, pieces}
+use Rattle.salvage.specs.Salvage.{messageAt, keptIn, pieces}
+
+-- ---- where a message may start
+
+-- 1 where two octets may begin a message: 2 or 3, and then 74; else 0
+abbrev pub frontOf : ℕ → ℕ → ℕ
+frontOf x y = pick (eqb (x / 2) 1) (pick (eqb y 74) 1 0) 0
+
+-- no octet from one up to another may begin a message
+pub record NoFront (c : List ℕ) (from to : ℕ) : Type 0 where
+  pub each : (i : ℕ) → from ≤ i → i < to → frontOf (getD c i 0) (getD c (i + 1) 0) ≡ 0
+
+-- n of the octets from one up to another may begin a message: where n is 0, none may
+pub record Fronts (c : List ℕ) (from to n : ℕ) : Type 0 where
+  pub so : n ≡ 0 → NoFront c from to
+
+-- the octets from one up to another are passed, for no message starts there
+pub record Passed (c : List ℕ) (from to : ℕ) : Type 0 where
+  pub onward : from ≤ to
+  pub inside : to ≤ length c
+  pub none : (i : ℕ) → from ≤ i → i < to → messageAt c i ≡ 0
+
+-- ---- what is kept
 
 -- the row that a cell stands for: start × 65,536 + length
 abbrev pub rowOf : ℕ → Row

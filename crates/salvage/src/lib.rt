@@ -8,7 +8,7 @@ ghost use Rattle.inside.specs.Inside.{join, sum};
 ghost use Rattle.pack.specs.Pack.{rowsFrom, lengthsIn};
 ghost use Rattle.tone_sound.specs.Turning.{Marks};
 ghost use Rattle.salvage.specs.Salvage.{counting as countingOf, messageAt, stretchesIn, newPack, newReport};
-ghost use Rattle.salvage.specs.Answers.{rowsOf, cellsSize, Stretches, WalkedOver};
+ghost use Rattle.salvage.specs.Answers.{frontOf, Fronts, Passed, rowsOf, cellsSize, Stretches, WalkedOver};
 ghost use Rattle.salvage.specs.Promises.{HandsOut, SalvagePromise};
 use bits::BitPlace;
 use bits::OctetCount;
@@ -32,6 +32,63 @@ enum Walked {
     TooLong,
 }
 
+// ---- where a message may start
+
+// 1 where two octets may begin a message: 02 or 03 for the command's length, then 4A for its first part and the filler bit; else 0.
+fn front(one: u8, two: u8) -> u8
+    ensures { λ r. ⌜ (r ≡ frontOf one two) × (r ≤ 1) ⌝ }
+{
+    let length = (one / 2 == 1) as u8;
+    let part = (two == 0x4A) as u8;
+    length * part
+}
+
+// How many of the 64 octets behind so many may begin a message. They are told without a branch for each, so that the compiler takes
+// many at a time.
+fn fronts(c: &[u8], at: OctetCount) -> u8
+    requires { ⌜ at .0 + 65 ≤ length (now c) ⌝ }
+    ensures { λ r. ⌜ Fronts (now (c .entry)) (at .0) (at .0 + 64) r ⌝ }
+{
+    let mut n: u8 = 0;
+    let mut i: usize = 0;
+    let from = at.0;
+    while i < 64 {
+        n += front(c[from + i], c[from + i + 1]);
+        i += 1;
+    }
+    n
+}
+
+// Goes on over blocks of 64 octets of which none may begin a message.
+fn over_blocks(c: &[u8], from: OctetCount) -> OctetCount
+    requires { ⌜ (from .0 ≤ length (now c)) × (length (now c) ≤ 65535) ⌝ }
+    ensures { λ r. ⌜ Passed (now (c .entry)) (from .0) (r .0) ⌝ }
+{
+    let mut at = from.0;
+    while 65 <= c.len() - at {
+        if fronts(c, OctetCount(at)) != 0 {
+            return OctetCount(at);
+        }
+        at += 64;
+    }
+    OctetCount(at)
+}
+
+// Goes on to the next octet that may begin a message, or over all.
+fn next_front(c: &[u8], from: OctetCount) -> OctetCount
+    requires { ⌜ (from .0 ≤ length (now c)) × (length (now c) ≤ 65535) ⌝ }
+    ensures { λ r. ⌜ Passed (now (c .entry)) (from .0) (r .0) ⌝ }
+{
+    let mut at = over_blocks(c, from).0;
+    while 2 <= c.len() - at {
+        if front(c[at], c[at + 1]) != 0 {
+            return OctetCount(at);
+        }
+        at += 1;
+    }
+    OctetCount(c.len())
+}
+
 // ---- what is kept
 
 // The message that starts behind so many octets, looked for no further than a message may reach.
@@ -49,7 +106,7 @@ fn in_reach(c: &[u8], at: OctetCount, marks: &[u8; 512]) -> OctetCount
 }
 
 // How many octets the message has that starts behind so many; none where no message starts there. Most octets are told by the
-// first two: 2 or 3 for the command's length, and 4A for its first part and the filler bit.
+// first two.
 fn message_at(c: &[u8], at: OctetCount, marks: &[u8; 512]) -> OctetCount
     requires { ⌜ Marks (now marks) ⌝ }
     requires { ⌜ (at .0 ≤ length (now c)) × (length (now c) ≤ 65535) ⌝ }
@@ -59,10 +116,7 @@ fn message_at(c: &[u8], at: OctetCount, marks: &[u8; 512]) -> OctetCount
     if c.len() - i < 2 {
         return OctetCount(0);
     }
-    if c[i + 1] != 0x4A {
-        return OctetCount(0);
-    }
-    if c[i] / 2 != 1 {
+    if front(c[i], c[i + 1]) == 0 {
         return OctetCount(0);
     }
     in_reach(c, at, marks)
@@ -81,7 +135,7 @@ fn walk(c: &[u8], cells: &mut [u32]) -> Walked
     while at < c.len() {
         let own = message_at(c, OctetCount(at), &marks).0;
         if own == 0 {
-            at += 1;
+            at = next_front(c, OctetCount(at + 1)).0;
         } else {
             if 65535 < octets + own + 4 * n + 8 {
                 return Walked::TooLong;

@@ -5,31 +5,31 @@ use Rattle.salvage.proofs.message_at.Tie as tie
 use Rattle.salvage.proofs.Reaching.{starts}
 
 sub-if1 : tie.Need-sub-if1
-sub-if1 c = search needs
+sub-if1 c = search (starts, needs)
 
 returns : tie.Need-returns
 returns c = search (starts, needs)
 
-add-if2 : tie.Need-add-if2
-add-if2 c = search needs
+shared-slice-read-front : tie.Need-shared-slice-read-front
+shared-slice-read-front c = search (starts, needs)
 
-shared-slice-read-if2 : tie.Need-shared-slice-read-if2
-shared-slice-read-if2 c = search needs
+add-front : tie.Need-add-front
+add-front c = search (starts, needs)
+
+shared-slice-read-front-2 : tie.Need-shared-slice-read-front-2
+shared-slice-read-front-2 c = search (starts, needs)
+
+front-requires : tie.Need-front-requires
+front-requires c κs = search (starts, needs)
 
 returns-2 : tie.Need-returns-2
-returns-2 c = search (starts, c .if2 .taken, c .before .shared-slice-known2 .given, needs)
-
-shared-slice-read-if3 : tie.Need-shared-slice-read-if3
-shared-slice-read-if3 c = search needs
-
-returns-3 : tie.Need-returns-3
-returns-3 c = search (starts, c .if3 .taken, c .before .shared-slice-known3 .given, needs)
+returns-2 c = search (starts, c .before .before .shared-slice-known3 .given, needs)
 
 in-reach-requires : tie.Need-in-reach-requires
-in-reach-requires c κs = search needs
+in-reach-requires c κs = search (starts, needs)
 
-returns-4 : tie.Need-returns-4
-returns-4 c = search needs
+returns-3 : tie.Need-returns-3
+returns-3 c = search (starts, needs)
 
 pub message-at-spec : {M : Type 1} → statement M
 message-at-spec =
@@ -37,10 +37,10 @@ message-at-spec =
     (tie.spec
     sub-if1
     returns
-    add-if2
-    shared-slice-read-if2
+    shared-slice-read-front
+    add-front
+    shared-slice-read-front-2
+    front-requires
     returns-2
-    shared-slice-read-if3
-    returns-3
     in-reach-requires
-    returns-4)
+    returns-3)

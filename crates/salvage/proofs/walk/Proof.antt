@@ -21,8 +21,11 @@ loop-holds c = search (walking, needs)
 message-at-requires : tie.Need-message-at-requires Inv-loop μ-loop
 message-at-requires c κs = search (walking, needs)
 
-add-at : tie.Need-add-at Inv-loop μ-loop
-add-at c = search (walking, needs)
+add-t15 : tie.Need-add-t15 Inv-loop μ-loop
+add-t15 c = search (walking, needs)
+
+next-front-requires : tie.Need-next-front-requires Inv-loop μ-loop
+next-front-requires c κs = search (walking, needs)
 
 loop-less : tie.Need-loop-less Inv-loop μ-loop
 loop-less c = search (walking, needs)
@@ -69,8 +72,8 @@ add-n c = search (walking, needs)
 add-octets : tie.Need-add-octets Inv-loop μ-loop
 add-octets c = search (walking, needs)
 
-add-at-2 : tie.Need-add-at-2 Inv-loop μ-loop
-add-at-2 c = search (walking, needs)
+add-at : tie.Need-add-at Inv-loop μ-loop
+add-at c = search (walking, needs)
 
 loop-less-2 : tie.Need-loop-less-2 Inv-loop μ-loop
 loop-less-2 c = search (walking, needs)
@@ -93,7 +96,8 @@ walk-spec =
     marks-requires
     loop-holds
     message-at-requires
-    add-at
+    add-t15
+    next-front-requires
     loop-less
     loop-again
     add-if2
@@ -109,7 +113,7 @@ walk-spec =
     slice-write-cells
     add-n
     add-octets
-    add-at-2
+    add-at
     loop-less-2
     loop-again-2
     same-length-2
