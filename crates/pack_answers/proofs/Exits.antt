@@ -1,6 +1,6 @@
 -- What is answered by the numbers keeps its promise.
 use Prim.Native.Nat.{ℕ}
-use mathlib.Core.Path.{_≡_, refl, sym, ap, _∙_}
+use mathlib.Core.Path.{_≡_, refl, sym, ap, subst, _∙_}
 use mathlib.Core.List.{List}
 use lib.ListN.{length, take, drop}
 use Rattle.bits.specs.Outcome.{Outcome, accepted, refused}
@@ -16,6 +16,7 @@ use Rattle.pack.specs.Promises.{numbersOfReading, ReadPromise, numbersOfFinding
 use Rattle.salvage.specs.declared.Salvaging.{Salvaging}
 use Rattle.salvage.specs.declared.Salvaging.the-variants.{Done, Refused as Unsaved}
 use Rattle.salvage.specs.Promises.{numbersOfSalvaging, SalvagePromise}
+use Rattle.pack_answers.specs.declared.SalvageAnswer.{SalvageAnswer}
 use Rattle.pack_answers.specs.Promise.{packAs, PackReadExport, stretchAs, PackMessageExport, salvageAs, PackSalvageExport}
 
 -- ---- read_pack
@@ -55,8 +56,8 @@ module _ (p out report out′ report′ : List ℕ) {x : Salvaging} (q : Salvage
   came : (y : Salvaging) → x ≡ y → PackSalvageExport p out report out′ report′ (salvageAs (numbersOfSalvaging y))
   came y e = record { answer = ap (λ (z : Salvaging). salvageAs (numbersOfSalvaging z)) (sym e) ∙ ap salvageAs (q .said); pack = q .pack; reported = q .reported }
 
-  pub salvage-refused : {n : ℕ} {f : BitPlace} → x ≡ Unsaved n f → PackSalvageExport p out report out′ report′ (salvageAs (numbersOfSalvaging (Unsaved n f)))
-  salvage-refused {n} {f} e = came (Unsaved n f) e
+  pub salvage-refused : {n : ℕ} {f : BitPlace} {r : SalvageAnswer} → x ≡ Unsaved n f → r ≡ salvageAs (numbersOfSalvaging (Unsaved n f)) → PackSalvageExport p out report out′ report′ r
+  salvage-refused {n} {f} e a = subst (PackSalvageExport p out report out′ report′) (sym a) (came (Unsaved n f) e)
 
   pub salvage-done : {k : ℕ} {o s : OctetCount} → x ≡ Done k o s → PackSalvageExport p out report out′ report′ (salvageAs (numbersOfSalvaging (Done k o s)))
   salvage-done {k} {o} {s} e = came (Done k o s) e

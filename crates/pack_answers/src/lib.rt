@@ -1,5 +1,9 @@
 // What the calls on packs answer across the C border: numbers alone, a message by where it begins and its octets.
-ghost use Rattle.pack_answers.specs.Promise.{PackReadExport, PackMessageExport, PackWriteExport, PackSalvageExport};
+ghost use mathlib.Core.Path.{_≡_};
+ghost use Rattle.salvage.specs.declared.Salvaging.the-variants.{Refused};
+ghost use Rattle.salvage.specs.Promises.{numbersOfSalvaging};
+ghost use Rattle.pack_answers.specs.Promise.{salvageAs, PackReadExport, PackMessageExport, PackWriteExport, PackSalvageExport};
+use bits::BitPlace;
 use pack::Finding;
 use pack::Reading;
 use salvage::Salvaging;
@@ -80,18 +84,25 @@ pub fn write_pack(messages: &[u8], lengths: &[u32], out: &mut [u8]) -> WrittenAn
     written::answer(pack::write(messages, lengths, out))
 }
 
+// A refusal of that: its number and place, all other numbers 0.
+fn not_salvaged(number: u32, place: BitPlace) -> SalvageAnswer
+    ensures { λ r. ⌜ r ≡ salvageAs (numbersOfSalvaging (Refused number place)) ⌝ }
+{
+    SalvageAnswer {
+        refusal: number,
+        place: place.0,
+        messages: 0,
+        octets: 0,
+        skipped: 0,
+    }
+}
+
 // Gets the tones out of a broken pack: a new pack, and a report.
 pub fn salvage_pack(pack: &[u8], out: &mut [u8], report: &mut [u32]) -> SalvageAnswer
     ensures { λ r. ⌜ PackSalvageExport (now (pack .entry)) (now (out .entry)) (now (report .entry)) (now (out .exit)) (now (report .exit)) r ⌝ }
 {
     match salvage::salvage(pack, out, report) {
-        Salvaging::Refused { number, place } => SalvageAnswer {
-            refusal: number,
-            place: place.0,
-            messages: 0,
-            octets: 0,
-            skipped: 0,
-        },
+        Salvaging::Refused { number, place } => not_salvaged(number, place),
         Salvaging::Done {
             messages,
             octets,

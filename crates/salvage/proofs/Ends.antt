@@ -20,8 +20,8 @@ use Rattle.salvage.specs.declared.Walked.the-variants.{Kept, TooLong}
 use Rattle.salvage.specs.declared.Salvaging.{Salvaging}
 use Rattle.salvage.specs.declared.Salvaging.the-variants.{Done, Refused}
 use Rattle.salvage.specs.Salvage.{counting, pieces, skippedIn, stretchesIn, newPack, newReport, Salvaged, salvagedBy, salvaged, intoRoom, salvage}
-use Rattle.salvage.specs.Answers.{rowOf, rowsOf, packSize, cellsSize, Stretches, allKept, KeptAll, KeptTooMuch, WalkedOver}
-use Rattle.salvage.specs.Promises.{Salvages, HandsOut, SalvagePromise}
+use Rattle.salvage.specs.Answers.{rowOf, rowsOf, packSize, cellsSize, Stretches, allKept, KeptAll, KeptTooMuch, WalkedOver, HandsOut}
+use Rattle.salvage.specs.Promises.{Salvages, SalvagePromise}
 use Rattle.salvage.proofs.Putting.{length-rows, length-lengths, rows-long, stretches-long, length-newReport}
 use Rattle.salvage.proofs.Pieces.{order-within, kept-in-order, kept-and-skipped}
 

@@ -1,5 +1,5 @@
 -- Where the code looks for messages, what it keeps of them, and what going through an input comes to.
-use Prim.Native.Nat.{ℕ, _+_, _*_, _/_, _%_, _≤_, _<_}
+use Prim.Native.Nat.{ℕ, _+_, _-_, _*_, _/_, _%_, _≤_, _<_}
 use mathlib.Core.Path.{_≡_}
 use mathlib.Core.List.{List, map}
 use lib.ListN.{length, getD, take}
@@ -8,9 +8,11 @@ use Rattle.bits.specs.Choice.{pick}
 use Rattle.bits.specs.declared.OctetCount.{OctetCount}
 use Rattle.inside.specs.Inside.{sum}
 use Rattle.pack.specs.Pack.{mostPack, Row, lengthsIn}
+use Rattle.salvage.specs.declared.Salvaging.{Salvaging}
 use Rattle.salvage.specs.declared.Walked.{Walked}
 use Rattle.salvage.specs.declared.Walked.the-variants.{Kept, TooLong}
-use Rattle.salvage.specs.Salvage.{messageAt, keptIn, pieces}
+use Rattle.salvage.specs.Salvage.{messageAt, keptIn, pieces, salvagedBy, intoRoom}
+use Rattle.salvage.specs.Promises.{Salvages}
 
 -- ---- where a message may start
 
@@ -73,3 +75,9 @@ pub record KeptTooMuch (c : List ℕ) : Type 0 where
 abbrev pub WalkedOver : List ℕ → List ℕ → Walked → Type 0
 WalkedOver c cells (Kept k o) = KeptAll c cells k (o .0)
 WalkedOver c cells TooLong = KeptTooMuch c
+
+-- ---- what comes out
+
+-- handing out the messages of cells, of so many octets, answers r and leaves out′ and report′
+abbrev pub HandsOut : List ℕ → List ℕ → ℕ → List ℕ → List ℕ → List ℕ → List ℕ → Salvaging → Type 0
+HandsOut c cells octets out report out′ report′ r = Salvages (intoRoom (salvagedBy c (rowsOf cells) (length c - octets)) (length out) (length report)) out report out′ report′ r

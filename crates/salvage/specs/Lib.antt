@@ -1,4 +1,4 @@
 pub mod Salvage
-pub mod Answers
 pub mod Promises
+pub mod Answers
 pub mod Samples

@@ -1,5 +1,5 @@
 -- What the call promises: every number returned and every cell lent, on acceptance and on refusal.
-use Prim.Native.Nat.{ℕ, _-_}
+use Prim.Native.Nat.{ℕ}
 use mathlib.Core.Path.{_≡_}
 use mathlib.Core.List.{List}
 use lib.ListN.{length}
@@ -8,8 +8,7 @@ use Rattle.bits.specs.Outcome.{Outcome, accepted, refused}
 use Rattle.bits.specs.Places.{place, octetCount}
 use Rattle.salvage.specs.declared.Salvaging.{Salvaging}
 use Rattle.salvage.specs.declared.Salvaging.the-variants.{Done, Refused}
-use Rattle.salvage.specs.Salvage.{Salvaged, salvagedBy, intoRoom, salvage}
-use Rattle.salvage.specs.Answers.{rowsOf}
+use Rattle.salvage.specs.Salvage.{Salvaged, salvage}
 
 -- the numbers of an answer
 pub record SalvageNumbers : Type 0 where
@@ -54,9 +53,3 @@ pub record Salvages (o : Outcome Salvaged) (out report out′ report′ : List �
 -- `salvage` of the input p into the buffers `out` and `report` answers r and leaves out′ and report′ in them
 abbrev pub SalvagePromise : List ℕ → List ℕ → List ℕ → List ℕ → List ℕ → Salvaging → Type 0
 SalvagePromise p out report out′ report′ r = Salvages (salvage p (length out) (length report)) out report out′ report′ r
-
--- ---- on the way
-
--- handing out the messages of cells answers r and leaves out′ and report′
-abbrev pub HandsOut : List ℕ → List ℕ → ℕ → List ℕ → List ℕ → List ℕ → List ℕ → Salvaging → Type 0
-HandsOut c cells octets out report out′ report′ r = Salvages (intoRoom (salvagedBy c (rowsOf cells) (length c - octets)) (length out) (length report)) out report out′ report′ r

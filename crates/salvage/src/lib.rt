@@ -8,8 +8,8 @@ ghost use Rattle.inside.specs.Inside.{join, sum};
 ghost use Rattle.pack.specs.Pack.{rowsFrom, lengthsIn};
 ghost use Rattle.tone_sound.specs.Turning.{Marks};
 ghost use Rattle.salvage.specs.Salvage.{counting as countingOf, messageAt, stretchesIn, newPack, newReport};
-ghost use Rattle.salvage.specs.Answers.{frontOf, Fronts, Passed, rowsOf, cellsSize, Stretches, WalkedOver};
-ghost use Rattle.salvage.specs.Promises.{HandsOut, SalvagePromise};
+ghost use Rattle.salvage.specs.Answers.{frontOf, Fronts, Passed, rowsOf, cellsSize, Stretches, WalkedOver, HandsOut};
+ghost use Rattle.salvage.specs.Promises.{SalvagePromise};
 use bits::BitPlace;
 use bits::OctetCount;
 

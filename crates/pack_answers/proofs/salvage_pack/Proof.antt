@@ -10,6 +10,9 @@ salvage-requires c κs = search needs
 enum-known-number : tie.Need-enum-known-number
 enum-known-number c = search needs
 
+not-salvaged-requires : tie.Need-not-salvaged-requires
+not-salvaged-requires c κs = search needs
+
 enum-known-messages : tie.Need-enum-known-messages
 enum-known-messages c = search needs
 
@@ -37,6 +40,7 @@ salvage-pack-spec =
     (tie.spec
     salvage-requires
     enum-known-number
+    not-salvaged-requires
     enum-known-messages
     same-length
     same-length-2
