@@ -242,21 +242,6 @@ fn lend_write(octets: &[u8], lengths: &[u32], room: u32) {
 
 // ---- writing what was read
 
-// Puts octets behind those in a buffer. It answers how many are then in it.
-fn add_part(part: &[u8], buf: &mut [u8], used: usize) -> usize {
-    let mut n = used;
-    let mut i = 0;
-    while i < part.len() {
-        if buf.len() <= n {
-            return n;
-        }
-        buf[n] = part[i];
-        n += 1;
-        i += 1;
-    }
-    n
-}
-
 // How many messages a pack has.
 fn count(pack: &[u8]) -> usize {
     told(pack::read(pack)).messages as usize
@@ -276,7 +261,7 @@ fn take_out(pack: &[u8], octets: &mut [u8], lengths: &mut [u32]) -> InHand {
         }
         let part = pack::message(pack, vectors::cell(i as u64));
         lengths[i] = vectors::cell(part.len() as u64);
-        used = add_part(part, octets, used);
+        used = vectors::add_part(part, octets, used);
         i += 1;
     }
     InHand {

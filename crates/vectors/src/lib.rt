@@ -251,6 +251,21 @@ pub fn add_cells(line: &[u8], from: usize, table: &mut [u32], used: usize) -> us
     n
 }
 
+// Puts a part of another buffer behind those in a buffer. It answers how many are then in it.
+pub fn add_part(part: &[u8], buf: &mut [u8], used: usize) -> usize {
+    let mut n = used;
+    let mut i = 0;
+    while i < part.len() {
+        if buf.len() <= n {
+            return n;
+        }
+        buf[n] = part[i];
+        n += 1;
+        i += 1;
+    }
+    n
+}
+
 // The first octets of a buffer; all where it has no more.
 pub fn front(s: &[u8], octets: usize) -> &[u8] {
     if s.len() < octets {
