@@ -25,6 +25,9 @@
 //   q N NAME                                                finds message N of a pack
 //   k OCTETS NAME                                           writes a pack of the messages in hand, with the table in hand
 //                                                           as their lengths
+//   g TIMES OCTETS CELLS NAME                               gets the messages out of the octets in hand, so many times
+//                                                           back to back, with so many octets of a pack and so many
+//                                                           cells of a report lent
 //
 // What is in hand stays until something else is put there; a letter alone puts none. Ahead of a call all octets lent are
 // 77, all cells 7, and each record is 101 to 107. A line of output has the name, the numbers of the answer, and each buffer
@@ -41,6 +44,7 @@ use ohakelm::LabelAnswer;
 use ohakelm::ListAnswer;
 use ohakelm::ToneAnswer;
 use pack_answers::PackAnswer;
+use pack_answers::SalvageAnswer;
 use pack_answers::StretchAnswer;
 use written::WrittenAnswer;
 
@@ -68,6 +72,15 @@ fn show_stretch(answer: StretchAnswer) {
     vectors::number(answer.place as u64);
     vectors::number(answer.start as u64);
     vectors::number(answer.length as u64);
+}
+
+// Prints what getting messages out of a broken pack answers.
+fn show_salvage(answer: SalvageAnswer) {
+    vectors::number(answer.refusal as u64);
+    vectors::number(answer.place as u64);
+    vectors::number(answer.messages as u64);
+    vectors::number(answer.octets as u64);
+    vectors::number(answer.skipped as u64);
 }
 
 // Prints what reading a tone answers.
@@ -436,10 +449,56 @@ fn write_pack(msgs: &[u8], lengths: &[u32], out: &mut [u8]) {
     show_written(answer, out);
 }
 
+// Gets messages out with all of both buffers lent. Prints the answer and the buffers.
+fn salvage(pack: &[u8], out: &mut [u8], report: &mut [u32]) {
+    show_salvage(ohakelm::ohakelm_pack_salvage(pack, out, report));
+    vectors::show_part(out);
+    show_lent(report);
+}
+
+// Puts octets so many times to the front of a buffer, back to back. It answers how many are then there.
+fn repeat(part: &[u8], times: u64, buf: &mut [u8]) -> usize {
+    let mut n = 0;
+    let mut i = 0;
+    while i < times {
+        n = vectors::add_part(part, buf, n);
+        i += 1;
+    }
+    n
+}
+
+// Gets messages out as a line says.
+fn salvage_case(line: &[u8], octets: &[u8])
+    requires { ⌜ 2 ≤ length (now line) ⌝ }
+{
+    let times = vectors::word(line, 2);
+    let room = vectors::word(line, times.next);
+    let cells = vectors::word(line, room.next);
+    vectors::name(line, cells.next);
+    let mut pack = [0u8; 65600];
+    let used = repeat(octets, times.value, &mut pack);
+    let mut out = [119u8; 64];
+    let mut report = [7u32; 64];
+    let out_end = room.value as usize;
+    let report_end = cells.value as usize;
+    if 64 < out_end || 64 < report_end {
+        return;
+    }
+    salvage(
+        vectors::front(&pack, used),
+        &mut out[0..out_end],
+        &mut report[0..report_end],
+    );
+}
+
 // Makes the call on a pack that a line says.
 fn pack_case(line: &[u8], octets: &[u8], lengths: &[u32])
     requires { ⌜ 2 ≤ length (now line) ⌝ }
 {
+    if line[0] == b'g' {
+        salvage_case(line, octets);
+        return;
+    }
     if line[0] == b'p' {
         vectors::name(line, 2);
         show_pack(ohakelm::ohakelm_pack_read(octets));
@@ -466,6 +525,9 @@ fn for_pack(letter: u8) -> bool {
         return true;
     }
     if letter == b'q' {
+        return true;
+    }
+    if letter == b'g' {
         return true;
     }
     letter == b'k'

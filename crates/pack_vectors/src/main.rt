@@ -38,6 +38,7 @@ ghost use Prim.Native.Nat.{_≤_, _<_};
 ghost use lib.ListN.{length};
 use pack::Finding;
 use pack::Reading;
+use vectors::Changes;
 use written::Writing;
 
 // How many octets and lengths are in hand.
@@ -51,13 +52,6 @@ struct Answer {
     number: u32,
     place: usize,
     messages: u32,
-}
-
-// Which octets of a pack are changed in turn: so many from a place on. Where the name of the case starts in its line.
-struct Changes {
-    from: usize,
-    octets: usize,
-    name: usize,
 }
 
 // ---- printing
@@ -151,26 +145,18 @@ fn read_fronts(line: &[u8], pack: &[u8])
 
 // ---- reading what was changed
 
-// An octet with bits turned, or another one, as the letter of the case says.
-fn other(letter: u8, old: u8, by: u8) -> u8 {
-    if letter == b's' {
-        return old ^ by;
-    }
-    by
-}
-
 // Reads a pack with another octet at a place, and puts the old one back.
-fn read_changed_at(line: &[u8], name: usize, pack: &mut [u8], at: usize, by: u8)
-    requires { ⌜ (name ≤ length (now line)) × (0 < length (now line)) × (at < length (now pack)) ⌝ }
+fn read_changed_at(line: &[u8], which: Changes, pack: &mut [u8], at: usize)
+    requires { ⌜ (which .name ≤ length (now line)) × (0 < length (now line)) × (at < length (now pack)) ⌝ }
 {
     let old = pack[at];
-    pack[at] = other(line[0], old, by);
-    read_line(line, name, at, pack);
+    pack[at] = vectors::other(line[0], old, which.by);
+    read_line(line, which.name, at, pack);
     pack[at] = old;
 }
 
 // Reads a pack with some of its octets changed in turn.
-fn read_changed(line: &[u8], which: Changes, pack: &mut [u8], by: u8)
+fn read_changed(line: &[u8], which: Changes, pack: &mut [u8])
     requires { ⌜ (which .name ≤ length (now line)) × (0 < length (now line)) ⌝ }
 {
     let mut left = which.octets;
@@ -179,22 +165,17 @@ fn read_changed(line: &[u8], which: Changes, pack: &mut [u8], by: u8)
         if left == 0 {
             return;
         }
-        read_changed_at(line, which.name, pack, i, by);
+        read_changed_at(line, which, pack, i);
         left -= 1;
         i += 1;
     }
 }
 
-// A digest with one number more.
-fn mixed(d: u64, n: u64) -> u64 {
-    (d % 1000003 * 31 + n % 1000003) % 1000003
-}
-
 // Reads a pack, and answers the digest with the answer's numbers.
 fn mix_read(pack: &[u8], d: u64) -> u64 {
     let t = told(pack::read(pack));
-    mixed(
-        mixed(mixed(d, t.number as u64), t.place as u64),
+    vectors::mixed(
+        vectors::mixed(vectors::mixed(d, t.number as u64), t.place as u64),
         t.messages as u64,
     )
 }
@@ -261,21 +242,6 @@ fn lend_write(octets: &[u8], lengths: &[u32], room: u32) {
 
 // ---- writing what was read
 
-// Puts octets behind those in a buffer. It answers how many are then in it.
-fn add_part(part: &[u8], buf: &mut [u8], used: usize) -> usize {
-    let mut n = used;
-    let mut i = 0;
-    while i < part.len() {
-        if buf.len() <= n {
-            return n;
-        }
-        buf[n] = part[i];
-        n += 1;
-        i += 1;
-    }
-    n
-}
-
 // How many messages a pack has.
 fn count(pack: &[u8]) -> usize {
     told(pack::read(pack)).messages as usize
@@ -295,7 +261,7 @@ fn take_out(pack: &[u8], octets: &mut [u8], lengths: &mut [u32]) -> InHand {
         }
         let part = pack::message(pack, vectors::cell(i as u64));
         lengths[i] = vectors::cell(part.len() as u64);
-        used = add_part(part, octets, used);
+        used = vectors::add_part(part, octets, used);
         i += 1;
     }
     InHand {
@@ -364,22 +330,14 @@ fn back(pack: &[u8], room: u32) {
 fn changed_case(line: &[u8], pack: &mut [u8])
     requires { ⌜ 2 ≤ length (now line) ⌝ }
 {
-    let from = vectors::word(line, 2);
-    let octets = vectors::word(line, from.next);
-    let mut which = Changes {
-        from: from.value as usize,
-        octets: octets.value as usize,
-        name: octets.next,
-    };
+    let which = vectors::changes_in(line);
     if line[0] == b'e' {
         vectors::name(line, which.name);
         vectors::number(mix_changed(which, pack));
         io::write_all(1, b"\n");
         return;
     }
-    let by = vectors::word(line, octets.next);
-    which.name = by.next;
-    read_changed(line, which, pack, (by.value % 256) as u8);
+    read_changed(line, which, pack);
 }
 
 // Makes a call with a number ahead of the name, as a line says: finds, writes, or writes what was read.
@@ -438,78 +396,19 @@ fn call_in_hand(line: &[u8], hand: InHand, octets: &mut [u8], lengths: &[u32])
 
 // ---- what is in hand
 
-// Puts octets behind those in hand, the same as stand in hand from a place on, which runs along. It answers how many are
-// then in hand.
-fn add_again(buf: &mut [u8], used: usize, from: usize, octets: usize) -> usize {
-    let mut n = used;
-    let mut src = from;
-    let mut left = octets;
-    while 0 < left {
-        if buf.len() <= n {
-            return n;
-        }
-        if n <= src {
-            return n;
-        }
-        let x = buf[src];
-        buf[n] = x;
-        n += 1;
-        src += 1;
-        left -= 1;
-    }
-    n
-}
-
-// Puts what a line gives, from a place on, behind what is in hand.
-fn add(line: &[u8], from: usize, hand: InHand, octets: &mut [u8], lengths: &mut [u32]) -> InHand
-    requires { ⌜ (from ≤ length (now line)) × (0 < length (now line)) ⌝ }
-{
-    let mut h = hand;
-    if line[0] == b'+' {
-        h.octets = vectors::add_octets(line, from, octets, hand.octets);
-        return h;
-    }
-    h.lengths = vectors::add_cells(line, from, lengths, hand.lengths);
-    h
-}
-
-// The same so many times as the line says.
-fn add_times(line: &[u8], hand: InHand, octets: &mut [u8], lengths: &mut [u32]) -> InHand
+// Puts the lengths of a line behind those in hand, so many times as its first word says. It answers how many are then in
+// hand.
+fn add_lengths(line: &[u8], lengths: &mut [u32], used: usize) -> usize
     requires { ⌜ 2 ≤ length (now line) ⌝ }
 {
     let times = vectors::word(line, 2);
-    let mut h = hand;
+    let mut n = used;
     let mut i = 0;
     while i < times.value {
-        h = add(line, times.next, h, octets, lengths);
+        n = vectors::add_cells(line, times.next, lengths, n);
         i += 1;
     }
-    h
-}
-
-// The smaller of two numbers.
-fn least(a: usize, b: usize) -> usize {
-    if a < b {
-        return a;
-    }
-    b
-}
-
-// Keeps octets in hand, puts some over them or puts some again, as a line says. It answers how many are then in hand.
-fn change_hand(line: &[u8], octets: &mut [u8], used: usize) -> usize
-    requires { ⌜ 2 ≤ length (now line) ⌝ }
-{
-    let letter = line[0];
-    let w = vectors::word(line, 2);
-    if letter == b'k' {
-        return least(used, w.value as usize);
-    }
-    if letter == b'a' {
-        vectors::add_octets(line, w.next, octets, w.value as usize);
-        return used;
-    }
-    let many = vectors::word(line, w.next);
-    add_again(octets, used, w.value as usize, many.value as usize)
+    n
 }
 
 // Does what a line says, and answers what is then in hand.
@@ -530,11 +429,16 @@ fn act(line: &[u8], hand: InHand, octets: &mut [u8; 65600], lengths: &mut [u32; 
     if line.len() < 2 || letter == b'#' {
         return h;
     }
-    if letter == b'+' || letter == b'c' {
-        return add_times(line, h, octets, lengths);
+    if letter == b'+' {
+        h.octets = vectors::add_times(line, octets, hand.octets);
+        return h;
+    }
+    if letter == b'c' {
+        h.lengths = add_lengths(line, lengths, hand.lengths);
+        return h;
     }
     if letter == b'd' || letter == b'k' || letter == b'a' {
-        h.octets = change_hand(line, octets, hand.octets);
+        h.octets = vectors::change_hand(line, octets, hand.octets);
         return h;
     }
     call_in_hand(line, h, octets, lengths);

@@ -10,6 +10,15 @@ pub struct Parsed {
     pub next: usize,
 }
 
+// Which octets are changed in turn: so many from a place on. What they are changed by, and where the name of the case starts
+// in its line.
+pub struct Changes {
+    pub from: usize,
+    pub octets: usize,
+    pub by: u8,
+    pub name: usize,
+}
+
 // ---- printing
 
 // Prints a number, and a space ahead of it.
@@ -83,6 +92,11 @@ pub fn digest_cells(s: &[u32]) -> u64 {
         i += 1;
     }
     d
+}
+
+// A digest with one number more.
+pub fn mixed(d: u64, n: u64) -> u64 {
+    (d % 1000003 * 31 + n % 1000003) % 1000003
 }
 
 // Prints a buffer of octets and a space ahead of it: all of them, or their digest where there are many.
@@ -237,6 +251,21 @@ pub fn add_cells(line: &[u8], from: usize, table: &mut [u32], used: usize) -> us
     n
 }
 
+// Puts a part of another buffer behind those in a buffer. It answers how many are then in it.
+pub fn add_part(part: &[u8], buf: &mut [u8], used: usize) -> usize {
+    let mut n = used;
+    let mut i = 0;
+    while i < part.len() {
+        if buf.len() <= n {
+            return n;
+        }
+        buf[n] = part[i];
+        n += 1;
+        i += 1;
+    }
+    n
+}
+
 // The first octets of a buffer; all where it has no more.
 pub fn front(s: &[u8], octets: usize) -> &[u8] {
     if s.len() < octets {
@@ -251,4 +280,101 @@ pub fn name(line: &[u8], at: usize)
 {
     io::write_all(1, &line[at..]);
     io::write_all(1, b":");
+}
+
+// ---- what is in hand
+
+// Puts the octets of a line behind those in a buffer, so many times as its first word says. It answers how many are then in
+// it.
+pub fn add_times(line: &[u8], buf: &mut [u8], used: usize) -> usize
+    requires { ⌜ 2 ≤ length (now line) ⌝ }
+{
+    let times = word(line, 2);
+    let mut n = used;
+    let mut i = 0;
+    while i < times.value {
+        n = add_octets(line, times.next, buf, n);
+        i += 1;
+    }
+    n
+}
+
+// Puts octets behind those in a buffer, the same as stand in it from a place on, which runs along. It answers how many are
+// then in it.
+fn add_again(buf: &mut [u8], used: usize, from: usize, octets: usize) -> usize {
+    let mut n = used;
+    let mut src = from;
+    let mut left = octets;
+    while 0 < left {
+        if buf.len() <= n {
+            return n;
+        }
+        if n <= src {
+            return n;
+        }
+        let x = buf[src];
+        buf[n] = x;
+        n += 1;
+        src += 1;
+        left -= 1;
+    }
+    n
+}
+
+// The smaller of two numbers.
+fn least(a: usize, b: usize) -> usize {
+    if a < b {
+        return a;
+    }
+    b
+}
+
+// Keeps the first octets in hand (`k`), puts some over them (`a`) or puts some again behind them (another letter), as a line
+// says. It answers how many are then in hand.
+pub fn change_hand(line: &[u8], octets: &mut [u8], used: usize) -> usize
+    requires { ⌜ 2 ≤ length (now line) ⌝ }
+{
+    let letter = line[0];
+    let w = word(line, 2);
+    if letter == b'k' {
+        return least(used, w.value as usize);
+    }
+    if letter == b'a' {
+        add_octets(line, w.next, octets, w.value as usize);
+        return used;
+    }
+    let many = word(line, w.next);
+    add_again(octets, used, w.value as usize, many.value as usize)
+}
+
+// ---- what is changed in turn
+
+// The changes that a line says: where, how many and, unless each other octet is tried (`e`), by what.
+pub fn changes_in(line: &[u8]) -> Changes
+    requires { ⌜ 2 ≤ length (now line) ⌝ }
+    ensures { λ r. ⌜ r .name ≤ length (now (line .entry)) ⌝ }
+{
+    let from = word(line, 2);
+    let octets = word(line, from.next);
+    let mut which = Changes {
+        from: from.value as usize,
+        octets: octets.value as usize,
+        by: 0,
+        name: octets.next,
+    };
+    if line[0] == b'e' {
+        return which;
+    }
+    let by = word(line, octets.next);
+    which.by = (by.value % 256) as u8;
+    which.name = by.next;
+    which
+}
+
+// An octet with bits turned (`s`), or another one in its place, as the letter of the case says.
+pub fn other(letter: u8, old: u8, by: u8) -> u8 {
+    if letter == b's' {
+        return old ^ by;
+    }
+    by
 }

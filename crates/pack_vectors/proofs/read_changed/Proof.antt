@@ -7,10 +7,10 @@ use mathlib.Core.Path.{_≡_}
 use lib.ListN.{length}
 
 abbrev Inv-loop : tie.InvT-loop
-Inv-loop line which pack₀ by left₀ i₀ pack left i = length pack ≡ length pack₀
+Inv-loop line which pack₀ left₀ i₀ pack left i = length pack ≡ length pack₀
 
 abbrev μ-loop : tie.MeasureT-loop
-μ-loop line which pack₀ by left₀ i₀ pack left i = length pack₀ - i
+μ-loop line which pack₀ left₀ i₀ pack left i = length pack₀ - i
 
 pub read-changed-spec : {M : Type 1} → statement M
 read-changed-spec = tie.close (tie.spec Inv-loop μ-loop (search needs) (search needs) (search needs) (search needs) (search needs) (search needs) (search needs) (search needs)

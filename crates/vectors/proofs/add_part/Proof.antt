@@ -1,6 +1,6 @@
--- `pack_vectors::add_part` meets its contract. The length of the buffer stays, and the octets left fall.
-use Rattle.pack_vectors.proofs.add_part.Statement.{statement}
-use Rattle.pack_vectors.proofs.add_part.Tie as tie
+-- `vectors::add_part` meets its contract. The length of the buffer stays, and the octets left fall.
+use Rattle.vectors.proofs.add_part.Statement.{statement}
+use Rattle.vectors.proofs.add_part.Tie as tie
 use borrow.Author.Needs.{needs}
 use Prim.Native.Nat.{_-_}
 use mathlib.Core.Path.{_≡_}

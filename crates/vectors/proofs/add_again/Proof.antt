@@ -1,6 +1,6 @@
--- `pack_vectors::add_again` meets its contract. The length of the buffer stays, and the octets to come fall.
-use Rattle.pack_vectors.proofs.add_again.Statement.{statement}
-use Rattle.pack_vectors.proofs.add_again.Tie as tie
+-- `vectors::add_again` meets its contract. The length of the buffer stays, and the octets to come fall.
+use Rattle.vectors.proofs.add_again.Statement.{statement}
+use Rattle.vectors.proofs.add_again.Tie as tie
 use borrow.Author.Needs.{needs}
 use mathlib.Core.Path.{_≡_}
 use lib.ListN.{length}
