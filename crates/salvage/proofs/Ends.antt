@@ -2,6 +2,7 @@
 use Prim.Native.Nat.{ℕ, zero, suc, _+_, _-_, _*_, _≤_, _<_}
 use native.Mathlib.Omega.{arith}
 use mathlib.Core.Path.{_≡_, refl, sym, ap, ap₂, subst, _∙_}
+use mathlib.Core.Logic.{inl, inr}
 use mathlib.Core.List.{List, [], _∷_}
 use lib.ListN.{List·getD-map, length, getD, take, length-map}
 use lib.Seq.{take-all}
@@ -20,7 +21,7 @@ use Rattle.salvage.specs.declared.Walked.the-variants.{Kept, TooLong}
 use Rattle.salvage.specs.declared.Salvaging.{Salvaging}
 use Rattle.salvage.specs.declared.Salvaging.the-variants.{Done, Refused}
 use Rattle.salvage.specs.Salvage.{counting, pieces, skippedIn, stretchesIn, newPack, newReport, Salvaged, salvagedBy, salvaged, intoRoom, salvage}
-use Rattle.salvage.specs.Answers.{rowOf, rowsOf, packSize, cellsSize, Stretches, allKept, KeptAll, KeptTooMuch, WalkedOver, HandsOut}
+use Rattle.salvage.specs.Answers.{rowOf, rowsOf, packSize, cellsSize, Stretches, allKept, KeptAll, Enough, KeptTooMuch, WalkedOver, HandsOut, GetsOut}
 use Rattle.salvage.specs.Promises.{Salvages, SalvagePromise}
 use Rattle.salvage.proofs.Putting.{length-rows, length-lengths, rows-long, stretches-long, length-newReport}
 use Rattle.salvage.proofs.Pieces.{order-within, kept-in-order, kept-and-skipped}
@@ -112,13 +113,13 @@ all-long c =
     let n = length-map (allKept c) (λ (r : Row). r .length) in
     length-packOf (join ss) (lengthsIn (allKept c)) ∙ omega (arith, l, n)
 
-module _ (p cells : List ℕ) {c : List ℕ} (e : c ≡ counting p) {w : Walked} (q : WalkedOver c cells w) where
-  pub salvage-long : w ≡ TooLong → (out report : List ℕ) → SalvagePromise p out report out report (Refused 1 (place 0))
+module _ (c cells : List ℕ) {w : Walked} (q : WalkedOver c cells w) where
+  pub salvage-long : w ≡ TooLong → (out report : List ℕ) → GetsOut c out report out report (Refused 1 (place 0))
   unfolding intoRoom salvaged
   salvage-long g out report =
       let k : KeptTooMuch c = subst (WalkedOver c cells) g q in
       let n = length (newPack c (allKept c)) in
-      refuses (salvage p (length out) (length report)) out report (rw (← e, lt-leb n mostPack (omega (arith, all-long c, k .size))) refl)
+      refuses (intoRoom (salvaged c) (length out) (length report)) out report (rw (lt-leb n mostPack (omega (arith, all-long c, k .size))) refl)
 
   module _ {k : ℕ} {o : OctetCount} (g : w ≡ Kept k o) where
     kept-all : KeptAll c cells k (o .0)
@@ -156,12 +157,27 @@ module _ (p cells : List ℕ) {c : List ℕ} (e : c ≡ counting p) {w : Walked}
     pub salvage-size : cellsSize own ≤ 65535
     salvage-size = omega (arith, salvage-sums, many, kept-all .sums, kept-all .many, kept-all .size)
 
-    pub salvage-done : {out report out′ report′ : List ℕ} {r : Salvaging} → HandsOut c own (o .0) out report out′ report′ r → SalvagePromise p out report out′ report′ r
+    pub salvage-done : {out report out′ report′ : List ℕ} {r : Salvaging} → HandsOut c own (o .0) out report out′ report′ r → GetsOut c out report out′ report′ r
     unfolding salvaged
     salvage-done {out} {report} {out′} {report′} {r} h =
         let z : length c - o .0 ≡ skippedIn (pieces c) = omega (arith, kept-all .sums, kept-and-skipped c) in
-        let s : salvagedBy c (rowsOf own) (length c - o .0) ≡ salvaged (counting p) =
-        ap₂ (λ (rs : List Row) (n : ℕ). salvagedBy c rs n) rows-are z ∙ ap salvaged e in
+        let s : salvagedBy c (rowsOf own) (length c - o .0) ≡ salvaged c = ap₂ (λ (rs : List Row) (n : ℕ). salvagedBy c rs n) rows-are z in
         subst (λ (x : Salvaged). Salvages (intoRoom x (length out) (length report)) out report out′ report′ r) s h
 
-pub ruleset endings = (counting-most, salvage-long, salvage-part, salvage-stretches, salvage-sums, salvage-inside, salvage-size, salvage-done)
+pub ruleset endings = (salvage-long, salvage-part, salvage-stretches, salvage-sums, salvage-inside, salvage-size, salvage-done)
+
+-- what comes out of what counts comes out of the input
+pub counted-out : (p : List ℕ) {c out report out′ report′ : List ℕ} {r : Salvaging} → c ≡ counting p → GetsOut c out report out′ report′ r → SalvagePromise p out report out′ report′ r
+counted-out p {c} {out} {report} {out′} {report′} {r} e h = subst (λ (x : List ℕ). GetsOut x out report out′ report′ r) e h
+
+-- cells enough, by the input's length
+pub enough-short : (c : List ℕ) → length c ≤ 512 → Enough (length c) 64
+enough-short c h = inl (omega arith)
+
+pub enough-middle : (c : List ℕ) → length c ≤ 4096 → Enough (length c) 512
+enough-middle c h = inl (omega arith)
+
+pub enough-any : (c : List ℕ) → Enough (length c) 5460
+enough-any c = inr (omega arith)
+
+pub ruleset outs = (counting-most, counted-out, enough-short, enough-middle, enough-any)

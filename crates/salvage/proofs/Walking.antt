@@ -3,6 +3,7 @@ use Prim.Native.Nat.{ℕ, zero, suc, _+_, _-_, _*_, _/_, _%_, _^_, _≤_, _<_}
 use native.Mathlib.Omega.{arith}
 use native.Mathlib.Numerals.{add-one}
 use mathlib.Core.Path.{_≡_, refl, sym, ap, ap₂, subst, _∙_}
+use mathlib.Core.Logic.{⊎-elim}
 use mathlib.Core.List.{List, [], _∷_, _++_, map, append-assoc, append-nil}
 use lib.ListN.{length, getD, take, set, length-append, length-map, length-set}
 use lib.Seq.{length-take-le, take-suc-set}
@@ -11,7 +12,7 @@ use mir.Syntax.{w32, w64}
 use Rattle.inside.specs.Inside.{sum}
 use Rattle.pack.specs.Pack.{mostPack, Row, lengthsIn}
 use Rattle.salvage.specs.Salvage.{messageAt, Piece, kept, skipped, taken, pieceAt, piecesFrom, pieces, keptIn}
-use Rattle.salvage.specs.Answers.{Passed, rowOf, rowsOf, packSize, allKept, KeptAll, KeptTooMuch}
+use Rattle.salvage.specs.Answers.{Passed, rowOf, rowsOf, packSize, Enough, allKept, KeptAll, KeptTooMuch}
 use Rattle.salvage.proofs.Pieces.{message-inside, message-least, message-most, piece-skipped, piece-kept, onward, onward-next, onward-end}
 
 -- ---- rows behind rows
@@ -39,28 +40,37 @@ none-kept c at to p = go (to - at) at (omega (arith, p .onward)) (λ i a b. p .n
 -- ---- on the way
 
 -- n messages of so many octets are kept up to an octet, a cell for each; the others are still ahead
-pub record Walking (c cells : List ℕ) (at n octets : ℕ) : Type 0 where
+pub record Walking (c old cells : List ℕ) (at n octets : ℕ) : Type 0 where
   pub inside : at ≤ length c
   pub rows : allKept c ≡ rowsOf (take n cells) ++ keptIn (onward c at)
   pub sums : octets ≡ sum (lengthsIn (rowsOf (take n cells)))
   pub least : 8 * n ≤ octets
   pub size : octets + 4 * n + 4 ≤ 65535
-  pub long : length cells ≡ 5460
+  pub behind : octets ≤ at
+  pub enough : Enough (length c) (length cells)
+  pub long : length cells ≡ length old
 
-module _ (c : List ℕ) where
-  pub walk-begins : (cells : List ℕ) → length cells ≡ 5460 → Walking c cells 0 0 0
+module _ (c old : List ℕ) where
+  pub walk-begins : (length c ≤ 65535) × Enough (length c) (length old) → Walking c old old 0 0 0
   unfolding pieces
-  walk-begins cells l =
+  walk-begins l =
       let z : length c ≡ length c - 0 = omega arith in
-      record { inside = omega arith; rows = ap (λ (k : ℕ). keptIn (piecesFrom k c 0)) z; sums = refl; least = omega arith; size = omega arith; long = l }
+      record { inside = omega arith; rows = ap (λ (k : ℕ). keptIn (piecesFrom k c 0)) z; sums = refl; least = omega arith; size = omega arith; behind = omega arith; enough = l .1; long = refl }
 
-  module _ {cells : List ℕ} {at n octets : ℕ} (w : Walking c cells at n octets) where
-    -- as many rows as messages
+  module _ {cells : List ℕ} {at n octets : ℕ} (w : Walking c old cells at n octets) where
+    -- there is a cell for each message
+    there : n ≤ length cells
+    there = ⊎-elim (λ h. omega (arith, h, w .least, w .behind, w .inside)) (λ h. omega (arith, h, w .least, w .size)) (w .enough)
+
+    -- and as many rows
     many : length (rowsOf (take n cells)) ≡ n
-    many = length-map (take n cells) rowOf ∙ length-take-le n cells (omega (arith, w .least, w .size, w .long))
+    many = length-map (take n cells) rowOf ∙ length-take-le n cells there
 
     pub walk-inside : at ≤ length c
     walk-inside = w .inside
+
+    pub walk-long : length cells ≡ length old
+    walk-long = w .long
 
     pub walk-ends : length c ≤ at → KeptAll c cells n octets
     walk-ends h =
@@ -84,7 +94,7 @@ module _ (c : List ℕ) where
       walk-pack = record { fits = omega (arith, w .size, q, message-most c at) }
 
       -- the octet is skipped, and so are those that are passed behind it
-      pub walk-skips : own ≡ 0 → {to : ℕ} → Passed c (at + 1) to → Walking c cells to n octets
+      pub walk-skips : own ≡ 0 → {to : ℕ} → Passed c (at + 1) to → Walking c old cells to n octets
       walk-skips z {to} p =
           let e : onward c at ≡ skipped at ∷ onward c (at + 1) = onward-next c at h ∙ ap (λ (x : Piece). x ∷ onward c (at + taken x)) (piece-skipped c at (sym q ∙ z)) in
           record {
@@ -93,6 +103,8 @@ module _ (c : List ℕ) where
             sums = w .sums;
             least = w .least;
             size = w .size;
+            behind = omega (arith, w .behind, p .onward);
+            enough = w .enough;
             long = w .long;
           }
 
@@ -135,9 +147,10 @@ module _ (c : List ℕ) where
 
         module _ (l : octets + own + 4 * n + 8 ≤ 65535) where
           pub walk-there : n < length cells
-          walk-there = omega (arith, own-least, w .least, w .long)
+          walk-there =
+              ⊎-elim (λ h. omega (arith, h, own-least, own-inside, w .least, w .behind)) (λ h. omega (arith, h, own-least, w .least)) (w .enough)
 
-          pub walk-keeps : Walking c (set cells n (at * 65536 + own)) (at + own) (n + 1) (octets + own)
+          pub walk-keeps : Walking c old (set cells n (at * 65536 + own)) (at + own) (n + 1) (octets + own)
           walk-keeps =
               let cells′ = set cells n (at * 65536 + own) in
               let rs = rowsOf (take n cells) in
@@ -151,7 +164,9 @@ module _ (c : List ℕ) where
                 sums = rw t (omega (arith, w .sums, sum-rows rs (row ∷ [])));
                 least = omega (arith, own-least, w .least);
                 size = omega arith;
+                behind = omega (arith, w .behind);
+                enough = subst (Enough (length c)) (sym (length-set cells n (at * 65536 + own))) (w .enough);
                 long = length-set cells n (at * 65536 + own) ∙ w .long;
               }
 
-pub ruleset walking = (walk-begins, walk-inside, walk-ends, walk-sum, walk-rows, walk-pack, walk-skips, own-most, own-inside, walk-too-long, walk-there, walk-keeps)
+pub ruleset walking = (walk-begins, walk-inside, walk-long, walk-ends, walk-sum, walk-rows, walk-pack, walk-skips, own-most, own-inside, walk-too-long, walk-there, walk-keeps)

@@ -1,6 +1,7 @@
 -- Where the code looks for messages, what it keeps of them, and what going through an input comes to.
 use Prim.Native.Nat.{ℕ, _+_, _-_, _*_, _/_, _%_, _≤_, _<_}
 use mathlib.Core.Path.{_≡_}
+use mathlib.Core.Logic.{_⊎_}
 use mathlib.Core.List.{List, map}
 use lib.ListN.{length, getD, take}
 use lib.Dec.{eqb}
@@ -11,7 +12,7 @@ use Rattle.pack.specs.Pack.{mostPack, Row, lengthsIn}
 use Rattle.salvage.specs.declared.Salvaging.{Salvaging}
 use Rattle.salvage.specs.declared.Walked.{Walked}
 use Rattle.salvage.specs.declared.Walked.the-variants.{Kept, TooLong}
-use Rattle.salvage.specs.Salvage.{messageAt, keptIn, pieces, salvagedBy, intoRoom}
+use Rattle.salvage.specs.Salvage.{messageAt, keptIn, pieces, salvagedBy, salvaged, intoRoom}
 use Rattle.salvage.specs.Promises.{Salvages}
 
 -- ---- where a message may start
@@ -56,6 +57,10 @@ cellsSize cells = sum (lengthsIn (rowsOf cells)) + 4 * length cells + 4
 pub record Stretches (c cells : List ℕ) : Type 0 where
   pub each : (i : ℕ) → i < length cells → getD cells i 0 / 65536 + getD cells i 0 % 65536 ≤ length c
 
+-- there are cells enough: one for each eight octets, or as many as a pack has messages at most
+abbrev pub Enough : ℕ → ℕ → Type 0
+Enough octets cells = (octets ≤ 8 * cells) ⊎ (5460 ≤ cells)
+
 -- the rows of all that is kept of what counts
 abbrev pub allKept : List ℕ → List Row
 allKept c = keptIn (pieces c)
@@ -77,6 +82,10 @@ WalkedOver c cells (Kept k o) = KeptAll c cells k (o .0)
 WalkedOver c cells TooLong = KeptTooMuch c
 
 -- ---- what comes out
+
+-- getting the tones out of what counts answers r and leaves out′ and report′
+abbrev pub GetsOut : List ℕ → List ℕ → List ℕ → List ℕ → List ℕ → Salvaging → Type 0
+GetsOut c out report out′ report′ r = Salvages (intoRoom (salvaged c) (length out) (length report)) out report out′ report′ r
 
 -- handing out the messages of cells, of so many octets, answers r and leaves out′ and report′
 abbrev pub HandsOut : List ℕ → List ℕ → ℕ → List ℕ → List ℕ → List ℕ → List ℕ → Salvaging → Type 0

@@ -8,7 +8,7 @@ ghost use Rattle.inside.specs.Inside.{join, sum};
 ghost use Rattle.pack.specs.Pack.{rowsFrom, lengthsIn};
 ghost use Rattle.tone_sound.specs.Turning.{Marks};
 ghost use Rattle.salvage.specs.Salvage.{counting as countingOf, messageAt, stretchesIn, newPack, newReport};
-ghost use Rattle.salvage.specs.Answers.{frontOf, Fronts, Passed, rowsOf, cellsSize, Stretches, WalkedOver, HandsOut};
+ghost use Rattle.salvage.specs.Answers.{frontOf, Fronts, Passed, rowsOf, cellsSize, Stretches, Enough, WalkedOver, HandsOut, GetsOut};
 ghost use Rattle.salvage.specs.Promises.{SalvagePromise};
 use bits::BitPlace;
 use bits::OctetCount;
@@ -125,7 +125,7 @@ fn message_at(c: &[u8], at: OctetCount, marks: &[u8; 512]) -> OctetCount
 // Goes through what counts, and keeps a cell for each message: start × 65,536 + length. A message has at least eight octets, and
 // its row four, so that no pack has more than 5,460.
 fn walk(c: &[u8], cells: &mut [u32]) -> Walked
-    requires { ⌜ (length (now c) ≤ 65535) × (length (now cells) ≡ 5460) ⌝ }
+    requires { ⌜ (length (now c) ≤ 65535) × Enough (length (now c)) (length (now cells)) ⌝ }
     ensures { λ r. ⌜ WalkedOver (now (c .entry)) (now (cells .exit)) r ⌝ }
 {
     let marks = tone_sound::marks();
@@ -276,13 +276,12 @@ fn hand_out(
     }
 }
 
-// Gets the tones out of a broken pack: a new pack of the messages that are kept, and a report.
-pub fn salvage(pack: &[u8], out: &mut [u8], report: &mut [u32]) -> Salvaging
-    ensures { λ r. ⌜ SalvagePromise (now (pack .entry)) (now (out .entry)) (now (report .entry)) (now (out .exit)) (now (report .exit)) r ⌝ }
+// Gets the tones out of what counts, by way of cells.
+fn get_out(c: &[u8], cells: &mut [u32], out: &mut [u8], report: &mut [u32]) -> Salvaging
+    requires { ⌜ (length (now c) ≤ 65535) × Enough (length (now c)) (length (now cells)) ⌝ }
+    ensures { λ r. ⌜ GetsOut (now (c .entry)) (now (out .entry)) (now (report .entry)) (now (out .exit)) (now (report .exit)) r ⌝ }
 {
-    let c = counting(pack);
-    let mut cells = [0u32; 5460];
-    match walk(c, &mut cells) {
+    match walk(c, cells) {
         Walked::TooLong => Salvaging::Refused {
             number: 1,
             place: BitPlace(0),
@@ -291,4 +290,22 @@ pub fn salvage(pack: &[u8], out: &mut [u8], report: &mut [u32]) -> Salvaging
             hand_out(c, &cells[0..messages], octets, out, report)
         }
     }
+}
+
+// Gets the tones out of a broken pack: a new pack of the messages that are kept, and a report. To clear cells takes time, so there
+// are few where the input is short.
+pub fn salvage(pack: &[u8], out: &mut [u8], report: &mut [u32]) -> Salvaging
+    ensures { λ r. ⌜ SalvagePromise (now (pack .entry)) (now (out .entry)) (now (report .entry)) (now (out .exit)) (now (report .exit)) r ⌝ }
+{
+    let c = counting(pack);
+    if c.len() <= 512 {
+        let mut cells = [0u32; 64];
+        return get_out(c, &mut cells, out, report);
+    }
+    if c.len() <= 4096 {
+        let mut cells = [0u32; 512];
+        return get_out(c, &mut cells, out, report);
+    }
+    let mut cells = [0u32; 5460];
+    get_out(c, &mut cells, out, report)
 }

@@ -7,7 +7,7 @@ use lib.ListN.{length}
 use Rattle.salvage.proofs.Walking.{Walking, walking}
 
 abbrev Inv-loop : tie.InvT-loop
-Inv-loop c cells₀ marks at₀ n₀ octets₀ cells at n octets = Walking c cells at n octets
+Inv-loop c cells₀ marks at₀ n₀ octets₀ cells at n octets = Walking c cells₀ cells at n octets
 
 abbrev μ-loop : tie.MeasureT-loop
 μ-loop c cells₀ marks at₀ n₀ octets₀ cells at n octets = length c - at
