@@ -34,6 +34,11 @@ module _ {A : Type 0} where
   sum-ahead (suc n) [] = refl
   sum-ahead (suc n) (s ∷ ss) = ap (λ (k : ℕ). length s + k) (sum-ahead n ss) ∙ sym (length-append s (join (take n ss)))
 
+  -- stretches behind stretches
+  pub join-append : (ss ts : List (List A)) → join (ss ++ ts) ≡ join ss ++ join ts
+  join-append [] ts = refl
+  join-append (s ∷ ss) ts = ap (λ (l : List A). s ++ l) (join-append ss ts) ∙ sym (append-assoc s (join ss) (join ts))
+
   -- ---- there and back
 
   -- joined again, they are the front of what was cut

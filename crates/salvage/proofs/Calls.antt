@@ -1,8 +1,8 @@
 -- What holds of the call: what it leaves in the buffers is what the rule keeps, and the calls on packs take it.
-use Prim.Native.Nat.{ℕ, _+_, _*_, _≤_, _<_}
+use Prim.Native.Nat.{ℕ, _+_, _≤_, _<_}
 use native.Mathlib.Omega.{arith}
-use mathlib.Core.Path.{_≡_, refl, sym, ap, ap₂, subst, _∙_}
-use mathlib.Core.List.{List, [], _++_}
+use mathlib.Core.Path.{_≡_, sym, ap, ap₂, subst, _∙_}
+use mathlib.Core.List.{List, []}
 use lib.ListN.{length, getD, take, length-map}
 use lib.Seq.{take-append-seam}
 use denote.Ref.{RefT, now}
@@ -15,11 +15,11 @@ use Rattle.tone.specs.Tone.{Tone}
 use Rattle.inside.specs.Inside.{sum}
 use Rattle.pack.specs.declared.Reading.{Reading}
 use Rattle.pack.specs.declared.Reading.the-variants.{Read}
-use Rattle.pack.specs.Pack.{mostPack, messagesOf, packOctets, Row, lengthsIn, rowsIn, readPack}
+use Rattle.pack.specs.Pack.{mostPack, packOctets, Row, lengthsIn, rowsIn, readPack}
 use Rattle.pack.specs.Promises.{ReadPromise, MessagePromise}
 use Rattle.pack.proofs.Calls.{read-of-pack, message-of-pack}
 use Rattle.salvage.specs.declared.Salvaging.the-variants.{Done}
-use Rattle.salvage.specs.Salvage.{counting, pieces, keptIn, skippedIn, stretchIn, stretchesIn, newPack, newReport, Salvaged, salvaged, intoRoom, salvage}
+use Rattle.salvage.specs.Salvage.{counting, pieces, keptIn, skippedIn, stretchIn, stretchesIn, newPack, newReport, Salvaged, salvaged}
 use Rattle.salvage.specs.Promises.{SalvagePromise}
 use Rattle.salvage.proofs.Pieces.{kept-and-skipped}
 use Rattle.salvage.proofs.Keeping.{new-pack-reads}

@@ -6,7 +6,6 @@ use mathlib.Core.Logic.{inl, inr}
 use mathlib.Core.List.{List, [], _∷_}
 use lib.ListN.{List·getD-map, length, getD, take, length-map}
 use lib.Seq.{take-all}
-use lib.Dec.{leb}
 use borrow.Author.Tests.{le-leb, lt-leb}
 use Rattle.bits.specs.Lent.{over}
 use Rattle.bits.specs.Outcome.{Outcome, accepted, refused}
@@ -20,7 +19,7 @@ use Rattle.salvage.specs.declared.Walked.{Walked}
 use Rattle.salvage.specs.declared.Walked.the-variants.{Kept, TooLong}
 use Rattle.salvage.specs.declared.Salvaging.{Salvaging}
 use Rattle.salvage.specs.declared.Salvaging.the-variants.{Done, Refused}
-use Rattle.salvage.specs.Salvage.{counting, pieces, skippedIn, stretchesIn, newPack, newReport, Salvaged, salvagedBy, salvaged, intoRoom, salvage}
+use Rattle.salvage.specs.Salvage.{counting, pieces, skippedIn, stretchesIn, newPack, newReport, Salvaged, salvagedBy, salvaged, intoRoom}
 use Rattle.salvage.specs.Answers.{rowOf, rowsOf, packSize, cellsSize, Stretches, allKept, KeptAll, Enough, KeptTooMuch, WalkedOver, HandsOut, GetsOut}
 use Rattle.salvage.specs.Promises.{Salvages, SalvagePromise}
 use Rattle.salvage.proofs.Putting.{length-rows, length-lengths, rows-long, stretches-long, length-newReport}

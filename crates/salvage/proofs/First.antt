@@ -1,29 +1,27 @@
 -- A sound pack yields its own messages as the first ones kept. Its rows may spell more.
-use Prim.Native.Nat.{ℕ, zero, suc, _+_, _-_, _*_, _≤_, _<_}
+use Prim.Native.Nat.{ℕ, _+_, _-_, _≤_}
 use native.Mathlib.Omega.{arith}
-use native.Mathlib.Nat.{zero-add}
-use mathlib.Core.Path.{_≡_, refl, sym, ap, ap₂, subst, _∙_}
-use mathlib.Core.Bool.{Bool, true, false}
+use mathlib.Core.Path.{_≡_, refl, sym, ap, ap₂, _∙_}
+use mathlib.Core.Bool.{true}
 use mathlib.Core.List.{List, [], _∷_, _++_, map}
-use lib.ListN.{length, take, drop, length-append, length-drop}
-use lib.Seq.{length-take-le, take-all, drop-drop, drop-append-add}
-use lib.Dec.{leb, eqb}
-use borrow.Author.Tests.{le-leb, leb-true, leb-false, eqb-true}
+use lib.ListN.{length, take, drop, length-drop}
+use lib.Seq.{length-take-le, take-all, drop-drop}
+use lib.Dec.{eqb}
+use borrow.Author.Tests.{le-leb, eqb-true}
 use Rattle.bits.specs.Outcome.{accepted}
-use Rattle.bits.specs.Choice.{pick}
 use Rattle.bits.proofs.Choice.{both}
 use Rattle.tone.specs.Tone.{Tone}
-use Rattle.tone.specs.Writing.{toneLength, WellFormed}
+use Rattle.tone.specs.Writing.{toneLength}
 use Rattle.tone.specs.Reading.{readTone, toneAt}
-use Rattle.tone.proofs.Demand2.{read-formed, read-well-formed, length-toneBits}
+use Rattle.tone.proofs.Demand2.{read-well-formed}
 use Rattle.tone.proofs.Largest.{octets-least}
-use Rattle.tone.proofs.Stretch.{reads-stretch, length-stretch}
-use Rattle.tone.proofs.Standing.{read-stands, stands-at, same-behind}
+use Rattle.tone.proofs.Stretch.{reads-stretch}
+use Rattle.tone.proofs.Standing.{read-stands, stands-at}
 use Rattle.inside.specs.Inside.{cut, sum}
-use Rattle.pack.specs.Pack.{mostPack, Row, lengthsIn, firstRow, count, rowsIn, messagesIn, continues, readInTurn, readPack}
-use Rattle.pack.proofs.Rules.{First, turn-first, Met, met}
+use Rattle.pack.specs.Pack.{mostPack, Row, lengthsIn, firstRow, rowsIn, continues, readInTurn, readPack}
+use Rattle.pack.proofs.Rules.{turn-first, met}
 use Rattle.pack.proofs.Turning.{continues-sum}
-use Rattle.salvage.specs.Salvage.{counting, messageAt, Piece, kept, skipped, taken, pieceAt, piecesFrom, pieces, keptIn, skippedIn}
+use Rattle.salvage.specs.Salvage.{counting, messageAt, Piece, kept, taken, pieceAt, piecesFrom, pieces, keptIn, skippedIn}
 use Rattle.salvage.proofs.Pieces.{piece-kept, onward, onward-next}
 
 -- ---- messages back to back

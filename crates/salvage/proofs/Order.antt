@@ -1,5 +1,5 @@
 -- The grounds of getting tones out, in 02's order, and what is enough to lend.
-use Prim.Native.Nat.{ℕ, _+_, _*_, _≤_, _<_}
+use Prim.Native.Nat.{ℕ, _≤_, _<_}
 use native.Mathlib.Omega.{arith}
 use mathlib.Core.Path.{_≡_, refl, subst}
 use mathlib.Core.Logic.{_⊎_, inl, inr, ⊎-elim, _↔_}
@@ -10,7 +10,7 @@ use lib.Dec.{leb}
 use borrow.Author.Tests.{le-leb, lt-leb, leb-true, leb-false}
 use Rattle.bits.specs.Outcome.{Outcome, accepted, refused, demand}
 use Rattle.pack.specs.Pack.{mostPack}
-use Rattle.salvage.specs.Salvage.{counting, pieces, keptIn, skippedIn, Salvaged, salvaged, intoRoom, salvage}
+use Rattle.salvage.specs.Salvage.{counting, pieces, skippedIn, Salvaged, salvaged, intoRoom, salvage}
 use Rattle.salvage.specs.Answers.{allKept}
 use Rattle.salvage.proofs.Pieces.{kept-least}
 use Rattle.salvage.proofs.Putting.{length-newReport}

@@ -1,19 +1,19 @@
 -- An input piece by piece: each message that is kept, and each octet that is skipped.
 use Prim.Native.Nat.{ℕ, zero, suc, _+_, _-_, _*_, _≤_, _<_}
 use native.Mathlib.Omega.{arith}
-use mathlib.Core.Path.{_≡_, refl, sym, ap, ap₂, subst, _∙_}
+use mathlib.Core.Path.{_≡_, refl, sym, ap, subst, _∙_}
 use mathlib.Core.Bool.{Bool, true, false}
-use mathlib.Core.List.{List, [], _∷_, _++_, map}
-use lib.ListN.{length, getD, take, length-take}
-use lib.Dec.{leb, eqb}
+use mathlib.Core.List.{List, [], _∷_}
+use lib.ListN.{length, getD}
+use lib.Dec.{leb}
 use borrow.Author.Tests.{le-leb, lt-leb, leb-true, leb-false, eq-eqb, ne-eqb}
 use Rattle.bits.specs.Choice.{pick}
 use Rattle.bits.proofs.Choice.{pick-elim}
 use Rattle.tone.specs.Reading.{toneAt}
 use Rattle.tone.proofs.Standing.{Stands, at-stands, at-inside, at-least}
-use Rattle.inside.specs.Inside.{join, sum}
-use Rattle.pack.specs.Pack.{mostPack, Row, lengthsIn}
-use Rattle.salvage.specs.Salvage.{counting, messageAt, Piece, kept, skipped, taken, pieceAt, piecesFrom, pieces, keptIn, skippedIn}
+use Rattle.inside.specs.Inside.{sum}
+use Rattle.pack.specs.Pack.{Row, lengthsIn}
+use Rattle.salvage.specs.Salvage.{messageAt, Piece, kept, skipped, taken, pieceAt, piecesFrom, pieces, keptIn, skippedIn}
 
 -- ---- a message at an octet
 

@@ -1,10 +1,10 @@
 -- What filling leaves in the lent buffers: the new pack, and the report.
-use Prim.Native.Nat.{ℕ, zero, suc, _+_, _-_, _*_, _/_, _%_, _^_, _≤_, _<_}
+use Prim.Native.Nat.{ℕ, zero, suc, _+_, _-_, _*_, _/_, _%_, _≤_, _<_}
 use native.Mathlib.Omega.{arith}
 use native.Mathlib.Numerals.{add-one}
 use native.Mathlib.Nat.{zero-add}
 use mathlib.Core.Path.{_≡_, refl, sym, ap, ap₂, subst, _∙_}
-use mathlib.Core.List.{List, [], _∷_, _++_, map, append-assoc, append-nil}
+use mathlib.Core.List.{List, [], _∷_, _++_, append-assoc, append-nil}
 use lib.ListN.{List·getD-map, length, getD, take, drop, set, length-append, length-map, length-set, length-drop, take-append-drop, drop-of-length-le}
 use lib.Seq.{sets, length-sets, sets-eq, drop-cons, length-take-le, take-suc, take-all, take-append-seam, drop-append-seam, drop-drop}
 use borrow.Rule.Slice.PartMut.{putMid}
@@ -12,7 +12,7 @@ use mir.Val.{Fits}
 use mir.Syntax.{w32, w64}
 use Rattle.bits.specs.Lent.{over}
 use Rattle.inside.specs.Inside.{pair, join, lengths, sum}
-use Rattle.inside.proofs.Stretches.{length-join}
+use Rattle.inside.proofs.Stretches.{length-join, join-append}
 use Rattle.pack.specs.Pack.{packOf, packLength, Row, lengthsIn, rowsFrom}
 use Rattle.pack.proofs.Filling.{sets-append, Rowing, rowing-begin, rowing-end, rowing-room, rowing-start, rowing-fits, rowing-turn, filled-pack}
 use Rattle.pack.proofs.Rules.{length-packOf}
@@ -67,10 +67,6 @@ stretches-long c (x ∷ cells) s =
     ap₂ (λ (n : ℕ) (ns : List ℕ). n ∷ ns) (stretch-long c (rowOf x) (s .each 0 (omega arith))) (stretches-long c cells (record { each = λ i h. s .each (suc i) (omega arith) }))
 
 -- ---- stretches joined
-
-pub join-append : {A : Type 0} (ss ts : List (List A)) → join (ss ++ ts) ≡ join ss ++ join ts
-join-append [] ts = refl
-join-append {A} (s ∷ ss) ts = ap (λ (l : List A). s ++ l) (join-append ss ts) ∙ sym (append-assoc s (join ss) (join ts))
 
 -- one stretch more
 join-more : {A : Type 0} (ss : List (List A)) (i : ℕ) → i < length ss → join (take (i + 1) ss) ≡ join (take i ss) ++ getD ss i []

@@ -1,29 +1,25 @@
 -- What going through an input keeps: the messages so far, and those still ahead.
-use Prim.Native.Nat.{ℕ, zero, suc, _+_, _-_, _*_, _/_, _%_, _^_, _≤_, _<_}
+use Prim.Native.Nat.{ℕ, zero, suc, _+_, _-_, _*_, _/_, _%_, _≤_, _<_}
 use native.Mathlib.Omega.{arith}
 use native.Mathlib.Numerals.{add-one}
 use mathlib.Core.Path.{_≡_, refl, sym, ap, ap₂, subst, _∙_}
 use mathlib.Core.Logic.{⊎-elim}
-use mathlib.Core.List.{List, [], _∷_, _++_, map, append-assoc, append-nil}
-use lib.ListN.{length, getD, take, set, length-append, length-map, length-set}
+use mathlib.Core.List.{List, [], _∷_, _++_, map-append, append-assoc, append-nil}
+use lib.ListN.{length, take, set, length-append, length-map, length-set}
 use lib.Seq.{length-take-le, take-suc-set}
 use mir.Val.{Fits}
-use mir.Syntax.{w32, w64}
+use mir.Syntax.{w64}
 use Rattle.inside.specs.Inside.{sum}
 use Rattle.pack.specs.Pack.{mostPack, Row, lengthsIn}
-use Rattle.salvage.specs.Salvage.{messageAt, Piece, kept, skipped, taken, pieceAt, piecesFrom, pieces, keptIn}
+use Rattle.salvage.specs.Salvage.{messageAt, Piece, kept, skipped, taken, piecesFrom, pieces, keptIn}
 use Rattle.salvage.specs.Answers.{Passed, rowOf, rowsOf, packSize, Enough, allKept, KeptAll, KeptTooMuch}
 use Rattle.salvage.proofs.Pieces.{message-inside, message-least, message-most, piece-skipped, piece-kept, onward, onward-next, onward-end}
 
 -- ---- rows behind rows
 
-pub sum-rows : (rs qs : List Row) → sum (lengthsIn (rs ++ qs)) ≡ sum (lengthsIn rs) + sum (lengthsIn qs)
+sum-rows : (rs qs : List Row) → sum (lengthsIn (rs ++ qs)) ≡ sum (lengthsIn rs) + sum (lengthsIn qs)
 sum-rows [] qs = omega arith
 sum-rows (r ∷ rs) qs = omega (arith, sum-rows rs qs)
-
-pub map-append : {A B : Type 0} (f : A → B) (l r : List A) → map f (l ++ r) ≡ map f l ++ map f r
-map-append f [] r = refl
-map-append {B = B} f (x ∷ l) r = ap (λ (ys : List B). f x ∷ ys) (map-append f l r)
 
 -- ---- octets that are passed
 

@@ -6,7 +6,6 @@ use mathlib.Core.List.{List, map}
 use lib.ListN.{length, getD, take}
 use lib.Dec.{eqb}
 use Rattle.bits.specs.Choice.{pick}
-use Rattle.bits.specs.declared.OctetCount.{OctetCount}
 use Rattle.inside.specs.Inside.{sum}
 use Rattle.pack.specs.Pack.{mostPack, Row, lengthsIn}
 use Rattle.salvage.specs.declared.Salvaging.{Salvaging}

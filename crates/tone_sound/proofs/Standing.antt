@@ -1,12 +1,12 @@
 -- A tone that was gone over from its front to its end stands there, and where one stands, it was.
 use Prim.Native.Nat.{ℕ, _+_, _-_, _*_, _/_, _%_, _^_, _≤_, _<_}
 use native.Mathlib.Omega.{arith}
-use native.Mathlib.Nat.{zero-div, zero-mod}
+use native.Mathlib.Nat.{zero-div}
 use mathlib.Core.Path.{_≡_, refl, sym, ap, subst, _∙_}
 use mathlib.Core.Bool.{Bool, true, false, not}
 use mathlib.Core.List.{List}
 use lib.ListN.{length, drop}
-use lib.Dec.{eqb, leb, lit<}
+use lib.Dec.{eqb, lit<}
 use lib.Pow.{shr-shr, shr-mod}
 use borrow.Author.Tests.{eqb-true}
 use Rattle.bits.specs.Bits.{bitsOf, placeAfter, octetsTo, fillerTo}
@@ -20,8 +20,7 @@ use Rattle.tone.proofs.Rows.{header-exact, header-wide, body-exact, patterns-ex
 use Rattle.tone_elements.specs.Answers.{Within, allKnown}
 use Rattle.tone_elements.proofs.Steps.{step-there, onward-got, onward-made}
 use Rattle.tone_elements.proofs.Openings.{ending-told}
-use Rattle.tone_elements.proofs.Walks.{stays}
-use Rattle.tone_sound.specs.Answers.{Tells, PatternsPast, PatternsStand, FrontAt, FrontStands, Starts, SongPast, ToneFrom}
+use Rattle.tone_sound.specs.Answers.{Tells, PatternsPast, PatternsStand, FrontAt, Starts, SongPast, ToneFrom}
 use Rattle.tone_sound.proofs.Dues.{element-read, element-seen}
 use Rattle.tone_sound.proofs.Bodies.{nothing-sure, nowhere, was-sure}
 use Rattle.tone_sound.proofs.Rows.{first-of}

@@ -7,7 +7,7 @@ use lib.ListN.{length, drop}
 use Rattle.bits.specs.Bits.{bitsOf, placeAfter}
 use Rattle.bits.specs.Window.{Sight}
 use Rattle.tone.specs.Tone.{Pattern, Tone, Front, noneKnown}
-use Rattle.tone.specs.Reading.{Reader, got, command, front as frontDue, bodyDue, patternsDue, ending, wholeTone}
+use Rattle.tone.specs.Reading.{Reader, got, command, front as frontDue, bodyDue, patternsDue, wholeTone}
 use Rattle.tone_sound.specs.declared.Told.{Told}
 use Rattle.tone_sound.specs.Turning.{turn, clear, Mark, widthIn, along, AllClear}
 

@@ -4,7 +4,6 @@ use Rattle.salvage.proofs.put_rows.Statement.{statement}
 use Rattle.salvage.proofs.put_rows.Tie as tie
 use Prim.Native.Nat.{_-_}
 use lib.ListN.{length}
-use Rattle.inside.specs.Inside.{sum}
 use Rattle.pack.specs.Pack.{lengthsIn}
 use Rattle.pack.proofs.Filling.{Rowing}
 use Rattle.salvage.specs.Answers.{rowsOf}
