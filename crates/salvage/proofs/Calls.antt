@@ -22,7 +22,7 @@ use Rattle.salvage.specs.declared.Salvaging.the-variants.{Done}
 use Rattle.salvage.specs.Salvage.{counting, pieces, keptIn, skippedIn, stretchIn, stretchesIn, newPack, newReport, Salvaged, salvaged}
 use Rattle.salvage.specs.Promises.{SalvagePromise}
 use Rattle.salvage.proofs.Pieces.{kept-and-skipped}
-use Rattle.salvage.proofs.Keeping.{new-pack-reads}
+use Rattle.salvage.proofs.Keeping.{PackReads, new-pack-reads}
 use Rattle.salvage.proofs.First.{sound-counts, sound-pack-first}
 use Rattle.salvage.proofs.Order.{room-says, RoomSays}
 use Rattle.salvage.proofs.Unique.{Came, salvage-says}
@@ -69,22 +69,25 @@ module _ (p out report out′ report′ : List ℕ) {k : ℕ} {o s : OctetCount}
       ap (take (length r)) (came .reported ∙ ap (λ (x : List ℕ). over x report) e) ∙ take-append-seam r _
 
   module _ (octets : Octets p) where
+    -- what the new pack reads as: as many tones as messages are kept
+    new : PackReads c rs
+    unfolding salvaged
+    new = new-pack-reads c (octets-take mostPack p octets) (came-is .1)
+
+    there : take (o .0) out′ ≡ packOctets (new .tones)
+    there = pack-there ∙ sym (new .written)
+
+    many : length (new .tones) ≡ k
+    many = sym (length-map (new .tones) _) ∙ ap length (new .those) ∙ length-map rs (stretchIn c) ∙ sym messages-kept
+
     -- the new pack reads, with as many messages
     pub pack-reads : {r : Reading} → ReadPromise (take (o .0) out′) r → r ≡ Read k
-    unfolding salvaged
-    pack-reads {r} q =
-        let w = new-pack-reads c (octets-take mostPack p octets) (came-is .1) in
-        let e : take (o .0) out′ ≡ packOctets (w .tones) = pack-there ∙ sym (w .written) in
-        let n : length (w .tones) ≡ k = sym (length-map (w .tones) _) ∙ ap length (w .those) ∙ length-map rs (stretchIn c) ∙ sym messages-kept in
-        read-of-pack (w .tones) (w .packable) (subst (λ (l : List ℕ). ReadPromise l r) e q) ∙ ap Read n
+    pack-reads {r} q = read-of-pack (new .tones) (new .packable) (subst (λ (l : List ℕ). ReadPromise l r) there q) ∙ ap Read many
 
     -- and its messages are the ones that are kept
     pub pack-messages : (b r : RefT (List ℕ)) (n : ℕ) → now b ≡ take (o .0) out′ → n < k → MessagePromise b n r → now r ≡ getD (stretchesIn (counting p) (keptIn (pieces (counting p)))) n []
-    unfolding salvaged
     pack-messages b r n e i q =
-        let w = new-pack-reads c (octets-take mostPack p octets) (came-is .1) in
-        let m : length (w .tones) ≡ k = sym (length-map (w .tones) _) ∙ ap length (w .those) ∙ length-map rs (stretchIn c) ∙ sym messages-kept in
-        message-of-pack (w .tones) (w .packable) n (omega (arith, i, m)) b r (e ∙ pack-there ∙ sym (w .written)) q .0 ∙ ap (λ (ms : List (List ℕ)). getD ms n []) (w .those)
+        message-of-pack (new .tones) (new .packable) n (omega (arith, i, many)) b r (e ∙ there) q .0 ∙ ap (λ (ms : List (List ℕ)). getD ms n []) (new .those)
 
 -- a sound pack, if it is not refused, yields its own messages as the first ones
 pub sound-pack-comes-first : (p out report out′ report′ : List ℕ) {k : ℕ} {o s : OctetCount} {ts : List Tone} → SalvagePromise p out report out′ report′ (Done k o s) → readPack p ≡ accepted ts

@@ -7,6 +7,7 @@ use Rattle.bits.specs.Outcome.{accepted, refused}
 use Rattle.tone.specs.Reading.{toneAt}
 use Rattle.pack.specs.Samples.{p1, p3, messages, pack}
 use Rattle.salvage.specs.Salvage.{counting, messageAt, Salvaged, intoRoom, salvage}
+use Rattle.salvage.specs.Promises.{salvageNumbers}
 
 -- with room for both, an input gives so many messages, octets that are skipped, this pack and this report
 abbrev pub gives : List ℕ → ℕ → ℕ → List ℕ → List ℕ → Type 0
@@ -58,6 +59,8 @@ pub record SalvageSamples : Type 0 where
   -- no room: 11 for the pack, 11 for the report
   pub justRoom : salvage pack 31 7 ≡ accepted (record { messages = 2; skips = 12; pack = pack; report = 0 ∷ 0 ∷ 10 ∷ 10 ∷ 10 ∷ 9 ∷ 12 ∷ [] })
   pub noRoomForPack : salvage pack 30 7 ≡ refused 11 0
+  pub numbers : salvageNumbers (salvage pack 31 7) ≡ record { refusal = 0; place = 0; messages = 2; octets = 31; skipped = 12 }
+  pub noNumbers : salvageNumbers (salvage pack 30 7) ≡ record { refusal = 11; place = 0; messages = 0; octets = 0; skipped = 0 }
   pub noRoomForReport : salvage pack 31 6 ≡ refused 11 0
   pub noRoomForNone : salvage [] 3 1 ≡ refused 11 0
   pub noRoomForNumber : salvage [] 4 0 ≡ refused 11 0
