@@ -11,9 +11,7 @@
  *
  * Checks. Both must answer alike and leave the same octets. A refusal must
  * leave all as it was. What was read must write again, what an edit lists must
- * be the list of its octets, and a deletion must undo an insertion. A place table must
- * have the place of each header and its entry. With one beside the message an edit must
- * do what it does without, and leave the table of its octets. The origin of
+ * be the list of its octets, and a deletion must undo an insertion. The origin of
  * an entry must lead through the table to the note listed. An endless part that
  * sounds once and is then recalled for ever must go on as it did before.
  * A title that was read or written must have no refused character. An icon and a
@@ -49,13 +47,6 @@ struct ohakelm_edited guide_replace(uint8_t *, size_t, size_t, size_t, size_t, u
 struct ohakelm_edited guide_insert(uint8_t *, size_t, size_t, size_t, size_t, uint32_t,
                                    uint32_t *, size_t);
 struct ohakelm_edited guide_delete(uint8_t *, size_t, size_t, size_t, size_t, uint32_t *, size_t);
-struct ohakelm_placed guide_places(const uint8_t *, size_t, uint32_t *, size_t);
-struct ohakelm_edited guide_replace_with_places(uint8_t *, size_t, size_t, size_t, size_t,
-                                                uint32_t, uint32_t *, size_t, uint32_t *, size_t);
-struct ohakelm_edited guide_insert_with_places(uint8_t *, size_t, size_t, size_t, size_t,
-                                               uint32_t, uint32_t *, size_t, uint32_t *, size_t);
-struct ohakelm_edited guide_delete_with_places(uint8_t *, size_t, size_t, size_t, size_t,
-                                               uint32_t *, size_t, uint32_t *, size_t);
 struct ohakelm_pack guide_pack_read(const uint8_t *, size_t);
 struct ohakelm_stretch guide_pack_message(const uint8_t *, size_t, uint32_t);
 struct ohakelm_written guide_pack_write(const uint8_t *, size_t, const uint32_t *, size_t,
@@ -115,11 +106,6 @@ static bool same_edited(struct ohakelm_edited a, struct ohakelm_edited b)
 {
     return a.refusal == b.refusal && a.place == b.place && a.length == b.length &&
            a.entries == b.entries && a.mark == b.mark && a.change == b.change;
-}
-
-static bool same_placed(struct ohakelm_placed a, struct ohakelm_placed b)
-{
-    return a.refusal == b.refusal && a.place == b.place && a.headers == b.headers;
 }
 
 static bool same_pack(struct ohakelm_pack a, struct ohakelm_pack b)
@@ -611,68 +597,35 @@ static void check_undone(struct ohakelm_edited done, size_t used, size_t pattern
     check(memcmp(first.ours, first.before, used) == 0, "it brings the octets back");
 }
 
-/* An edit: 0 replaces, 1 inserts, 2 deletes. */
-struct edit {
-    unsigned kind;
-    size_t pattern, instruction, used, room, list_room;
-    uint32_t entry;
-    size_t more;
-};
-
-/* What an edit takes but for the message. */
-static struct edit take_edit(struct input *in, unsigned kind)
-{
-    struct edit edit = {.kind = kind};
-    edit.pattern = take(in, 1);
-    edit.instruction = take(in, 1);
-    uint32_t kind_of_entry = take(in, 1);
-    edit.entry = kind_of_entry * 65536 + take(in, 2);
-    edit.more = take(in, 1) % 8;
-    edit.list_room = take_room(in, AMPLE_LIST);
-    return edit;
-}
-
-/* The rest of the input is the message, and room for its list is lent. */
-static void take_edited(struct input *in, struct edit *edit)
-{
-    edit->used = in->left < 8192 ? in->left : 8192;
-    /* Now and then the buffer ends ahead of the used length. */
-    edit->room = edit->more == 7 ? edit->used / 2 : edit->used + edit->more;
-    lend(&first, edit->room, in->at, edit->used);
-    lend(&second, 4 * edit->list_room, NULL, 0);
-}
-
-/* Makes an edit without a table. */
-static struct ohakelm_edited edited(struct edit e, uint8_t *buf, uint32_t *list)
-{
-    if (e.kind == 0)
-        return ohakelm_replace(buf, e.room, e.used, e.pattern, e.instruction, e.entry, list,
-                               e.list_room);
-    if (e.kind == 1)
-        return ohakelm_insert(buf, e.room, e.used, e.pattern, e.instruction, e.entry, list,
-                              e.list_room);
-    return ohakelm_delete(buf, e.room, e.used, e.pattern, e.instruction, list, e.list_room);
-}
-
-static struct ohakelm_edited guide_edited(struct edit e)
-{
-    uint8_t *buf = first.theirs;
-    uint32_t *list = words(second.theirs);
-    if (e.kind == 0)
-        return guide_replace(buf, e.room, e.used, e.pattern, e.instruction, e.entry, list,
-                             e.list_room);
-    if (e.kind == 1)
-        return guide_insert(buf, e.room, e.used, e.pattern, e.instruction, e.entry, list,
-                            e.list_room);
-    return guide_delete(buf, e.room, e.used, e.pattern, e.instruction, list, e.list_room);
-}
-
 static void fuzz_edit(struct input *in, unsigned kind)
 {
-    struct edit edit = take_edit(in, kind);
-    take_edited(in, &edit);
-    struct ohakelm_edited done = edited(edit, given(&first), words(given(&second)));
-    struct ohakelm_edited other = guide_edited(edit);
+    size_t pattern = take(in, 1);
+    size_t instruction = take(in, 1);
+    uint32_t kind_of_entry = take(in, 1);
+    uint32_t entry = kind_of_entry * 65536 + take(in, 2);
+    size_t more = take(in, 1) % 8;
+    size_t list_room = take_room(in, AMPLE_LIST);
+    size_t used = in->left < 8192 ? in->left : 8192;
+    /* Now and then the buffer ends ahead of the used length. */
+    size_t room = more == 7 ? used / 2 : used + more;
+    lend(&first, room, in->at, used);
+    lend(&second, 4 * list_room, NULL, 0);
+    uint8_t *buf = given(&first);
+    uint32_t *list = words(given(&second)), *their_list = words(second.theirs);
+    struct ohakelm_edited done, other;
+    if (kind == 0) {
+        done = ohakelm_replace(buf, room, used, pattern, instruction, entry, list, list_room);
+        other = guide_replace(first.theirs, room, used, pattern, instruction, entry, their_list,
+                              list_room);
+    } else if (kind == 1) {
+        done = ohakelm_insert(buf, room, used, pattern, instruction, entry, list, list_room);
+        other = guide_insert(first.theirs, room, used, pattern, instruction, entry, their_list,
+                             list_room);
+    } else {
+        done = ohakelm_delete(buf, room, used, pattern, instruction, list, list_room);
+        other =
+            guide_delete(first.theirs, room, used, pattern, instruction, their_list, list_room);
+    }
     check(same_edited(done, other), "both edit alike");
     check_lent(&first);
     check_lent(&second);
@@ -683,163 +636,7 @@ static void fuzz_edit(struct input *in, unsigned kind)
     }
     check_list_of(done);
     if (kind == 1)
-        check_undone(done, edit.used, edit.pattern, edit.instruction);
-}
-
-/* Each header of the message's table has its row, and the widths of what is ahead of it
- * add up to its place. */
-static void check_places(const uint8_t *msg, size_t count, const uint32_t *places,
-                         size_t headers)
-{
-    static const uint32_t widths[6] = {17, 12, 5, 5, 8, 7};
-    static uint32_t table[AMPLE_TABLE];
-    static uint8_t title[OHAKELM_LARGEST_TITLE];
-    struct ohakelm_tone tone = ohakelm_read(msg, count, table, AMPLE_TABLE, title, sizeof title);
-    check(tone.refusal == 0 && tone.patterns == headers, "each header has a row");
-    /* Commands, song type, title and pattern count are ahead of the first one. */
-    size_t place = (tone.unicode ? 31 : 23) + 3 + 8;
-    if (tone.song == OHAKELM_BASIC)
-        place += 4 + tone.characters * (tone.unicode ? 16 : 8);
-    for (size_t i = 0; i < tone.entries; i++) {
-        uint32_t kind = OHAKELM_KIND(table[i]);
-        if (kind == OHAKELM_KIND_HEADER) {
-            check(places[0] == place, "a header is at its place");
-            check(places[1] == table[i], "a row has the header's entry");
-            places += OHAKELM_PLACE_CELLS;
-        }
-        place += widths[kind];
-    }
-}
-
-static void fuzz_places(struct input *in)
-{
-    size_t room = take_room(in, OHAKELM_LARGEST_PLACES + 1);
-    size_t count = take_rest(in);
-    lend(&second, 4 * room, NULL, 0);
-    struct ohakelm_placed made = ohakelm_places(given(&first), count, words(given(&second)), room);
-    struct ohakelm_placed other = guide_places(first.theirs, count, words(second.theirs), room);
-    check(same_placed(made, other), "both make place tables alike");
-    check_lent(&first);
-    check_lent(&second);
-    if (made.refusal != 0) {
-        check_untouched(&second);
-        return;
-    }
-    check_places(first.ours, count, words(second.ours), made.headers);
-    size_t filled = 4 * OHAKELM_PLACE_CELLS * made.headers;
-    check(memcmp(second.ours + filled, second.before + filled, second.octets - filled) == 0,
-          "numbers behind the rows stay");
-}
-
-/* Lends a table for an edit of the rest of the input: the message's own, with fewer numbers
- * or more, or with one that is spoilt; or numbers of the input. */
-static size_t take_places(struct input *in)
-{
-    static uint32_t table[OHAKELM_LARGEST_PLACES + 16];
-    uint32_t shape = take(in, 1);
-    size_t spoilt = take(in, 1), numbers = 0, fewer = shape / 4 % 4, more = shape / 16 % 4;
-    uint32_t change = shape % 4 == 2 ? take(in, 2) : 0;
-    if (shape % 4 == 3) {
-        for (; numbers < spoilt % 16; numbers++)
-            table[numbers] = take(in, 2);
-    } else {
-        numbers = OHAKELM_PLACE_CELLS *
-                  ohakelm_places(in->at, in->left, table, OHAKELM_LARGEST_PLACES).headers;
-        if (spoilt < numbers)
-            table[spoilt] ^= change;
-    }
-    numbers -= fewer < numbers ? fewer : numbers;
-    for (; more > 0; more--)
-        table[numbers++] = 0xA5A50000u + shape;
-    lend(&third, 4 * numbers, (const uint8_t *)table, 4 * numbers);
-    return numbers;
-}
-
-/* The table that an edit left is the one made from its octets, and what is behind it is as
- * it was. Rows up to the pattern keep their places, and all later ones move alike. */
-static void check_table_of(struct ohakelm_edited done, size_t pattern)
-{
-    static uint32_t again[OHAKELM_LARGEST_PLACES];
-    const uint32_t *new = words(third.ours), *old = words(third.before);
-    struct ohakelm_placed made =
-        ohakelm_places(first.ours, done.length, again, OHAKELM_LARGEST_PLACES);
-    size_t filled = 4 * OHAKELM_PLACE_CELLS * made.headers;
-    check(made.refusal == 0 && filled <= third.octets, "there is a row for each header");
-    check(memcmp(again, new, filled) == 0, "an edit's table is that of its octets");
-    check(memcmp(third.ours + filled, third.before + filled, third.octets - filled) == 0,
-          "numbers behind the rows stay");
-    check_places(first.ours, done.length, new, made.headers);
-    uint32_t further = 0;
-    for (size_t i = 0; i < made.headers; i++) {
-        size_t at = OHAKELM_PLACE_CELLS * i;
-        if (i == pattern + 1)
-            further = new[at] - old[at];
-        check(new[at] == old[at] + further, "later rows move by one width");
-    }
-}
-
-/* Buffer, list and answer are those of the edit without a table. */
-static void check_as_without(struct edit edit, struct ohakelm_edited done)
-{
-    static uint8_t buf[LARGEST];
-    static uint32_t list[LARGEST / 4];
-    memcpy(buf, first.before, first.octets);
-    memcpy(list, second.before, second.octets);
-    struct ohakelm_edited plain = edited(edit, buf, list);
-    check(same_edited(done, plain), "an edit answers alike without a table");
-    check(memcmp(buf, first.ours, first.octets) == 0, "it leaves the same octets");
-    check(memcmp(list, second.ours, second.octets) == 0, "it leaves the same list");
-}
-
-/* Makes an edit with the table in the third buffer. */
-static struct ohakelm_edited edited_with_places(struct edit e, size_t numbers)
-{
-    uint8_t *buf = given(&first);
-    uint32_t *list = words(given(&second)), *places = words(given(&third));
-    if (e.kind == 0)
-        return ohakelm_replace_with_places(buf, e.room, e.used, e.pattern, e.instruction, e.entry,
-                                           list, e.list_room, places, numbers);
-    if (e.kind == 1)
-        return ohakelm_insert_with_places(buf, e.room, e.used, e.pattern, e.instruction, e.entry,
-                                          list, e.list_room, places, numbers);
-    return ohakelm_delete_with_places(buf, e.room, e.used, e.pattern, e.instruction, list,
-                                      e.list_room, places, numbers);
-}
-
-static struct ohakelm_edited guide_edited_with_places(struct edit e, size_t numbers)
-{
-    uint8_t *buf = first.theirs;
-    uint32_t *list = words(second.theirs), *places = words(third.theirs);
-    if (e.kind == 0)
-        return guide_replace_with_places(buf, e.room, e.used, e.pattern, e.instruction, e.entry,
-                                         list, e.list_room, places, numbers);
-    if (e.kind == 1)
-        return guide_insert_with_places(buf, e.room, e.used, e.pattern, e.instruction, e.entry,
-                                        list, e.list_room, places, numbers);
-    return guide_delete_with_places(buf, e.room, e.used, e.pattern, e.instruction, list,
-                                    e.list_room, places, numbers);
-}
-
-static void fuzz_edit_with_places(struct input *in, unsigned kind)
-{
-    struct edit edit = take_edit(in, kind);
-    size_t numbers = take_places(in);
-    take_edited(in, &edit);
-    struct ohakelm_edited done = edited_with_places(edit, numbers);
-    struct ohakelm_edited other = guide_edited_with_places(edit, numbers);
-    check(same_edited(done, other), "both edit alike with a table");
-    check_lent(&first);
-    check_lent(&second);
-    check_lent(&third);
-    if (done.refusal != 0) {
-        check_untouched(&first);
-        check_untouched(&second);
-        check_untouched(&third);
-        return;
-    }
-    check_list_of(done);
-    check_table_of(done, edit.pattern);
-    check_as_without(edit, done);
+        check_undone(done, used, pattern, instruction);
 }
 
 #define AMPLE_LENGTHS 2048
@@ -1240,8 +1037,8 @@ int LLVMFuzzerTestOneInput(const uint8_t *data, size_t size)
 {
     struct input in = {data, size};
     uint32_t number = take(&in, 1);
-    null_for_nothing = number / 22 % 2 == 1;
-    switch (number % 22) {
+    null_for_nothing = number / 18 % 2 == 1;
+    switch (number % 18) {
     case 0: fuzz_read(&in); break;
     case 1: fuzz_write(&in); break;
     case 2: fuzz_label(&in); break;
@@ -1259,11 +1056,7 @@ int LLVMFuzzerTestOneInput(const uint8_t *data, size_t size)
     case 14: fuzz_pack_read(&in); break;
     case 15: fuzz_pack_message(&in); break;
     case 16: fuzz_pack_write(&in); break;
-    case 17: fuzz_pack_salvage(&in); break;
-    case 18: fuzz_places(&in); break;
-    case 19: fuzz_edit_with_places(&in, 0); break;
-    case 20: fuzz_edit_with_places(&in, 1); break;
-    default: fuzz_edit_with_places(&in, 2); break;
+    default: fuzz_pack_salvage(&in); break;
     }
     return 0;
 }

@@ -77,15 +77,6 @@
  * later pass is like the second, its durations too. Where a pass has no note
  * and no pause, there is no entry to return to, and no mark.
  *
- * A PLACE TABLE tells an editor where each part of a message is. It has two
- * numbers, a row, for each header, in the order of the message: the place of
- * the bit where the header's 000 begins, counted from the message's first bit,
- * and the header's table entry, id * 4096 + loop * 256 + count. The count is
- * that of its own instructions, and a recall has none. Row `k` is that of the
- * header at position `k`, and begins at places[OHAKELM_PLACE_CELLS * k]. Keep
- * the table beside the message and hand both to the edits with places: these
- * leave the new message with its own table.
- *
  * A PACK has tone messages back to back from octet 0. Behind them is a row for
  * each message, in the same order: two octets of start and two of length. Then
  * two octets say how many messages there are, and the last two where the first
@@ -124,8 +115,8 @@ extern "C" {
  * refusal or a rule is new or another; CHANGELOG.md says what a caller must
  * change then. The third is raised where none is. A header goes with an archive
  * of the same first two numbers. */
-#define OHAKELM_VERSION_STRING "0.11.0"
-#define OHAKELM_VERSION 1100 /* first * 10000 + second * 100 + third */
+#define OHAKELM_VERSION_STRING "0.10.0"
+#define OHAKELM_VERSION 1000 /* first * 10000 + second * 100 + third */
 
 /* Answers the OHAKELM_VERSION of the archive that is linked. */
 uint32_t ohakelm_version(void);
@@ -169,8 +160,7 @@ uint32_t ohakelm_version(void);
          "first row start, rows and four octets do not add up to the pack")    \
     ITEM(27, OHAKELM_PACK_ROWS,                                                \
          "a row that does not continue the one before, or lengths that do "    \
-         "not add up")                                                         \
-    ITEM(28, OHAKELM_PLACE_TABLE, "a place table that is not this message's")
+         "not add up")
 
 /* OHAKELM_TOO_LONG is 1, and so on. 19 is no longer given, and no other refusal
  * takes it: it stood for a duration above 32 bits, and it is proved that no
@@ -212,22 +202,19 @@ static inline const char *ohakelm_words(uint32_t refusal)
 #define OHAKELM_LARGEST_LOGO 7932
 #define OHAKELM_LARGEST_PACK 65535
 #define OHAKELM_LARGEST_REPORT 16381 /* numbers: 5,460 messages, and one */
-#define OHAKELM_LARGEST_PLACES 510   /* numbers: 255 headers, two each */
 
 /* The largest list is that of a part of 255 notes with 254 recalls, all with
  * loop 14, and takes 11.7 million octets; an endless part adds two passes only.
  * Where that is too much to lend, lend what a tone is to have: OHAKELM_NO_ROOM
  * then says that one has more. */
 
-/* How many octets of stack a call needs at most, those of memmove and memset
- * not counted: getting messages out of a broken pack; the edits, with places
- * too; making a place table; the other calls of packs; reading, writing and
- * listing a tone; all others. */
+/* How many octets of stack a call needs at most, those of memmove and memset not
+ * counted: getting messages out of a broken pack; the edits; the other calls of
+ * packs; reading, writing and listing a tone; all others. */
 #define OHAKELM_STACK_SALVAGE 24576
 #define OHAKELM_STACK_EDITS 6144
-#define OHAKELM_STACK_PLACES 4096
 #define OHAKELM_STACK_PACKS 2048
-#define OHAKELM_STACK_TONES 1280
+#define OHAKELM_STACK_TONES 1024
 #define OHAKELM_STACK_OTHERS 512
 
 /* ---- Table entries and list entries */
@@ -268,10 +255,6 @@ enum ohakelm_kind {
 
 /* How many numbers of a list an entry takes. */
 #define OHAKELM_ENTRY_CELLS 3
-
-/* How many numbers of a place table a row takes. The second one is a header, to
- * be taken apart as such. */
-#define OHAKELM_PLACE_CELLS 2
 
 /* The first number of a list's entry taken apart. */
 #define OHAKELM_LISTED_NOTE(first) ((first) / 1024u)
@@ -326,12 +309,6 @@ struct ohakelm_edited {
     size_t entries; /* entries of the new list */
     uint32_t mark;  /* the entry to return to, or OHAKELM_NO_MARK */
     int32_t change; /* the new length minus the old one */
-};
-
-struct ohakelm_placed {
-    uint32_t refusal;
-    size_t place;
-    size_t headers; /* how many rows the table has */
 };
 
 struct ohakelm_pack {
@@ -462,54 +439,6 @@ struct ohakelm_edited ohakelm_insert(uint8_t *buf, size_t buf_len, size_t used,
 struct ohakelm_edited ohakelm_delete(uint8_t *buf, size_t buf_len, size_t used,
                                      size_t pattern, size_t instruction,
                                      uint32_t *list, size_t list_len);
-
-/* ---- Place tables */
-
-/* Makes the place table of a tone message. Fills the front of `places`, two
- * numbers a header. `places_len` counts numbers and not rows: six, and also
- * seven, have room for three rows, and an odd number left over is never looked
- * at or changed. Answers how many headers, and so rows, there are. Refuses 1 to
- * 10 and 21 as ohakelm_read does, and then 11 where there are fewer rows than
- * headers. */
-struct ohakelm_placed ohakelm_places(const uint8_t *msg, size_t msg_len,
-                                     uint32_t *places, size_t places_len);
-
-/* Does what ohakelm_replace does, with the place table of the message in the
- * front of `places`. Changes the table to that of the new message, as
- * ohakelm_places makes it: rows up to `pattern` keep their places, and later
- * ones move by as many bits as the instruction that comes is wider than the one
- * that goes. Numbers behind the message's rows are not looked at or changed.
- * `places_len` counts numbers and not rows. Buffer, list and answer are those
- * of ohakelm_replace.
- * The whole message is judged as ever, and the table is held against it, so it
- * does no harm to hand over one that is no longer the message's. Refuses 1 to
- * 10 and 21 for the message; 28 where some row is not that of the message; 6,
- * 12, 1 and 11 as ohakelm_replace does; and last 11 where `places` has fewer
- * rows than the message has headers, but the right ones so far. All but those
- * for the message are at place 0. */
-struct ohakelm_edited
-ohakelm_replace_with_places(uint8_t *buf, size_t buf_len, size_t used,
-                            size_t pattern, size_t instruction, uint32_t entry,
-                            uint32_t *list, size_t list_len, uint32_t *places,
-                            size_t places_len);
-
-/* Does what ohakelm_insert does. All else is as in ohakelm_replace_with_places,
- * but that the header of `pattern` has one instruction more. Refuses 14 too,
- * behind 12. */
-struct ohakelm_edited
-ohakelm_insert_with_places(uint8_t *buf, size_t buf_len, size_t used,
-                           size_t pattern, size_t instruction, uint32_t entry,
-                           uint32_t *list, size_t list_len, uint32_t *places,
-                           size_t places_len);
-
-/* Does what ohakelm_delete does. All else is as in ohakelm_replace_with_places,
- * but that the header of `pattern` has one instruction fewer. Refuses 13 too,
- * behind 12. */
-struct ohakelm_edited
-ohakelm_delete_with_places(uint8_t *buf, size_t buf_len, size_t used,
-                           size_t pattern, size_t instruction, uint32_t *list,
-                           size_t list_len, uint32_t *places,
-                           size_t places_len);
 
 /* ---- Packs */
 

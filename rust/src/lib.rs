@@ -18,8 +18,6 @@
 //! mark to the end. Without a mark the tone ends with the list. The last number of
 //! an entry says which instruction sounds, to light it on a screen or to edit it.
 //!
-//! An editor that keeps a [`PlaceTable`] beside a message finds any part of it at once.
-//!
 //! A [`Refusal`] has a number, which [`Refusal::kind`] names, and a place. The
 //! constants `LARGEST_..` say what to lend at most. The module [`entry`] puts
 //! table entries together and takes them apart.
@@ -27,21 +25,19 @@
 #![no_std]
 
 use ohakelm_answers::NO_MARK;
-pub use ohakelm_answers::{Entry, Label, ENTRY_CELLS, PLACE_CELLS};
+pub use ohakelm_answers::{Entry, Label, ENTRY_CELLS};
 
 pub mod entry;
 pub mod numbers;
-mod places;
 pub mod raw;
 mod refusal;
 mod room;
 mod version;
 
-pub use places::{PlaceRow, PlaceTable};
 pub use refusal::{Kind, Refusal};
 pub use room::{
-    LARGEST_BITMAP, LARGEST_ICON, LARGEST_LIST, LARGEST_LOGO, LARGEST_PACK, LARGEST_PLACES,
-    LARGEST_REPORT, LARGEST_ROWS, LARGEST_TABLE, LARGEST_TITLE, LARGEST_TONE,
+    LARGEST_BITMAP, LARGEST_ICON, LARGEST_LIST, LARGEST_LOGO, LARGEST_PACK, LARGEST_REPORT,
+    LARGEST_ROWS, LARGEST_TABLE, LARGEST_TITLE, LARGEST_TONE,
 };
 pub use version::{version, VERSION};
 
@@ -374,108 +370,13 @@ pub fn edit(
         Edit::Insert(entry) => numbers::insert(buffer, used, pattern, instruction, entry, list),
         Edit::Delete => numbers::delete(buffer, used, pattern, instruction, list),
     };
-    edited(answer)
-}
-
-/// Makes the place table of a tone message, with which an editor finds any part at once.
-/// It has a row for each header, in the order of the message: the bit where the header
-/// begins, and the header's table entry, which is id * 4096 + loop * 256 + count. The count
-/// is that of its own instructions, and a recall has none.
-///
-/// Keep the table beside the message and hand both to [`edit_with_places`].
-///
-/// # Errors
-///
-/// Refuses 1 to 10 and 21 as [`read`] does.
-///
-/// ```
-/// use ohakelm::{entry, PlaceRow};
-/// // Part A with C, part B with D, and a recall of A.
-/// let message = [
-///     0x02, 0x4A, 0x3A, 0x80, 0xC0, 0x00, 0x24, 0x50, 0x10, 0x01, 0x26, 0x80, 0x00, 0x00, 0x00,
-/// ];
-/// let places = ohakelm::places(&message)?;
-/// assert_eq!(places.len(), 3);
-/// assert_eq!(places.row(1), Some(PlaceRow { place: 63, header: entry::header(1, 0, 1) }));
-/// assert_eq!(places.row(3), None);
-/// let all: Vec<u32> = places.rows().map(|row| row.place).collect();
-/// assert_eq!(all, [34, 34 + 17 + 12, 34 + 2 * (17 + 12)]);
-/// assert_eq!(places.numbers(), [34, 1, 63, 4097, 92, 0]);
-/// # Ok::<(), ohakelm::Refusal>(())
-/// ```
-pub fn places(message: &[u8]) -> Result<PlaceTable, Refusal> {
-    PlaceTable::filled(|room| {
-        let answer = numbers::places(message, room);
-        accepted(answer.refusal, answer.place)?;
-        Ok(answer.headers)
+    accepted(answer.refusal, answer.place)?;
+    Ok(Edited {
+        length: answer.length,
+        entries: answer.entries,
+        mark: mark(answer.mark),
+        change: answer.change,
     })
-}
-
-/// Does what [`edit`] does, with the place table of the message. The table becomes that of
-/// the new message: rows up to the pattern that is edited keep their places, and later ones
-/// move by as many bits as the instruction that comes is wider than the one that goes.
-///
-/// The whole message is judged as ever, and the table is held against it. So a table that
-/// is no longer the message's does no harm.
-///
-/// # Errors
-///
-/// Refuses as [`edit`] does, but 28 where a row is not that of the message, behind 1 to 10
-/// and 21 for the message and ahead of 6; and last 11 where the table has too few rows.
-/// On a refusal the table has not changed either.
-///
-/// ```
-/// use ohakelm::{entry, Edit, Kind, ENTRY_CELLS};
-/// // Part A with C, part B with D, and a recall of A.
-/// let mut buffer = [
-///     0x02, 0x4A, 0x3A, 0x80, 0xC0, 0x00, 0x24, 0x50, 0x10, 0x01, 0x26, 0x80, 0x00, 0x00, 0x00,
-/// ];
-/// let mut places = ohakelm::places(&buffer)?;
-/// let old = places.clone();
-/// let mut list = [0; 3 * ENTRY_CELLS];
-///
-/// // A scale, which has five bits, goes in ahead of C. What is left of the filler
-/// // was three bits, so the message is an octet longer.
-/// let scale = Edit::Insert(entry::scale(2));
-/// let refused = ohakelm::edit_with_places(&mut buffer, 15, 0, 0, scale, &mut list, &mut places);
-/// assert_eq!(refused.map_err(|refusal| refusal.kind()), Err(Kind::NoRoom));
-/// assert_eq!(places, old);
-///
-/// // It takes the place of D, which has twelve.
-/// let scale = Edit::Replace(entry::scale(2));
-/// ohakelm::edit_with_places(&mut buffer, 15, 1, 0, scale, &mut list, &mut places)?;
-/// assert_eq!(places.numbers(), [34, 1, 63, 4097, 92 - 12 + 5, 0]);
-/// assert_eq!(places, ohakelm::places(&buffer[..14])?);
-///
-/// // The table of the old message is not that of the new one.
-/// let mut other = old;
-/// let delete = Edit::Delete;
-/// let refused = ohakelm::edit_with_places(&mut buffer, 14, 0, 0, delete, &mut list, &mut other);
-/// assert_eq!(refused.map_err(|refusal| refusal.kind()), Err(Kind::PlaceTable));
-/// # Ok::<(), ohakelm::Refusal>(())
-/// ```
-pub fn edit_with_places(
-    buffer: &mut [u8],
-    used: usize,
-    pattern: usize,
-    instruction: usize,
-    edit: Edit,
-    list: &mut [u32],
-    places: &mut PlaceTable,
-) -> Result<Edited, Refusal> {
-    let places = places.numbers_mut();
-    let answer = match edit {
-        Edit::Replace(entry) => {
-            numbers::replace_with_places(buffer, used, pattern, instruction, entry, list, places)
-        }
-        Edit::Insert(entry) => {
-            numbers::insert_with_places(buffer, used, pattern, instruction, entry, list, places)
-        }
-        Edit::Delete => {
-            numbers::delete_with_places(buffer, used, pattern, instruction, list, places)
-        }
-    };
-    edited(answer)
 }
 
 /// Reads a pack, its messages too. Answers how many messages there are.
@@ -810,16 +711,6 @@ fn accepted(number: u32, place: usize) -> Result<(), Refusal> {
 fn written(answer: raw::Written) -> Result<usize, Refusal> {
     accepted(answer.refusal, answer.place)?;
     Ok(answer.octets)
-}
-
-fn edited(answer: raw::Edited) -> Result<Edited, Refusal> {
-    accepted(answer.refusal, answer.place)?;
-    Ok(Edited {
-        length: answer.length,
-        entries: answer.entries,
-        mark: mark(answer.mark),
-        change: answer.change,
-    })
 }
 
 fn bitmap(message: &[u8], answer: raw::Bitmap) -> Result<Bitmap<'_>, Refusal> {

@@ -5,7 +5,7 @@
 // borrows keep the lent ones apart from all others. `Entry` has C's layout.
 
 use ohakelm_answers::{Bitmap, Edited, Entry, Label, Listed, Logo};
-use ohakelm_answers::{Pack, Placed, Salvage, Stretch, Tone, Written};
+use ohakelm_answers::{Pack, Salvage, Stretch, Tone, Written};
 
 use crate::raw;
 
@@ -146,94 +146,6 @@ pub fn delete(
             instruction,
             list.as_mut_ptr(),
             list.len(),
-        )
-    }
-}
-
-#[inline(always)]
-pub fn places(message: &[u8], places: &mut [u32]) -> Placed {
-    unsafe {
-        raw::ohakelm_places(
-            message.as_ptr(),
-            message.len(),
-            places.as_mut_ptr(),
-            places.len(),
-        )
-    }
-}
-
-#[inline(always)]
-pub fn replace_with_places(
-    buffer: &mut [u8],
-    used: usize,
-    pattern: usize,
-    instruction: usize,
-    entry: u32,
-    list: &mut [u32],
-    places: &mut [u32],
-) -> Edited {
-    unsafe {
-        raw::ohakelm_replace_with_places(
-            buffer.as_mut_ptr(),
-            buffer.len(),
-            used,
-            pattern,
-            instruction,
-            entry,
-            list.as_mut_ptr(),
-            list.len(),
-            places.as_mut_ptr(),
-            places.len(),
-        )
-    }
-}
-
-#[inline(always)]
-pub fn insert_with_places(
-    buffer: &mut [u8],
-    used: usize,
-    pattern: usize,
-    instruction: usize,
-    entry: u32,
-    list: &mut [u32],
-    places: &mut [u32],
-) -> Edited {
-    unsafe {
-        raw::ohakelm_insert_with_places(
-            buffer.as_mut_ptr(),
-            buffer.len(),
-            used,
-            pattern,
-            instruction,
-            entry,
-            list.as_mut_ptr(),
-            list.len(),
-            places.as_mut_ptr(),
-            places.len(),
-        )
-    }
-}
-
-#[inline(always)]
-pub fn delete_with_places(
-    buffer: &mut [u8],
-    used: usize,
-    pattern: usize,
-    instruction: usize,
-    list: &mut [u32],
-    places: &mut [u32],
-) -> Edited {
-    unsafe {
-        raw::ohakelm_delete_with_places(
-            buffer.as_mut_ptr(),
-            buffer.len(),
-            used,
-            pattern,
-            instruction,
-            list.as_mut_ptr(),
-            list.len(),
-            places.as_mut_ptr(),
-            places.len(),
         )
     }
 }

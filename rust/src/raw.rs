@@ -4,8 +4,7 @@
 //! must overlap no other argument. `include/ohakelm.h` says what each call does.
 
 pub use ohakelm_answers::{
-    Bitmap, Edited, Entry, Label, Listed, Logo, Pack, Placed, Salvage, Stretch, Tone, Written,
-    NO_MARK,
+    Bitmap, Edited, Entry, Label, Listed, Logo, Pack, Salvage, Stretch, Tone, Written, NO_MARK,
 };
 
 extern "C" {
@@ -80,51 +79,6 @@ extern "C" {
         instruction: usize,
         list: *mut u32,
         list_len: usize,
-    ) -> Edited;
-
-    pub fn ohakelm_places(
-        msg: *const u8,
-        msg_len: usize,
-        places: *mut u32,
-        places_len: usize,
-    ) -> Placed;
-
-    pub fn ohakelm_replace_with_places(
-        buf: *mut u8,
-        buf_len: usize,
-        used: usize,
-        pattern: usize,
-        instruction: usize,
-        entry: u32,
-        list: *mut u32,
-        list_len: usize,
-        places: *mut u32,
-        places_len: usize,
-    ) -> Edited;
-
-    pub fn ohakelm_insert_with_places(
-        buf: *mut u8,
-        buf_len: usize,
-        used: usize,
-        pattern: usize,
-        instruction: usize,
-        entry: u32,
-        list: *mut u32,
-        list_len: usize,
-        places: *mut u32,
-        places_len: usize,
-    ) -> Edited;
-
-    pub fn ohakelm_delete_with_places(
-        buf: *mut u8,
-        buf_len: usize,
-        used: usize,
-        pattern: usize,
-        instruction: usize,
-        list: *mut u32,
-        list_len: usize,
-        places: *mut u32,
-        places_len: usize,
     ) -> Edited;
 
     pub fn ohakelm_pack_read(pack: *const u8, pack_len: usize) -> Pack;

@@ -5,7 +5,7 @@ use core::fmt;
 /// Why a call refused, by the number that the rules give it, and where.
 #[derive(Clone, Copy, Debug, PartialEq, Eq)]
 pub struct Refusal {
-    /// 1 to 28, as in the rules' table, but for 19 and for 22 to 25 ([`Kind`] says
+    /// 1 to 27, as in the rules' table, but for 19 and for 22 to 25 ([`Kind`] says
     /// why).
     pub number: u32,
     /// The bit of the tone message where the faulty element begins, for the
@@ -131,7 +131,6 @@ kinds! {
     21 Character "a title character 0 to 31 or 127 to 159"
     26 PackSize "first row start, rows and four octets do not add up to the pack"
     27 PackRows "a row that does not continue the one before, or lengths that do not add up"
-    28 PlaceTable "a place table that is not this message's"
 }
 
 impl fmt::Display for Kind {

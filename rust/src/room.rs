@@ -1,6 +1,6 @@
 //! What to lend at most. It is proved that with so much lent no call refuses 11.
 
-use crate::{ENTRY_CELLS, PLACE_CELLS};
+use crate::ENTRY_CELLS;
 
 /// Octets of a title: 15 characters of two.
 pub const LARGEST_TITLE: usize = 30;
@@ -19,9 +19,6 @@ pub const LARGEST_ROWS: usize = 975_375;
 /// octets. Where that is too much to lend, lend what a tone is to have:
 /// [`Kind::NoRoom`](crate::Kind::NoRoom) then says that one has more.
 pub const LARGEST_LIST: usize = ENTRY_CELLS * LARGEST_ROWS;
-
-/// Numbers of a place table, [`PLACE_CELLS`] a header, of which there are 255 at most.
-pub const LARGEST_PLACES: usize = PLACE_CELLS * 255;
 
 /// Octets of a bitmap: four of header, and 255 rows of 31.
 pub const LARGEST_BITMAP: usize = 7909;

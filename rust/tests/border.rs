@@ -53,20 +53,16 @@ fn null_is_as_good_as_any_address_of_nothing() {
         assert!(!tally.nulls.contains_key(&(name, buffers)), "{name}");
     }
     // An image has at least one octet, and so has what is written of it. A pack has four
-    // octets at least, and may be written from nothing and gotten out of nothing. A place
-    // table has a row at least, and an edit with one may list nothing.
+    // octets at least, and may be written from nothing and gotten out of nothing.
     let can = [
         "delete",
-        "delete_with_places",
         "insert",
-        "insert_with_places",
         "label",
         "list",
         "pack_salvage",
         "pack_write",
         "read",
         "replace",
-        "replace_with_places",
         "rows",
     ];
     let can: BTreeSet<&str> = can.into_iter().chain(["write"]).collect();
@@ -311,31 +307,6 @@ fn octets_may_lie_at_any_address() {
         assert_eq!(buffer.octets(), p2, "rest {rest}");
         assert_eq!(list, [10 * 1024 + 7, 480_000, 2], "rest {rest}");
         assert!(buffer.cells[..buffer.start].iter().all(|&cell| cell == OLD));
-    }
-}
-
-/// The same with the place table of P1: the message and an edit of it at every address.
-#[test]
-fn octets_may_lie_at_any_address_beside_a_table() {
-    let p1 = octets("02 4A 3A 80 40 00 51 C6 90 00 A5");
-    let p2 = octets("02 4A 3A 80 40 00 71 C8 34 80 00");
-    for rest in 0..16 {
-        let mut buffer = Placed::new(rest, &p1);
-        let (mut list, mut places) = ([0; 3], [7; 3]);
-        let (cells, rows) = (list.as_mut_ptr(), places.as_mut_ptr());
-        // SAFETY: the pointers and numbers are those of live buffers that are apart.
-        let (made, edited) = unsafe {
-            let made = raw::ohakelm_places(buffer.at(), 10, rows, 3);
-            let buf = buffer.lend();
-            let edited =
-                raw::ohakelm_insert_with_places(buf, 11, 10, 0, 1, 131_072, cells, 3, rows, 3);
-            (made, edited)
-        };
-        assert_eq!((made.refusal, made.headers), (0, 1), "rest {rest}");
-        assert_eq!((edited.refusal, edited.length), (0, 11), "rest {rest}");
-        assert_eq!(buffer.octets(), p2, "rest {rest}");
-        assert_eq!(list, [10 * 1024 + 7, 480_000, 2], "rest {rest}");
-        assert_eq!(places, [34, 3, 7], "rest {rest}");
     }
 }
 

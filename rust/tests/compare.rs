@@ -13,13 +13,12 @@ use std::time::Instant;
 
 use ohakelm::LARGEST_TABLE;
 use ohakelm_answers::{Bitmap, Edited, Entry, Label, Listed, Logo};
-use ohakelm_answers::{Pack, Placed, Salvage, Stretch, Tone, Written};
+use ohakelm_answers::{Pack, Salvage, Stretch, Tone, Written};
 use ohakelm_answers::{ENTRY_CELLS, NO_MARK};
 use support::codecs::{Codec, Edit, LogoParts, Obvious, Spot, ALL};
 use support::compare::Comparison;
 use support::heard::{list_of, restarts, Event, EVENTS};
 use support::mispacks::{Mispack, MISPACKS};
-use support::misplaces::{Misplace, MISPLACES};
 use support::missalvages::{Missalvage, MISSALVAGES};
 use support::origins::{apart, Patterns};
 use support::rng::{cases_set, seed_from_clock, seed_set};
@@ -67,17 +66,13 @@ fn each_refusal_came_up(comparison: &Comparison) {
     let message: Vec<u32> = (0..=11).collect();
     let with = |more: &[u32]| [&message[..], more].concat();
     let in_pack = |more: &[u32]| [&message[..11], more].concat();
-    let expected: [(&str, Vec<u32>); 22] = [
+    let expected: [(&str, Vec<u32>); 18] = [
         ("read", with(&[21])),
         ("list", with(&[21])),
         ("rows", with(&[21])),
         ("replace", with(&[12, 21])),
         ("insert", with(&[12, 14, 21])),
         ("delete", with(&[12, 13, 21])),
-        ("places", with(&[21])),
-        ("replace_with_places", with(&[12, 21, 28])),
-        ("insert_with_places", with(&[12, 14, 21, 28])),
-        ("delete_with_places", with(&[12, 13, 21, 28])),
         ("write", vec![0, 1, 4, 5, 6, 7, 11, 17, 18, 21]),
         ("label", vec![0, 1]),
         ("pack_read", in_pack(&[21, 26, 27])),
@@ -144,8 +139,6 @@ enum Fault {
     /// Restarts the sums of durations at an event that does not, or the reverse.
     RestartsOtherwise(Event),
     CountsOriginsOtherwise(Miscount),
-    /// Makes or keeps a place table the wrong way.
-    PlacesOtherwise(Misplace),
     /// Reads, cuts or writes a pack the wrong way.
     MakesPacksOtherwise(Mispack),
     /// Gets messages out of a broken pack the wrong way.
@@ -224,8 +217,7 @@ fn wrong_codecs_are_found() {
     let miscounts = MISCOUNTS.map(Fault::CountsOriginsOtherwise);
     let mispacks = MISPACKS.map(Fault::MakesPacksOtherwise);
     let missalvages = MISSALVAGES.map(Fault::SalvagesOtherwise);
-    let misplaces = MISPLACES.map(Fault::PlacesOtherwise);
-    let others = restarts.into_iter().chain(miscounts).chain(misplaces);
+    let others = restarts.into_iter().chain(miscounts);
     let others = others.chain(mispacks).chain(missalvages);
     for fault in FAULTS.into_iter().chain(others) {
         let wrong: &'static dyn Codec = Box::leak(Box::new(Wrong(fault)));
@@ -239,14 +231,10 @@ fn wrong_codecs_are_found() {
 /// Where the wrong ways share steps, these must be right: else each would be found for
 /// what is not its own fault.
 #[test]
-fn what_the_wrong_salvages_and_tables_share_is_right() {
-    for right in [
-        Fault::SalvagesOtherwise(Missalvage::None),
-        Fault::PlacesOtherwise(Misplace::None),
-    ] {
-        let right: &'static dyn Codec = Box::leak(Box::new(Wrong(right)));
-        Comparison::new(&[&Obvious, right], 1).run(ENOUGH_FOR_ALL);
-    }
+fn what_the_wrong_salvages_share_is_right() {
+    let right = Wrong(Fault::SalvagesOtherwise(Missalvage::None));
+    let right: &'static dyn Codec = Box::leak(Box::new(right));
+    Comparison::new(&[&Obvious, right], 1).run(ENOUGH_FOR_ALL);
 }
 
 /// Whether an edit's entry is of an instruction's kind. A deletion has none.
@@ -571,27 +559,6 @@ impl Codec for Wrong {
             _ => {}
         }
         answer
-    }
-
-    fn places(&self, message: &[u8], places: &mut [u32]) -> Placed {
-        match self.0 {
-            Fault::PlacesOtherwise(misplace) => misplace.places(message, places),
-            _ => Obvious.places(message, places),
-        }
-    }
-
-    fn edit_with_places(
-        &self,
-        buffer: &mut [u8],
-        spot: Spot,
-        edit: Edit,
-        list: &mut [u32],
-        places: &mut [u32],
-    ) -> Edited {
-        match self.0 {
-            Fault::PlacesOtherwise(misplace) => misplace.edit(buffer, spot, edit, list, places),
-            _ => Obvious.edit_with_places(buffer, spot, edit, list, places),
-        }
     }
 
     fn pack_read(&self, pack: &[u8]) -> Pack {

@@ -38,7 +38,7 @@ fn number(digits: &str) -> usize {
 }
 
 /// A room's name in the header and in the proof, and its number in the package.
-const ROOMS: [(&str, &str, usize); 11] = [
+const ROOMS: [(&str, &str, usize); 10] = [
     ("TITLE", "titleRoom", ohakelm::LARGEST_TITLE),
     ("TABLE", "tableRoom", ohakelm::LARGEST_TABLE),
     ("TONE", "toneRoom", ohakelm::LARGEST_TONE),
@@ -49,7 +49,6 @@ const ROOMS: [(&str, &str, usize); 11] = [
     ("LOGO", "logoRoom", ohakelm::LARGEST_LOGO),
     ("PACK", "packRoom", ohakelm::LARGEST_PACK),
     ("REPORT", "reportRoom", ohakelm::LARGEST_REPORT),
-    ("PLACES", "placesRoom", ohakelm::LARGEST_PLACES),
 ];
 
 #[test]
@@ -110,12 +109,6 @@ fn an_entry_takes_three_cells() {
 }
 
 #[test]
-fn a_row_of_a_place_table_takes_two_cells() {
-    assert_eq!(ohakelm::PLACE_CELLS, 2, "package");
-    assert_eq!(number(&value("OHAKELM_PLACE_CELLS")), 2, "header");
-}
-
-#[test]
 fn no_mark_is_that_of_the_header() {
     let mark = value("OHAKELM_NO_MARK");
     assert_eq!(mark.strip_suffix('u'), Some(&*raw::NO_MARK.to_string()));
@@ -163,7 +156,7 @@ fn the_refusals_are_those_of_the_header() {
     assert_eq!(refusals(), package);
     let numbers: Vec<u32> = package.iter().map(|kind| kind.0).collect();
     // 19 is no longer given, and 22 to 25 are not given yet.
-    let given = (1..=28).filter(|&number| number != 19 && !(22..=25).contains(&number));
+    let given = (1..=27).filter(|&number| number != 19 && !(22..=25).contains(&number));
     assert_eq!(numbers, given.collect::<Vec<u32>>());
 }
 
@@ -174,7 +167,7 @@ fn a_number_has_one_kind() {
     }
     let unknown = header().contains("default:\n        return \"no refusal of this version\";");
     assert!(unknown, "the header's words for other numbers");
-    for number in [0, 19, 22, 25, 29, u32::MAX] {
+    for number in [0, 19, 22, 25, 28, u32::MAX] {
         let kind = Kind::of(number);
         assert!(matches!(kind, Kind::Unknown(..)));
         assert_eq!(kind.number(), number);

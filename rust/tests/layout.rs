@@ -10,7 +10,7 @@ use std::any::type_name_of_val;
 use std::mem::{offset_of, size_of, size_of_val};
 
 use ohakelm_answers::{Bitmap, Edited, Entry, Label, Listed, Logo};
-use ohakelm_answers::{Pack, Placed, Salvage, Stretch, Tone, Written};
+use ohakelm_answers::{Pack, Salvage, Stretch, Tone, Written};
 use support::{c, text};
 
 #[derive(Debug, PartialEq, Eq)]
@@ -29,13 +29,12 @@ struct Layout {
 }
 
 /// The names of one struct in the package, in the header and in the library.
-const NAMES: [(&str, &str, &str); 12] = [
+const NAMES: [(&str, &str, &str); 11] = [
     ("Tone", "ohakelm_tone", "ToneAnswer"),
     ("Written", "ohakelm_written", "WrittenAnswer"),
     ("Label", "ohakelm_label_stretch", "LabelAnswer"),
     ("Listed", "ohakelm_listed", "ListAnswer"),
     ("Edited", "ohakelm_edited", "EditAnswer"),
-    ("Placed", "ohakelm_placed", "PlacesAnswer"),
     ("Pack", "ohakelm_pack", "PackAnswer"),
     ("Stretch", "ohakelm_stretch", "StretchAnswer"),
     ("Salvage", "ohakelm_salvage", "SalvageAnswer"),
@@ -64,14 +63,13 @@ macro_rules! layout {
     }};
 }
 
-fn package() -> [Layout; 12] {
+fn package() -> [Layout; 11] {
     [
         layout!(Tone: refusal place song unicode characters patterns entries),
         layout!(Written: refusal place octets),
         layout!(Label: stand_in start length),
         layout!(Listed: refusal place entries mark),
         layout!(Edited: refusal place length entries mark change),
-        layout!(Placed: refusal place headers),
         layout!(Pack: refusal place messages),
         layout!(Stretch: refusal place start length),
         layout!(Salvage: refusal place messages octets skipped),

@@ -5,10 +5,10 @@ mod support;
 
 use ohakelm::{entry, Entry};
 use ohakelm::{
-    LARGEST_BITMAP, LARGEST_ICON, LARGEST_LIST, LARGEST_LOGO, LARGEST_PACK, LARGEST_PLACES,
-    LARGEST_REPORT, LARGEST_ROWS, LARGEST_TABLE, LARGEST_TITLE, LARGEST_TONE,
+    LARGEST_BITMAP, LARGEST_ICON, LARGEST_LIST, LARGEST_LOGO, LARGEST_PACK, LARGEST_REPORT,
+    LARGEST_ROWS, LARGEST_TABLE, LARGEST_TITLE, LARGEST_TONE,
 };
-use ohakelm_answers::{Edited, Listed, Placed, Salvage, Tone, Written, ENTRY_CELLS, NO_MARK};
+use ohakelm_answers::{Edited, Listed, Salvage, Tone, Written, ENTRY_CELLS, NO_MARK};
 use support::codecs::{each, Edit, LogoParts, Spot};
 use support::largest::{
     behind, fullest, longest, origin_in_longest, parts, temporary, IMAGE, NOTE_C,
@@ -219,57 +219,6 @@ fn the_largest_list_is_made_by_an_edit() {
         let answer = codec.edit(&mut buffer, spot, note, &mut list);
         assert_eq!((answer.refusal, answer.entries), (0, LARGEST_ROWS));
         assert!(is_full(&list) && buffer == new);
-    });
-}
-
-// ---- Place tables.
-
-/// A full part and 254 recalls. 34 bits are ahead of the first header, which has 17, and
-/// a note has 12.
-fn largest_places(count: u32) -> Vec<u32> {
-    let first_recall = 34 + 17 + 12 * count;
-    let recalls = (0..254).flat_map(|k| [first_recall + 17 * k, 14 * 256]);
-    [34, 14 * 256 + count].into_iter().chain(recalls).collect()
-}
-
-#[test]
-fn the_largest_place_table_is_made() {
-    assert_eq!(LARGEST_PLACES, 2 * 255);
-    let (message, expected) = (longest(), largest_places(255));
-    each(|codec| {
-        let mut places = vec![OLD; LARGEST_PLACES];
-        let refused = Placed {
-            refusal: 11,
-            ..Placed::default()
-        };
-        assert_eq!(codec.places(&message, &mut places[1..]), refused);
-        assert!(is_old(&places));
-        let answer = codec.places(&message, &mut places);
-        assert_eq!((answer.refusal, answer.headers), (0, 255));
-        assert_eq!(places, expected);
-    });
-}
-
-/// One note goes out of the full part, and the recalls move by twelve bits.
-#[test]
-fn the_largest_place_table_is_kept_by_an_edit() {
-    let (message, old) = (longest(), largest_places(255));
-    each(|codec| {
-        let mut buffer = message.clone();
-        let spot = Spot {
-            used: message.len(),
-            pattern: 0,
-            instruction: 254,
-        };
-        let (mut list, mut places) = (vec![OLD; LARGEST_LIST], old.clone());
-        let short = &mut places[..LARGEST_PLACES - 1];
-        let answer = codec.edit_with_places(&mut buffer, spot, Edit::Delete, &mut list, short);
-        assert_eq!((answer, &buffer), (refused_edit(), &message));
-        assert!(is_old(&list) && places == old);
-        let answer =
-            codec.edit_with_places(&mut buffer, spot, Edit::Delete, &mut list, &mut places);
-        assert_eq!((answer.refusal, answer.entries), (0, 254 * 255 * 15));
-        assert_eq!(places, largest_places(254));
     });
 }
 

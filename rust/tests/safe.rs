@@ -1,7 +1,6 @@
 //! The safe functions of the package, as a caller uses them.
 
-use ohakelm::{entry, Edit, Edited, Entry, Kind, PlaceRow, PlaceTable, Playing, Refusal};
-use ohakelm::{Salvage, Tone, ENTRY_CELLS, LARGEST_PLACES};
+use ohakelm::{Edit, Edited, Entry, Kind, Playing, Refusal, Salvage, Tone, ENTRY_CELLS};
 
 const P1: [u8; 10] = [0x02, 0x4A, 0x3A, 0x80, 0x40, 0x00, 0x51, 0xC6, 0x90, 0x00];
 
@@ -153,85 +152,6 @@ fn edits_change_the_buffer_and_the_list() {
     assert_eq!(done.map(|done| (done.length, done.change)), Ok((10, -2)));
     assert_eq!(buffer[..10], P1);
     assert_eq!(buffer[10..], [0, 0]);
-}
-
-/// A quarter C in part A with loop 1, and a recall of it for ever, with an octet behind
-/// them: headers at 34 and 34 + 17 + 12, and no filler.
-const RECALLED: [u8; 12] = [
-    0x02, 0x4A, 0x3A, 0x80, 0x80, 0x20, 0x24, 0x50, 0x0F, 0x00, 0x00, 0x00,
-];
-
-#[test]
-fn a_place_table_has_a_row_for_each_header() {
-    let Ok(places) = ohakelm::places(&RECALLED[..11]) else {
-        panic!("a good tone was refused");
-    };
-    assert_eq!((places.len(), places.is_empty()), (2, false));
-    let first = PlaceRow {
-        place: 34,
-        header: entry::header(0, 1, 1),
-    };
-    let second = PlaceRow {
-        place: 63,
-        header: entry::header(0, 15, 0),
-    };
-    assert_eq!(places.rows().collect::<Vec<_>>(), [first, second]);
-    assert_eq!((places.row(0), places.row(1)), (Some(first), Some(second)));
-    assert_eq!((places.row(2), places.row(usize::MAX)), (None, None));
-    assert_eq!(places.numbers(), [34, 257, 63, 3840]);
-    assert_eq!(format!("{places:?}"), format!("[{first:?}, {second:?}]"));
-    let refusal = Refusal {
-        number: 10,
-        place: 88,
-    };
-    assert_eq!(ohakelm::places(&RECALLED), Err(refusal));
-}
-
-#[test]
-fn a_place_table_is_kept_as_numbers() {
-    let numbers = [34, 257, 63, 3840, 5];
-    let places = PlaceTable::of_numbers(&numbers);
-    assert_eq!((places.len(), places.numbers()), (2, &numbers[..4]));
-    assert_eq!(ohakelm::places(&RECALLED[..11]), Ok(places.clone()));
-    assert_ne!(PlaceTable::of_numbers(&numbers[..2]), places);
-    assert!(PlaceTable::of_numbers(&numbers[..1]).is_empty());
-    let many = PlaceTable::of_numbers(&[7; LARGEST_PLACES + 3]);
-    assert_eq!((many.len(), many.numbers().len()), (255, LARGEST_PLACES));
-}
-
-#[test]
-fn an_edit_keeps_the_place_table() {
-    let mut buffer = RECALLED;
-    let mut list = [0; 6 * ENTRY_CELLS];
-    let mut places = PlaceTable::of_numbers(&[34, 257, 63, 3840]);
-    // A volume has seven bits.
-    let volume = Edit::Insert(entry::volume(3));
-    let done = ohakelm::edit_with_places(&mut buffer, 11, 0, 0, volume, &mut list, &mut places);
-    let expected = Edited {
-        length: 12,
-        entries: 4,
-        mark: Some(3),
-        change: 1,
-    };
-    assert_eq!(done, Ok(expected));
-    assert_eq!(places.numbers(), [34, 258, 70, 3840]);
-    assert_eq!(ohakelm::places(&buffer), Ok(places.clone()));
-    // One row short, and one spoilt. Neither table changes.
-    for (numbers, refusal) in [(&[34, 258][..], 11), (&[34, 258, 63, 3840], 28)] {
-        let mut other = PlaceTable::of_numbers(numbers);
-        let octets = buffer;
-        let refused =
-            ohakelm::edit_with_places(&mut buffer, 12, 0, 0, Edit::Delete, &mut list, &mut other);
-        assert_eq!(number(refused), refusal);
-        assert_eq!((other.numbers(), buffer), (numbers, octets));
-    }
-    let done =
-        ohakelm::edit_with_places(&mut buffer, 12, 0, 0, Edit::Delete, &mut list, &mut places);
-    assert_eq!(done.map(|done| (done.length, done.change)), Ok((11, -1)));
-    assert_eq!(
-        (places.numbers(), buffer),
-        (&[34, 257, 63, 3840][..], RECALLED)
-    );
 }
 
 #[test]

@@ -13,7 +13,7 @@ use std::process::Command;
 
 use ohakelm::{entry, Entry};
 use ohakelm::{LARGEST_LIST, LARGEST_LOGO, LARGEST_PACK, LARGEST_REPORT, LARGEST_ROWS};
-use ohakelm::{LARGEST_PLACES, LARGEST_TABLE, LARGEST_TONE};
+use ohakelm::{LARGEST_TABLE, LARGEST_TONE};
 use support::c::{own_archive, printed};
 use support::codecs::{Codec, Edit, LogoParts, Obvious, Spot};
 use support::compare::Comparison;
@@ -40,7 +40,7 @@ fn no_call_takes_more_stack_than_is_said() {
     }
     Comparison::new(&[&Obvious, measured], 1).run(RANDOM_CASES);
     let (added, most) = (added_up(&own_folder()), measured.most());
-    assert_eq!((most.len(), added.len()), (23, 23));
+    assert_eq!((most.len(), added.len()), (19, 19));
     println!("| call | measured | added up | the header says |\n|---|--:|--:|--:|");
     for (call, measured) in most {
         let said = said_by_header(call);
@@ -64,7 +64,7 @@ fn what_is_added_up_is_what_the_document_says() {
         ("target/aarch64", "Arm, added up"),
     ] {
         let added = added_up(&root(folder));
-        assert_eq!(added.len(), 23, "{folder}");
+        assert_eq!(added.len(), 19, "{folder}");
         for (call, octets) in added {
             assert_eq!(said_by_document(&call, column), Some(octets), "{call}");
         }
@@ -79,7 +79,6 @@ fn put_all(codec: &Measured) {
     put_tones(codec);
     put_lists(codec);
     put_edits(codec);
-    put_places(codec);
     put_packs(codec);
     put_broken_packs(codec);
     put_bitmaps(codec);
@@ -138,34 +137,6 @@ fn put_edits(codec: &Measured) {
         edit(&mut buffer, Edit::Delete, 0);
         edit(&mut buffer, Edit::Insert(entry), instruction - 1);
         edit(&mut buffer, Edit::Replace(entry), instruction - 1);
-        assert_eq!(used, message.len());
-    }
-}
-
-/// The same messages with their place tables: many headers, many instructions, and few.
-fn put_places(codec: &Measured) {
-    let longest_row = (longest(), 0, 254, NOTE_C);
-    let fullest_row = (temporary(&fullest()), 25, 81, entry::scale(3));
-    let small_row = (temporary(&[2, NOTE_C, NOTE_C]), 0, 1, NOTE_C);
-    let (mut list, mut places) = (vec![0; LARGEST_LIST], [0; LARGEST_PLACES]);
-    for (message, pattern, instruction, entry) in [longest_row, fullest_row, small_row] {
-        assert_eq!(codec.places(&message, &mut []).refusal, 11);
-        assert_eq!(codec.places(&message, &mut places).refusal, 0);
-        let (mut buffer, mut used) = (message.clone(), message.len());
-        buffer.resize(used + 2, 0);
-        let mut edit = |edit, instruction| {
-            let spot = Spot {
-                used,
-                pattern,
-                instruction,
-            };
-            let edited = codec.edit_with_places(&mut buffer, spot, edit, &mut list, &mut places);
-            assert_eq!(edited.refusal, 0);
-            used = edited.length;
-        };
-        edit(Edit::Delete, 0);
-        edit(Edit::Insert(entry), instruction - 1);
-        edit(Edit::Replace(entry), instruction - 1);
         assert_eq!(used, message.len());
     }
 }
@@ -235,8 +206,6 @@ fn put_bitmaps(codec: &Measured) {
 fn said_by_header(call: &str) -> usize {
     let group = match call {
         "replace" | "insert" | "delete" => "EDITS",
-        "replace_with_places" | "insert_with_places" | "delete_with_places" => "EDITS",
-        "places" => "PLACES",
         "read" | "write" | "list" | "rows" => "TONES",
         "pack_read" | "pack_message" | "pack_write" => "PACKS",
         "pack_salvage" => "SALVAGE",

@@ -1,4 +1,4 @@
--- What an edit does, from its promise alone, whatever lies beside the message.
+-- What `edit_message` does, from its promise alone.
 use Prim.Native.Nat.{ℕ, ◌+◌, ◌-◌, ◌*◌, ◌≤◌, ◌<◌}
 use native.Mathlib.Omega.{arith}
 use mathlib.Core.Path.{◌≡◌, refl, sym, ap, ap₂, subst, ◌∙◌}
@@ -31,10 +31,9 @@ use Rattle.list.proofs.Agreeing.{Agree, agree_at}
 use Rattle.edit_change.specs.declared.Edit.{Edit}
 use Rattle.edit.specs.declared.Answer.{Answer}
 use Rattle.edit.specs.declared.Answer.TheVariants.{Edited as Made, Refused}
-use Rattle.edit_change.specs.Change.{changed, instruction_place}
-use Rattle.places.specs.Rows.{header_place}
-use Rattle.edit.specs.Editing.{Edited, body_length, Beside, alone, edit_beside, buffer_after, list_after}
-use Rattle.edit.specs.Promise.{Numbers, numbers_of, edit_numbers, edit_answer, LeavesBeside, EditPromise}
+use Rattle.edit_change.specs.Change.{changed, header_place, instruction_place}
+use Rattle.edit.specs.Editing.{Edited, body_length, edit_message, buffer_after, list_after}
+use Rattle.edit.specs.Promise.{Numbers, numbers_of, edit_numbers, edit_answer, EditPromise}
 use Rattle.edit.proofs.Demand3.{unchanged, edit_formed, edit_reads_again}
 use Rattle.edit.proofs.Exactly.{Conditions, edited, accepted_when, edit_exactly}
 
@@ -48,14 +47,13 @@ abbrev pub new_length : Answer → ℕ
 new_length r = (numbers_of r).length
 
 -- an accepting answer comes of an accepted edit
-pub accepting_outcome : (used : ℕ) (o : Outcome Edited) (r : Answer) → r ≡ edit_answer used o → Accepting r → (d : Edited) × (o ≡ accepted d)
-accepting_outcome used (accepted d) r e a = (d, refl)
-accepting_outcome used (refused n p) r e a = absurd (subst Accepting e a)
+came : (used : ℕ) (o : Outcome Edited) (r : Answer) → r ≡ edit_answer used o → Accepting r → (d : Edited) × (o ≡ accepted d)
+came used (accepted d) r e a = (d, refl)
+came used (refused n p) r e a = absurd (subst Accepting e a)
 
--- a refusing one of a refused edit
-pub refusing_outcome : (used n : ℕ) (p : BitPlace) (o : Outcome Edited) → Refused n p ≡ edit_answer used o → o ≡ refused n p.0
-refusing_outcome used n p (accepted d) e = let z : ◌≡◌ {A = ℕ} 0 1 = cc in absurd (omega arith)
-refusing_outcome used n p (refused m q) e =
+same_refusal : (used n : ℕ) (p : BitPlace) (o : Outcome Edited) → Refused n p ≡ edit_answer used o → o ≡ refused n p.0
+same_refusal used n p (accepted d) e = let z : ◌≡◌ {A = ℕ} 0 1 = cc in absurd (omega arith)
+same_refusal used n p (refused m q) e =
     ap₂ (λ (a b : ℕ). refused a b) (sym (ap (λ (r : Answer). (numbers_of r).refusal) e)) (sym (ap (λ (r : Answer). (numbers_of r).place) e))
 
 -- a buffer of new octets, zeros and the rest of an old one
@@ -92,29 +90,29 @@ pub record ListIs (t : Tone) (message lent list : List ℕ) (r : Answer) : Type 
   pub whole : list ≡ numbers (playing_list t).entries ++ drop (entry_cells * (numbers_of r).entries) lent
   pub each : (j : ℕ) (d : Entry) → j < (numbers_of r).entries → Agree (get_or (playing_list t).entries j d) list j
 
-module _ (b : Beside) (buf : List ℕ) (used : ℕ) (ed : Edit) (k i : ℕ) (list buf' list' : List ℕ) (r : Answer) (p : LeavesBeside b buf used ed k i list buf' list' r) where
+module _ (buf : List ℕ) (used : ℕ) (ed : Edit) (k i : ℕ) (list buf' list' : List ℕ) (r : Answer) (p : EditPromise buf used ed k i list buf' list' r) where
   -- ---- acceptance
 
   -- the edit is accepted exactly if the conditions are met, one for each ground
-  pub edit_accepted_exactly : Accepting r ↔ ((t : Tone) × Conditions b buf used ed k i (length list) t)
+  pub edit_accepted_exactly : Accepting r ↔ ((t : Tone) × Conditions buf used ed k i (length list) t)
   edit_accepted_exactly = (to, from)
     where
-      to : Accepting r → (t : Tone) × Conditions b buf used ed k i (length list) t
+      to : Accepting r → (t : Tone) × Conditions buf used ed k i (length list) t
       to a =
-          let d = accepting_outcome used (edit_beside b buf used ed k i (length list)) r p.answer a in
-          let c = (edit_exactly b buf used ed k i (length list) d.0).0 d.1 in
+          let d = came used (edit_message buf used ed k i (length list)) r p.answer a in
+          let c = (edit_exactly buf used ed k i (length list) d.0).0 d.1 in
           (c.0, c.1)
 
-      from : (t : Tone) × Conditions b buf used ed k i (length list) t → Accepting r
+      from : (t : Tone) × Conditions buf used ed k i (length list) t → Accepting r
       from c =
-          let e : r ≡ edit_answer used (accepted (edited ed k i c.0)) = p.answer ∙ ap (edit_answer used) (accepted_when b buf used ed k i (length list) c.0 c.1) in
+          let e : r ≡ edit_answer used (accepted (edited ed k i c.0)) = p.answer ∙ ap (edit_answer used) (accepted_when buf used ed k i (length list) c.0 c.1) in
           subst Accepting (sym e) tt
 
   -- ---- refusal
 
   -- the edit is refused with the number and the place that the rules give
-  pub edit_refused_exactly : (n : ℕ) (at : BitPlace) → (r ≡ Refused n at) ↔ (edit_beside b buf used ed k i (length list) ≡ refused n at.0)
-  edit_refused_exactly n at = (λ e. refusing_outcome used n at (edit_beside b buf used ed k i (length list)) (sym e ∙ p.answer), λ e. p.answer ∙ ap (edit_answer used) e)
+  pub edit_refused_exactly : (n : ℕ) (at : BitPlace) → (r ≡ Refused n at) ↔ (edit_message buf used ed k i (length list) ≡ refused n at.0)
+  edit_refused_exactly n at = (λ e. same_refusal used n at (edit_message buf used ed k i (length list)) (sym e ∙ p.answer), λ e. p.answer ∙ ap (edit_answer used) e)
 
   -- a refusal leaves buffer and list as they were, and all other numbers are 0
   pub refusal_changes_nothing : (n : ℕ) (at : BitPlace) → r ≡ Refused n at
@@ -130,15 +128,15 @@ module _ (b : Beside) (buf : List ℕ) (used : ℕ) (ed : Edit) (k i : ℕ) (lis
 
   module _ (a : Accepting r) (t : Tone) (q : read_tone (take used buf) ≡ accepted t) where
     -- the conditions are met for this t, a message reading as one tone only
-    pub edit_conditions : Conditions b buf used ed k i (length list) t
+    pub edit_conditions : Conditions buf used ed k i (length list) t
     edit_conditions =
         let c = edit_accepted_exactly.0 a in
         let e : accepted c.0 ≡ accepted t = sym c.1.reads ∙ q in
         let e' : c.0 ≡ t = cc in
-        subst (Conditions b buf used ed k i (length list)) e' c.1
+        subst (Conditions buf used ed k i (length list)) e' c.1
 
-    outcome : edit_beside b buf used ed k i (length list) ≡ accepted (edited ed k i t)
-    outcome = accepted_when b buf used ed k i (length list) t edit_conditions
+    outcome : edit_message buf used ed k i (length list) ≡ accepted (edited ed k i t)
+    outcome = accepted_when buf used ed k i (length list) t edit_conditions
 
     formed : Formed t
     formed = (read_formed (take used buf) t q).0
@@ -229,11 +227,11 @@ module _ (b : Beside) (buf : List ℕ) (used : ℕ) (ed : Edit) (k i : ℕ) (lis
 pub edit_again : (buf : List ℕ) (used : ℕ) (ed : Edit) (k i : ℕ) (list buf' list' : List ℕ) (r : Answer) → EditPromise buf used ed k i list buf' list' r
     → Accepting r → (t : Tone) → read_tone (take used buf) ≡ accepted t
     → (ed₂ : Edit) (k₂ i₂ : ℕ) (list₂ buf₂ list₂' : List ℕ) (r₂ : Answer) → EditPromise buf' (new_length r) ed₂ k₂ i₂ list₂ buf₂ list₂' r₂
-    → Accepting r₂ ↔ Conditions alone buf' (new_length r) ed₂ k₂ i₂ (length list₂) (changed ed k i t)
+    → Accepting r₂ ↔ Conditions buf' (new_length r) ed₂ k₂ i₂ (length list₂) (changed ed k i t)
 edit_again buf used ed k i list buf' list' r p a t q ed₂ k₂ i₂ list₂ buf₂ list₂' r₂ p₂ =
-    let q₂ = edit_result_reads alone buf used ed k i list buf' list' r p a t q in (
-      λ a₂. edit_conditions alone buf' (new_length r) ed₂ k₂ i₂ list₂ buf₂ list₂' r₂ p₂ a₂ (changed ed k i t) q₂,
-      λ c. (edit_accepted_exactly alone buf' (new_length r) ed₂ k₂ i₂ list₂ buf₂ list₂' r₂ p₂).1 (changed ed k i t, c),
+    let q₂ = edit_result_reads buf used ed k i list buf' list' r p a t q in (
+      λ a₂. edit_conditions buf' (new_length r) ed₂ k₂ i₂ list₂ buf₂ list₂' r₂ p₂ a₂ (changed ed k i t) q₂,
+      λ c. (edit_accepted_exactly buf' (new_length r) ed₂ k₂ i₂ list₂ buf₂ list₂' r₂ p₂).1 (changed ed k i t, c),
     )
 
 -- a call: what it was handed beside the buffer, and what it answered and left
@@ -273,7 +271,7 @@ pub row_reads : (cs : List Call) (buf : List ℕ) (used : ℕ) (t : Tone) → In
 row_reads [] buf used t h q = q
 row_reads (c ∷ cs) buf used t h q =
     row_reads cs c.buffer (new_length c.answer) (changed c.edit c.pattern c.instruction t) h.2
-    (edit_result_reads alone buf used c.edit c.pattern c.instruction c.lent c.buffer c.list c.answer h.0 h.1 t q)
+    (edit_result_reads buf used c.edit c.pattern c.instruction c.lent c.buffer c.list c.answer h.0 h.1 t q)
 
 -- where the bytes are a tone's to begin with, they are a tone's after each
 row_bytes_from : (cs : List Call) (buf : List ℕ) (used : ℕ) (t : Tone) → InARow buf used cs → read_tone (take used buf) ≡ accepted t → take used buf ≡ tone_octets t
@@ -283,8 +281,8 @@ row_bytes_from (c ∷ cs) buf used t h q e =
     let ed = c.edit in
     let k = c.pattern in
     let i = c.instruction in
-    row_bytes_from cs c.buffer (new_length c.answer) (changed ed k i t) h.2 (edit_result_reads alone buf used ed k i c.lent c.buffer c.list c.answer h.0 h.1 t q)
-    (edit_bytes alone buf used ed k i c.lent c.buffer c.list c.answer h.0 h.1 t q)
+    row_bytes_from cs c.buffer (new_length c.answer) (changed ed k i t) h.2 (edit_result_reads buf used ed k i c.lent c.buffer c.list c.answer h.0 h.1 t q)
+    (edit_bytes buf used ed k i c.lent c.buffer c.list c.answer h.0 h.1 t q)
 
 -- and its bytes are those that writing this tone afresh gives; the buffer holds octets, as every slice of them does
 pub row_bytes : (cs : List Call) (buf : List ℕ) (used : ℕ) (t : Tone) → InARow buf used cs → read_tone (take used buf) ≡ accepted t → Octets buf
@@ -294,7 +292,7 @@ row_bytes cs buf used t h q o = row_bytes_from cs buf used t h q (sym (accepted_
 -- the list that the last of them filled is that of the tone changed by each in turn, entry by entry, and it is what listing the message in the buffer gives
 pub row_list : (cs : List Call) (c : Call) (buf : List ℕ) (used : ℕ) (t : Tone) → InARow buf used (cs ++ (c ∷ [])) → read_tone (take used buf) ≡ accepted t
     → ListIs (changed_by (cs ++ (c ∷ [])) t) (take (new_length c.answer) c.buffer) c.lent c.list c.answer
-row_list [] c buf used t h q = edit_list_is alone buf used c.edit c.pattern c.instruction c.lent c.buffer c.list c.answer h.0 h.1 t q
+row_list [] c buf used t h q = edit_list_is buf used c.edit c.pattern c.instruction c.lent c.buffer c.list c.answer h.0 h.1 t q
 row_list (b ∷ cs) c buf used t h q =
     row_list cs c b.buffer (new_length b.answer) (changed b.edit b.pattern b.instruction t) h.2
-    (edit_result_reads alone buf used b.edit b.pattern b.instruction b.lent b.buffer b.list b.answer h.0 h.1 t q)
+    (edit_result_reads buf used b.edit b.pattern b.instruction b.lent b.buffer b.list b.answer h.0 h.1 t q)

@@ -21,8 +21,7 @@ use Rattle.tone.proofs.Demand2.{written_is_accepted}
 use Rattle.tone.proofs.Positions.{sound_at}
 use Rattle.edit_change.specs.declared.Edit.{Edit}
 use Rattle.edit_change.specs.declared.Edit.TheVariants.{Replace, Insert, Delete}
-use Rattle.edit_change.specs.Change.{carried, removed, body_after, with_body, changed, is_new, carries_new, in_body, is_there, empties, overfills, instruction_place}
-use Rattle.places.specs.Rows.{header_place}
+use Rattle.edit_change.specs.Change.{carried, removed, body_after, with_body, changed, is_new, carries_new, in_body, is_there, empties, overfills, header_place, instruction_place}
 use Rattle.edit_change.proofs.Bodies.{cells_append, fits, carried_instructions, changed_formed, front_same}
 use Rattle.edit.specs.Editing.{body_length, edit_tone}
 
@@ -188,12 +187,6 @@ names : (ed : Edit) (i n : ℕ) → Names ed i n → in_body ed i n ≡ true
 names (Replace e) i n h = lt-ltb i n h
 names (Insert e) i n h = le-leb i n h
 names Delete i n h = lt-ltb i n h
-
--- what an edit takes away at a position that it names is there
-pub names_inside : (ed : Edit) (i n : ℕ) → Names ed i n → i + removed ed ≤ n
-names_inside (Replace e) i n h = omega arith
-names_inside (Insert e) i n h = omega arith
-names_inside Delete i n h = omega arith
 
 named : (ed : Edit) (i n : ℕ) → in_body ed i n ≡ true → Names ed i n
 named (Replace e) i n h = ltb-true i n h

@@ -2,12 +2,12 @@
 use Prim.Native.Nat.{ℕ, ◌+◌, ◌-◌, ◌*◌, ◌/◌, ◌≤◌, ◌<◌}
 use native.Mathlib.Omega.{arith}
 use mathlib.Core.Path.{◌≡◌, refl, sym, ap, ap₂, subst, ◌∙◌}
-use mathlib.Core.Bool.{Bool, true, false, not}
-use mathlib.Core.List.{List, [], ◌++◌}
+use mathlib.Core.Bool.{Bool}
+use mathlib.Core.List.{List, ◌++◌}
 use lib.ListN.{length, take, replicate}
 use lib.Seq.{length-take-le}
 use lib.IntN.{ℤ, pos, ◌-ℤ◌}
-use borrow.Author.Tests.{not-true, not-false, le-leb, lt-leb}
+use borrow.Author.Tests.{le-leb, lt-leb}
 use Rattle.bits.specs.Bits.{bits_of, octets_to}
 use Rattle.bits.specs.Lent.{over}
 use Rattle.bits.specs.Outcome.{Outcome, accepted, refused, and_then}
@@ -36,9 +36,9 @@ use Rattle.edit.specs.declared.Outline.{Outline}
 use Rattle.edit.specs.declared.Layout.{Layout}
 use Rattle.edit.specs.declared.Plan.{Plan}
 use Rattle.edit.specs.declared.Plan.TheVariants.{Halt, Go}
-use Rattle.edit.specs.Editing.{Edited, in_buffer, with_list, Beside, alone, beside, its_own, room_beside, with_rows, edit_beside, cleared, buffer_after, list_after}
+use Rattle.edit.specs.Editing.{Edited, in_buffer, with_list, edit_message, cleared, buffer_after, list_after}
 use Rattle.edit.specs.Plan.{Written, joined_by, end_of, Laid, SomeLaid, Going, Plans}
-use Rattle.edit.specs.Promise.{numbers_of, edit_numbers, edit_answer, Leaves, LeavesBeside, EditPromise}
+use Rattle.edit.specs.Promise.{numbers_of, edit_numbers, edit_answer, Leaves, EditPromise}
 use Rattle.edit.proofs.Changes.{cleared_over}
 
 -- the numbers of an answer are those that the rules ask for
@@ -69,21 +69,12 @@ module _ (new buf list : List ℕ) (used : ℕ) {o : Outline} (w : Written new o
   unfolding playing_list
   count = list_count at_start no_bodies 0 w.tone.patterns ∙ sym w.outlines.entries
 
-  pub finish_short : (fits : Bool) → length list / entry_cells < o.entries → (t : Tone) → WellFormed t → tone_octets t ≡ new → Leaves (and_then (with_list (length list) t) (room_beside fits)) used buf list buf list (Refused 11 (place 0))
-  finish_short fits h t f e =
+  pub finish_short : length list / entry_cells < o.entries → (t : Tone) → WellFormed t → tone_octets t ≡ new → Leaves (with_list (length list) t) used buf list buf list (Refused 11 (place 0))
+  finish_short h t f e =
       let z : with_list (length list) t ≡ refused 11 0 = ap (with_list (length list)) (same_tone t f e) ∙ (rw (count, lt-leb (entry_cells * o.entries) (length list) (omega arith)) refl) in
       rw z (leaves (refused 11 0) used buf list buf list (Refused 11 (place 0)) refl refl refl)
 
   module _ (h : o.entries ≤ length list / entry_cells) where
-    -- the changed tone, with its list
-    with_list_lem : (t : Tone) → WellFormed t → tone_octets t ≡ new → with_list (length list) t ≡ accepted (record { tone = w.tone; listing = playing_list w.tone })
-    unfolding playing_list
-    with_list_lem t f e = ap (with_list (length list)) (same_tone t f e) ∙ (rw (count, le-leb (entry_cells * o.entries) (length list) (omega arith)) refl)
-
-    -- there is no room beside the message
-    pub finish_cramped : (fits : Bool) → not fits ≡ true → (t : Tone) → WellFormed t → tone_octets t ≡ new → Leaves (and_then (with_list (length list) t) (room_beside fits)) used buf list buf list (Refused 11 (place 0))
-    finish_cramped fits n t f e = rw (with_list_lem t f e, not-true fits n) (leaves (refused 11 0) used buf list buf list (Refused 11 (place 0)) refl refl refl)
-
     pub finish_patterns : PatternsAt new o.first.0 o.patterns (patterns_in new o.first.0 o.patterns) (end_in new o.first.0 o.patterns)
     finish_patterns = record { within = subst (Within new) (sym w.outlines.first) (patterns_within new w.tone new_reads); reads = rw new_there refl }
 
@@ -93,12 +84,14 @@ module _ (new buf list : List ℕ) (used : ℕ) {o : Outline} (w : Written new o
     pub finish_room : entry_cells * entry_count no_bodies (patterns_in new o.first.0 o.patterns) ≤ length list
     finish_room = omega (arith, ap (entry_count no_bodies) patterns_are, w.outlines.entries)
 
-    pub finish_made : (fits : Bool) → not fits ≡ false → {list' buf₁ buf₂ : List ℕ} {ch : ℤ} {n : ℕ} → length new ≡ n → list' ≡ over (numbers (play at_start no_bodies 0 (patterns_in new o.first.0 o.patterns)).entries) list → n ≤ length buf
+    pub finish_made : {list' buf₁ buf₂ : List ℕ} {ch : ℤ} {n : ℕ} → length new ≡ n → list' ≡ over (numbers (play at_start no_bodies 0 (patterns_in new o.first.0 o.patterns)).entries) list → n ≤ length buf
         → buf₁ ≡ over new buf → buf₂ ≡ cleared n used buf₁ → ch ≡ pos n -ℤ pos used
-        → (t : Tone) → WellFormed t → tone_octets t ≡ new → Leaves (and_then (with_list (length list) t) (room_beside fits)) used buf list buf₂ list' (Made (octet_count n) o.entries o.mark ch)
+        → (t : Tone) → WellFormed t → tone_octets t ≡ new → Leaves (with_list (length list) t) used buf list buf₂ list' (Made (octet_count n) o.entries o.mark ch)
     unfolding playing_list
-    finish_made fits roomy {list'} {buf₁} {buf₂} {ch} {n} hn z l b₁ b₂ hc t f e =
+    finish_made {list'} {buf₁} {buf₂} {ch} {n} hn z l b₁ b₂ hc t f e =
         let g = playing_list w.tone in
+        let d : with_list (length list) t ≡ accepted (record { tone = w.tone; listing = g }) =
+        ap (with_list (length list)) (same_tone t f e) ∙ (rw (count, le-leb (entry_cells * o.entries) (length list) (omega arith)) refl) in
         let size : n ≡ tone_length w.tone = sym hn ∙ ap length (sym w.writes) ∙ length_tone_octets w.tone in
         let buffer : buf₂ ≡ over (tone_octets w.tone ++ replicate (used - tone_length w.tone) 0) buf =
         b₂ ∙ ap (cleared n used) b₁ ∙ cleared_over new buf n used hn l
@@ -108,11 +101,11 @@ module _ (new buf list : List ℕ) (used : ℕ) {o : Outline} (w : Written new o
         let e₃ : octet_count n ≡ octet_count (tone_length w.tone) = ap octet_count size in
         let e₄ : ch ≡ pos (tone_length w.tone) -ℤ pos used = hc ∙ ap (λ (y : ℕ). pos y -ℤ pos used) size in
         let listing : list' ≡ over (numbers g.entries) list = z ∙ ap (λ (x : List Pattern). over (numbers (play at_start no_bodies 0 x).entries) list) patterns_are in
-        rw (with_list_lem t f e, not-false fits roomy) (leaves (accepted (record { tone = w.tone; listing = g })) used buf list buf₂ list' (Made (octet_count n) o.entries o.mark ch) (cc) buffer listing)
+        rw d (leaves (accepted (record { tone = w.tone; listing = g })) used buf list buf₂ list' (Made (octet_count n) o.entries o.mark ch) (cc) buffer listing)
 
 -- ---- building, and what is refused before it
 
-module _ (m : List ℕ) (l : Layout) (buf list : List ℕ) (used : ℕ) (fits : Bool) {z : ℕ} (hz : z ≡ octets_to (end_of l)) where
+module _ (m : List ℕ) (l : Layout) (buf list : List ℕ) (used : ℕ) {z : ℕ} (hz : z ≡ octets_to (end_of l)) where
   -- the bits' number
   joined_length : {t : Tone} → Laid m l t → length (joined_by m l) ≡ end_of l
   joined_length y = length_joined m l.header.0 l.cell l.spot.at.0 y.ahead y.inside l.piece.width l.piece.value l.spot.behind.0 l.spot.end.0 y.order y.ends
@@ -121,22 +114,22 @@ module _ (m : List ℕ) (l : Layout) (buf list : List ℕ) (used : ℕ) (fits : 
   length_is : {t : Tone} → Laid m l t → z + 1 ≡ tone_length t
   length_is y = ap (λ (x : ℕ). x + 1) (hz ∙ ap octets_to (sym (joined_length y) ∙ ap length y.spells))
 
-  pub carry_long : 4096 < z + 1 → (t : Tone) → Laid m l t → Leaves (and_then (and_then (in_buffer (length buf) t) (with_list (length list))) (room_beside fits)) used buf list buf list (Refused 1 (place 0))
+  pub carry_long : 4096 < z + 1 → (t : Tone) → Laid m l t → Leaves (and_then (in_buffer (length buf) t) (with_list (length list))) used buf list buf list (Refused 1 (place 0))
   carry_long h t y =
       let n = length_is y in
       let o : in_buffer (length buf) t ≡ refused 1 0 = rw (lt-leb (tone_length t) most_octets (omega arith)) refl in
       rw o (leaves (refused 1 0) used buf list buf list (Refused 1 (place 0)) refl refl refl)
 
   module _ (s : z + 1 ≤ 4096) where
-    pub carry_room : length buf < z + 1 → (t : Tone) → Laid m l t → Leaves (and_then (and_then (in_buffer (length buf) t) (with_list (length list))) (room_beside fits)) used buf list buf list (Refused 11 (place 0))
+    pub carry_room : length buf < z + 1 → (t : Tone) → Laid m l t → Leaves (and_then (in_buffer (length buf) t) (with_list (length list))) used buf list buf list (Refused 11 (place 0))
     carry_room h t y =
         let n = length_is y in
         let o : in_buffer (length buf) t ≡ refused 11 0 = rw (le-leb (tone_length t) most_octets (omega arith), lt-leb (tone_length t) (length buf) (omega arith)) refl in
         rw o (leaves (refused 11 0) used buf list buf list (Refused 11 (place 0)) refl refl refl)
 
     -- what is built apart, in the buffer
-    pub carry_done : {buf' list' : List ℕ} {r : Answer} → z + 1 ≤ length buf → ((t : Tone) → Laid m l t → Leaves (and_then (with_list (length list) t) (room_beside fits)) used buf list buf' list' r)
-        → (t : Tone) → Laid m l t → Leaves (and_then (and_then (in_buffer (length buf) t) (with_list (length list))) (room_beside fits)) used buf list buf' list' r
+    pub carry_done : {buf' list' : List ℕ} {r : Answer} → z + 1 ≤ length buf → ((t : Tone) → Laid m l t → Leaves (with_list (length list) t) used buf list buf' list' r)
+        → (t : Tone) → Laid m l t → Leaves (and_then (in_buffer (length buf) t) (with_list (length list))) used buf list buf' list' r
     carry_done h k t y =
         let n = length_is y in
         let o : in_buffer (length buf) t ≡ accepted t = rw (le-leb (tone_length t) most_octets (omega arith), le-leb (tone_length t) (length buf) (omega arith)) refl in
@@ -157,8 +150,8 @@ module _ (m : List ℕ) (l : Layout) (buf list : List ℕ) (used : ℕ) (fits : 
       pub apart_written : SomeLaid m l → Written (take n scratch) l.outline
       apart_written y = let x = written y.laid in record { tone = y.tone; formed = x.0; writes = x.1; outlines = y.laid.outlines }
 
-      pub apart_done : {buf' list' new : List ℕ} {r : Answer} → new ≡ take n scratch → ((t : Tone) → WellFormed t → tone_octets t ≡ new → Leaves (and_then (with_list (length list) t) (room_beside fits)) used buf list buf' list' r)
-          → (t : Tone) → Laid m l t → Leaves (and_then (with_list (length list) t) (room_beside fits)) used buf list buf' list' r
+      pub apart_done : {buf' list' new : List ℕ} {r : Answer} → new ≡ take n scratch → ((t : Tone) → WellFormed t → tone_octets t ≡ new → Leaves (with_list (length list) t) used buf list buf' list' r)
+          → (t : Tone) → Laid m l t → Leaves (with_list (length list) t) used buf list buf' list' r
       apart_done e k t y = let x = written y in k t x.0 (x.1 ∙ sym e)
 
 -- what the code needs to know before it builds
@@ -174,50 +167,32 @@ module _ (buf : List ℕ) (used : ℕ) {l : Layout} (p : (used ≤ length buf) �
 
 -- ---- the whole edit
 
--- what lies beside the message is asked for as rows are, b being a table or nothing
-module _ (b : Beside) (buf list places : List ℕ) (used : ℕ) (ed : Edit) (k i : ℕ) (own : its_own b ≡ its_own (beside places)) where
-  pub beside_beyond : length buf < used → LeavesBeside b buf used ed k i list buf list (Refused 1 (place 0))
-  unfolding edit_beside
-  beside_beyond h = rw (lt-leb used (length buf) h) (leaves (refused 1 0) used buf list buf list (Refused 1 (place 0)) refl refl refl)
+module _ (buf list : List ℕ) (used : ℕ) (ed : Edit) (k i : ℕ) where
+  pub edit_beyond : length buf < used → EditPromise buf used ed k i list buf list (Refused 1 (place 0))
+  unfolding edit_message
+  edit_beyond h = rw (lt-leb used (length buf) h) (leaves (refused 1 0) used buf list buf list (Refused 1 (place 0)) refl refl refl)
 
   module _ (h : used ≤ length buf) where
     abbrev m : List ℕ
     m = take used buf
 
     -- a plan that halts
-    pub beside_halt : {pl : Plan} {n : ℕ} {p : BitPlace} → Plans (take used buf) places (record { edit = ed; pattern = k; instruction = i }) pl → pl ≡ Halt n p → edit_beside b buf used ed k i (length list) ≡ refused n p.0
-    unfolding edit_beside
-    beside_halt {pl} {n} {p} y z =
-        let e = subst (Plans (take used buf) places (record { edit = ed; pattern = k; instruction = i })) z y in
-        rw (le-leb used (length buf) h, own, e) refl
+    pub edit_halt : {pl : Plan} {n : ℕ} {p : BitPlace} → Plans (take used buf) (record { edit = ed; pattern = k; instruction = i }) pl → pl ≡ Halt n p → EditPromise buf used ed k i list buf list (Refused n p)
+    unfolding edit_message
+    edit_halt {pl} {n} {p} y z =
+        let e = subst (Plans (take used buf) (record { edit = ed; pattern = k; instruction = i })) z y in
+        rw (le-leb used (length buf) h, e) (leaves (refused n p.0) used buf list buf list (Refused n p) refl refl refl)
 
     -- a plan that goes on
-    module _ {l : Layout} (g : Going (take used buf) places ed k i l) where
-      pub laid_out : (used ≤ length buf) × (used ≤ 4096) × SomeLaid (take used buf) l
-      laid_out = (h, omega (arith, g.short, length-take-le used buf h), record { tone = changed ed k i g.tone; laid = g.laid })
-
-      -- what is left of the rule
-      pub beside_goes : edit_beside b buf used ed k i (length list) ≡ and_then (and_then (in_buffer (length buf) (changed ed k i g.tone)) (with_list (length list))) (with_rows b)
-      unfolding edit_beside
-      beside_goes = rw (le-leb used (length buf) h, own, g.reads, g.owns, g.accepts) refl
-
--- an edit with nothing beside the message
-module _ (buf list : List ℕ) (used : ℕ) (ed : Edit) (k i : ℕ) where
-  pub edit_beyond : length buf < used → EditPromise buf used ed k i list buf list (Refused 1 (place 0))
-  edit_beyond = beside_beyond alone buf list [] used ed k i refl
-
-  module _ (h : used ≤ length buf) where
-    pub edit_halt : {pl : Plan} {n : ℕ} {p : BitPlace} → Plans (take used buf) [] (record { edit = ed; pattern = k; instruction = i }) pl → pl ≡ Halt n p → EditPromise buf used ed k i list buf list (Refused n p)
-    edit_halt {n = n} {p = p} y z = rw (beside_halt alone buf list [] used ed k i refl h y z) (leaves (refused n p.0) used buf list buf list (Refused n p) refl refl refl)
-
-    module _ {pl : Plan} {l : Layout} (y : Plans (take used buf) [] (record { edit = ed; pattern = k; instruction = i }) pl) (z : pl ≡ Go l) where
-      going : Going (take used buf) [] ed k i l
-      going = subst (Plans (take used buf) [] (record { edit = ed; pattern = k; instruction = i })) z y
+    module _ {pl : Plan} {l : Layout} (y : Plans (take used buf) (record { edit = ed; pattern = k; instruction = i }) pl) (z : pl ≡ Go l) where
+      going : Going (take used buf) ed k i l
+      going = subst (Plans (take used buf) (record { edit = ed; pattern = k; instruction = i })) z y
 
       pub edit_laid : (used ≤ length buf) × (used ≤ 4096) × SomeLaid (take used buf) l
-      edit_laid = laid_out alone buf list [] used ed k i refl h going
+      edit_laid = (h, omega (arith, going.short, length-take-le used buf h), record { tone = changed ed k i going.tone; laid = going.laid })
 
-      pub edit_done : {r : Answer} {buf' list' : List ℕ} → ((t : Tone) → Laid (take used buf) l t → Leaves (and_then (and_then (in_buffer (length buf) t) (with_list (length list))) (room_beside true)) used buf list buf' list' r) → EditPromise buf used ed k i list buf' list' r
-      edit_done e = rw (beside_goes alone buf list [] used ed k i refl h going) (e (changed ed k i going.tone) going.laid)
+      pub edit_done : {r : Answer} {buf' list' : List ℕ} → ((t : Tone) → Laid (take used buf) l t → Leaves (and_then (in_buffer (length buf) t) (with_list (length list))) used buf list buf' list' r) → EditPromise buf used ed k i list buf' list' r
+      unfolding edit_message
+      edit_done e = rw (le-leb used (length buf) h, going.reads, going.accepts) (e (changed ed k i going.tone) going.laid)
 
 pub ruleset edits = (edit_beyond, edit_halt, edit_laid, edit_done)

@@ -1,5 +1,4 @@
 pub mod Demand3
-pub mod Widths
 pub mod Rebuilt
 pub mod Changes
 pub mod Planning
@@ -9,5 +8,3 @@ pub mod Order
 pub mod Unique
 pub mod Calls
 pub mod Origins
-pub mod Renewing
-pub mod Tables

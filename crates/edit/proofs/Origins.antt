@@ -20,8 +20,8 @@ use Rattle.edit_change.specs.declared.Edit.{Edit}
 use Rattle.edit_change.specs.declared.Edit.TheVariants.{Replace, Insert, Delete}
 use Rattle.edit_change.specs.Change.{body_after, changed, in_body, is_there, carries_new, instruction_place}
 use Rattle.edit.specs.declared.Answer.{Answer}
-use Rattle.edit.specs.Editing.{Beside, edit_tone}
-use Rattle.edit.specs.Promise.{LeavesBeside}
+use Rattle.edit.specs.Editing.{edit_tone}
+use Rattle.edit.specs.Promise.{EditPromise}
 use Rattle.edit.proofs.Demand3.{pattern_after}
 use Rattle.edit.proofs.Calls.{Accepting, new_length, Ahead, edit_conditions, edit_bits_ahead}
 
@@ -56,16 +56,16 @@ module _ (t : Tone) (front : List Entry) (r : Entry) (rest : List Entry) (h : (p
     pub bits_ahead : Ahead r.header r.position t old new
     pub body : (pattern_at (changed ed r.header r.position t).patterns r.header).body ≡ body_after ed r.position (pattern_at t.patterns r.header).body
 
-  pub edits_what_sounds : (b : Beside) (buf : List ℕ) (used : ℕ) (ed : Edit) (list buf' list' : List ℕ) (a : Answer) → LeavesBeside b buf used ed r.header r.position list buf' list' a
+  pub edits_what_sounds : (buf : List ℕ) (used : ℕ) (ed : Edit) (list buf' list' : List ℕ) (a : Answer) → EditPromise buf used ed r.header r.position list buf' list' a
       → Accepting a → read_tone (take used buf) ≡ accepted t → EditsWhatSounds ed (bits_of (take used buf)) (bits_of (take (new_length a) buf'))
-  edits_what_sounds b buf used ed list buf' list' a p accepts q =
+  edits_what_sounds buf used ed list buf' list' a p accepts q =
       let k = r.header in
       let i = r.position in
       let n = length (pattern_at t.patterns k).body in
-      let grounds = (edit_conditions b buf used ed k i list buf' list' a p accepts t q).grounds in
+      let grounds = (edit_conditions buf used ed k i list buf' list' a p accepts t q).grounds in
       let own : is_recall (pattern_at t.patterns k) ≡ false = ne_eqb n 0 (λ e. omega (arith, grounds.no_recall, e)) in
       let inside = origin_inside t front r rest h own in
-      let bits = edit_bits_ahead b buf used ed k i list buf' list' a p accepts t q in
+      let bits = edit_bits_ahead buf used ed k i list buf' list' a p accepts t q in
       let stands = bits.stands_there inside in
       let cell = instruction_there t.patterns k i grounds.pattern inside in
       record {

@@ -4,17 +4,16 @@ use native.Mathlib.Omega.{arith}
 use mathlib.Core.Path.{◌≡◌, refl, sym, ap, ap₂, ◌∙◌}
 use mathlib.Core.Bool.{Bool, true, false, not, ◌&&◌}
 use mathlib.Core.List.{List, [], ◌∷◌, ◌++◌}
-use lib.ListN.{length, take, drop, set, length-append, length-set}
-use lib.Seq.{split_at}
+use lib.ListN.{length, take, drop, set, length-append, length-set, take-append-drop}
+use lib.Seq.{split_at, take-add}
 use lib.Dec.{leb, ltb}
 use borrow.Author.Tests.{not-true, not-false, le-ltb, lt-ltb, ltb-true, eq-eqb}
 use mir.Val.{Fits}
 use mir.Syntax.{w32}
 use Rattle.bits.specs.Choice.{pick}
-use Rattle.bits.specs.Outcome.{Outcome, accepted, refused, and_then, demand}
+use Rattle.bits.specs.Outcome.{Outcome, accepted, refused, and_then}
 use Rattle.bits.specs.declared.BitPlace.{BitPlace}
 use Rattle.bits.specs.declared.OctetCount.{OctetCount}
-use Rattle.bits.proofs.Numbers.{length_bits}
 use Rattle.bits.proofs.Octets.{length_bits_of}
 use Rattle.bits.specs.Places.{place}
 use Rattle.tone.specs.Tone.{Pattern, Tone, Front, front_of, specifier, header, cells, pattern_at, none_known, Sound as SoundPart}
@@ -30,19 +29,17 @@ use Rattle.tone_judge.specs.declared.Judged.TheVariants.{Sound, Faulty}
 use Rattle.list_count.specs.Bodies.{no_bodies}
 use Rattle.list_count.specs.Counting.{entry_count, mark_from}
 use Rattle.tone_judge.specs.Wishes.{grants, wished, place_in, cut_of, no_cut}
-use Rattle.tone_judge.specs.Answers.{total_beside, judged_for}
+use Rattle.tone_judge.specs.Answers.{total_of, judged_for}
 use Rattle.tone_read.proofs.Told.{Told, told}
 use Rattle.edit_change.specs.declared.Edit.{Edit}
-use Rattle.edit_change.specs.Change.{carried, removed, body_after, with_body, changed, carries_new, in_body, empties, overfills}
-use Rattle.places.specs.Rows.{header_place, place_rows, agrees}
+use Rattle.edit_change.specs.Change.{carried, removed, body_after, with_body, changed, carries_new, in_body, empties, overfills, header_place}
 use Rattle.edit_change.specs.Answers.{Puts, ground_of}
 use Rattle.edit_change.proofs.Bodies.{Fits as FitsEdit, length_after, body_instructions, cells_append, changed_formed, front_same}
 use Rattle.edit_change.proofs.Grounds.{no_ground}
 use Rattle.edit_build.specs.declared.Piece.{Piece}
 use Rattle.edit.specs.declared.Outline.{Outline}
-use Rattle.edit.specs.Editing.{body_length, edit_tone, beside, its_own}
+use Rattle.edit.specs.Editing.{body_length, edit_tone}
 use Rattle.edit.specs.Plan.{ground_for, Going}
-use Rattle.edit.proofs.Widths.{bits_cut, bits_taken}
 use Rattle.edit.proofs.Rebuilt.{joined_is}
 
 -- ---- the ground
@@ -114,21 +111,21 @@ module _ (ed : Edit) (k i c : ℕ) (t : Tone) (size : k < length t.patterns → 
 -- ---- a message that was judged with the edit in mind
 
 -- the tone that it reads as, and what was told of it
-record Judging (w : Wish) (m places : List ℕ) (f : BitPlace) (p : ℕ) (v : Total) : Type 0 where
+record Judging (w : Wish) (m : List ℕ) (f : BitPlace) (p : ℕ) (v : Total) : Type 0 where
   tone : Tone
   reads : read_tone m ≡ accepted tone
   first : f ≡ place (length (front_bits (front_of tone)))
   patterns : p ≡ length tone.patterns
-  total : v ≡ total_beside places w (length (front_bits (front_of tone))) tone.patterns
+  total : v ≡ total_of w (length (front_bits (front_of tone))) tone.patterns
 
-judging_of : (w : Wish) (m places : List ℕ) {s : ℕ} {f : BitPlace} {o : OctetCount} {p : ℕ} {v : Total} {u : Bool} → Sound s f o p v u ≡ judged_for places w (read_tone m) → Judging w m places f p v
-judging_of w m places {s} {f} {o} {p} {v} {u} h = go (read_tone m) refl h
+judging_of : (w : Wish) (m : List ℕ) {s : ℕ} {f : BitPlace} {o : OctetCount} {p : ℕ} {v : Total} {u : Bool} → Sound s f o p v u ≡ judged_for w (read_tone m) → Judging w m f p v
+judging_of w m {s} {f} {o} {p} {v} {u} h = go (read_tone m) refl h
   where
-    go : (x : Outcome Tone) → read_tone m ≡ x → Sound s f o p v u ≡ judged_for places w x → Judging w m places f p v
+    go : (x : Outcome Tone) → read_tone m ≡ x → Sound s f o p v u ≡ judged_for w x → Judging w m f p v
     go (accepted t) q g = record { tone = t; reads = q; first = cc; patterns = cc; total = cc }
     go (refused n' p') q g = let z : ◌≡◌ {A = ℕ} 0 1 = cc in absurd (omega arith)
 
-module _ (w : Wish) (m places : List ℕ) {j : Judged} (q : j ≡ judged_for places w (read_tone m)) where
+module _ (w : Wish) (m : List ℕ) {j : Judged} (q : j ≡ judged_for w (read_tone m)) where
   abbrev ed : Edit
   ed = w.edit
 
@@ -139,16 +136,16 @@ module _ (w : Wish) (m places : List ℕ) {j : Judged} (q : j ≡ judged_for pla
   i = w.instruction
 
   -- the message's own refusal
-  pub plan_faulty : {n : ℕ} {p : BitPlace} → j ≡ Faulty n p → and_then (and_then (read_tone m) (its_own (beside places))) (edit_tone w.edit w.pattern w.instruction) ≡ refused n p.0
+  pub plan_faulty : {n : ℕ} {p : BitPlace} → j ≡ Faulty n p → and_then (read_tone m) (edit_tone w.edit w.pattern w.instruction) ≡ refused n p.0
   plan_faulty {n} {p} g = go (read_tone m) (sym g ∙ q)
     where
-      go : (x : Outcome Tone) → Faulty n p ≡ judged_for places w x → and_then (and_then x (its_own (beside places))) (edit_tone ed k i) ≡ refused n p.0
+      go : (x : Outcome Tone) → Faulty n p ≡ judged_for w x → and_then x (edit_tone ed k i) ≡ refused n p.0
       go (accepted t) z = let y : ◌≡◌ {A = ℕ} 0 1 = cc in absurd (omega arith)
       go (refused n' p') z = let e₁ : n ≡ n' = cc in let e₂ : p ≡ place p' = cc in rw (e₁, e₂) refl
 
   module _ {s : ℕ} {f : BitPlace} {o : OctetCount} {p : ℕ} {v : Total} {u : Bool} (g : j ≡ Sound s f o p v u) where
-    jd : Judging w m places f p v
-    jd = judging_of w m places (sym g ∙ q)
+    jd : Judging w m f p v
+    jd = judging_of w m (sym g ∙ q)
 
     abbrev t : Tone
     t = jd.tone
@@ -176,22 +173,12 @@ module _ (w : Wish) (m places : List ℕ) {j : Judged} (q : j ≡ judged_for pla
     size : k < length t.patterns → v.cut.cell % 256 ≡ body_length k t
     size l = ap specifier (cell_is l) ∙ (header_small part (sound l)).1
 
-    -- whether the rows beside the message are its own
-    own_is : v.own ≡ agrees places (place_rows t)
-    own_is = ap (λ (x : Total). x.own) jd.total
-
-    pub plan_foreign : not v.own ≡ true → and_then (and_then (read_tone m) (its_own (beside places))) (edit_tone w.edit w.pattern w.instruction) ≡ refused 28 0
-    plan_foreign h = rw (jd.reads, sym own_is ∙ not-true v.own h) refl
-
-    module _ (h₀ : not v.own ≡ false) {r : ℕ} (e : r ≡ ground_for w.edit w.pattern w.instruction p v.cut.cell) where
-      owns : agrees places (place_rows t) ≡ true
-      owns = sym own_is ∙ not-false v.own h₀
-
+    module _ {r : ℕ} (e : r ≡ ground_for w.edit w.pattern w.instruction p v.cut.cell) where
       ground : r ≡ ground_for ed k i (length t.patterns) v.cut.cell
       ground = e ∙ ap (λ (x : ℕ). ground_for ed k i x v.cut.cell) jd.patterns
 
-      pub plan_ground : (r ≡ 0 → ⊥) → and_then (and_then (read_tone m) (its_own (beside places))) (edit_tone w.edit w.pattern w.instruction) ≡ refused r 0
-      plan_ground h = ap (λ (x : Outcome Tone). and_then (and_then x (its_own (beside places))) (edit_tone ed k i)) jd.reads ∙ ap (λ (x : Bool). and_then (demand x 28 (accepted t)) (edit_tone ed k i)) owns ∙ ground_refuses ed k i v.cut.cell t size ground h
+      pub plan_ground : (r ≡ 0 → ⊥) → and_then (read_tone m) (edit_tone w.edit w.pattern w.instruction) ≡ refused r 0
+      plan_ground h = ap (λ (x : Outcome Tone). and_then x (edit_tone ed k i)) jd.reads ∙ ground_refuses ed k i v.cut.cell t size ground h
 
       module _ (z : r ≡ 0) where
         grant : Granted ed k i v.cut.cell t size
@@ -259,32 +246,30 @@ module _ (w : Wish) (m places : List ℕ) {j : Judged} (q : j ≡ judged_for pla
                 (length-append (entry_bits (header part)) (table_bits (part.body ++ cells ys))
                 ∙ ap₂ (λ (x z : ℕ). x + z) (header_wide (header part) (header_small part y).0) (ap length (table_bits_append part.body (cells ys)) ∙ length-append (table_bits part.body) (table_bits (cells ys))))
 
+            -- and those of the body
+            cut_bits : (j : ℕ) → length (table_bits b) ≡ length (table_bits (take j b)) + length (table_bits (drop j b))
+            cut_bits j = ap (λ (x : List ℕ). length (table_bits x)) (sym (take-append-drop j b)) ∙ ap length (table_bits_append (take j b) (drop j b)) ∙ length-append (table_bits (take j b)) (table_bits (drop j b))
+
+            taken : length (table_bits (take (i + removed ed) b)) ≡ length (table_bits (take i b)) + length (table_bits (take (removed ed) (drop i b)))
+            taken = ap (λ (x : List ℕ). length (table_bits x)) (take-add i (removed ed) b) ∙ ap length (table_bits_append (take i b) (take (removed ed) (drop i b))) ∙ length-append (table_bits (take i b)) (table_bits (take (removed ed) (drop i b)))
+
             pub plan_go : {pc : Piece} {ol : Outline} → Puts (carried w.edit) pc.width pc.value → (ol.first ≡ f) × (ol.patterns ≡ p) × (ol.entries ≡ v.list) × (ol.mark ≡ v.mark)
-                → Going m places w.edit w.pattern w.instruction
+                → Going m w.edit w.pattern w.instruction
                 (record { header = v.cut.header; cell = v.cut.cell + a - rm; spot = record { at = v.cut.at; behind = v.cut.behind; end = v.end }; piece = pc; outline = ol })
-            plan_go {pc} pu ho =
+            plan_go pu ho =
                 let ps = t.patterns in
                 let eh : v.cut.header.0 ≡ header_place t k = ap (λ (c : Cut). c.header.0) cut_there in
                 let ea : v.cut.at.0 ≡ v.cut.header.0 + 17 + length (table_bits (take i b)) = omega (arith, ap (λ (c : Cut). c.at.0) cut_there, eh) in
-                let eb : v.cut.behind.0 ≡ v.cut.at.0 + length (table_bits (take (removed ed) (drop i b))) = omega (arith, ap (λ (c : Cut). c.behind.0) cut_there, ea, eh, bits_taken ed i b) in
+                let eb : v.cut.behind.0 ≡ v.cut.at.0 + length (table_bits (take (removed ed) (drop i b))) = omega (arith, ap (λ (c : Cut). c.behind.0) cut_there, ea, eh, taken) in
                 let ez : v.end.0 ≡ length (front_bits (front_of t)) + length (table_bits (cells t.patterns)) = ap (λ (c : Total). c.end.0) jd.total in
-                let ee : v.end.0 ≡ v.cut.behind.0 + length (table_bits (drop (i + removed ed) b)) + others = omega (arith, ez, bits, ap (λ (c : Cut). c.behind.0) cut_there, bits_cut (i + removed ed) b) in
+                let ee : v.end.0 ≡ v.cut.behind.0 + length (table_bits (drop (i + removed ed) b)) + others = omega (arith, ez, bits, ap (λ (c : Cut). c.behind.0) cut_there, cut_bits (i + removed ed)) in
                 let ends : v.end.0 ≤ 8 * length m = omega (arith, ez, ap length d.bits ∙ length-append (front_bits (front_of t)) (table_bits (cells t.patterns) ++ d.behind), length-append (table_bits (cells t.patterns)) d.behind, length_bits_of m) in
                 let same : wished w t.patterns ≡ (changed ed k i t).patterns = ap (λ (c : Bool). set ps k (with_body part (pick c (body_after ed i b) b))) granting in
                 record {
                   tone = t;
                   reads = jd.reads;
                   short = d.short;
-                  owns = owns;
                   accepts = grant.accepts;
-                  row = record {
-                    found = grant.found;
-                    inside = fit.inside;
-                    cell = new_cell;
-                    came = sym (ap length pu.bits ∙ length_bits pc.width pc.value);
-                    went = eb;
-                    at = omega (arith, ea, eh);
-                  };
                   laid = record {
                     ahead = omega (arith, ea);
                     inside = omega (arith, eb, ee, ends);
@@ -304,4 +289,4 @@ module _ (w : Wish) (m places : List ℕ) {j : Judged} (q : j ≡ judged_for pla
                   };
                 }
 
-pub ruleset plans = (plan_faulty, plan_foreign, plan_ground, plan_new, plan_cell_fits, plan_cell_least, plan_go)
+pub ruleset plans = (plan_faulty, plan_ground, plan_new, plan_cell_fits, plan_cell_least, plan_go)

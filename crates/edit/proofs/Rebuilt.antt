@@ -16,8 +16,7 @@ use Rattle.tone.proofs.Positions.{sound_at}
 use Rattle.tone_read.proofs.Told.{Told}
 use Rattle.edit_build.specs.Anew.{joined}
 use Rattle.edit_change.specs.declared.Edit.{Edit}
-use Rattle.edit_change.specs.Change.{carried, removed, body_after, with_body, changed}
-use Rattle.places.specs.Rows.{header_place}
+use Rattle.edit_change.specs.Change.{carried, removed, body_after, with_body, changed, header_place}
 use Rattle.edit_change.specs.Answers.{Puts}
 use Rattle.edit_change.proofs.Bodies.{cells_append, front_same}
 

@@ -1,10 +1,10 @@
--- Each call is decided by its promise: two outcomes that satisfy it coincide.
+-- The call is decided by its promise: two outcomes that satisfy it coincide.
 use Prim.Native.Nat.{ℕ}
 use mathlib.Core.Path.{◌≡◌, sym, ◌∙◌}
 use mathlib.Core.List.{List}
 use Rattle.edit_change.specs.declared.Edit.{Edit}
 use Rattle.edit.specs.declared.Answer.{Answer}
-use Rattle.edit.specs.Promise.{numbers_of, EditPromise, EditPlacesPromise}
+use Rattle.edit.specs.Promise.{numbers_of, EditPromise}
 
 -- `edit_message`: the answer and its numbers, every octet of the buffer and every cell of the list
 pub edit_decided : (buf : List ℕ) (used : ℕ) (ed : Edit) (k i : ℕ) (list buf₁ list₁ buf₂ list₂ : List ℕ) (r s : Answer)
@@ -15,16 +15,4 @@ edit_decided buf used ed k i list buf₁ list₁ buf₂ list₂ r s p q = (
   p.numbers ∙ sym q.numbers,
   p.buffer ∙ sym q.buffer,
   p.listed ∙ sym q.listed,
-)
-
--- `edit_with_places`: the same, and every number of the table
-pub edit_places_decided : (buf : List ℕ) (used : ℕ) (ed : Edit) (k i : ℕ) (list places buf₁ list₁ places₁ buf₂ list₂ places₂ : List ℕ) (r s : Answer)
-    → EditPlacesPromise buf used ed k i list places buf₁ list₁ places₁ r → EditPlacesPromise buf used ed k i list places buf₂ list₂ places₂ s
-    → (r ≡ s) × (numbers_of r ≡ numbers_of s) × (buf₁ ≡ buf₂) × (list₁ ≡ list₂) × (places₁ ≡ places₂)
-edit_places_decided buf used ed k i list places buf₁ list₁ places₁ buf₂ list₂ places₂ r s p q = (
-  p.edited.answer ∙ sym q.edited.answer,
-  p.edited.numbers ∙ sym q.edited.numbers,
-  p.edited.buffer ∙ sym q.edited.buffer,
-  p.edited.listed ∙ sym q.edited.listed,
-  p.table ∙ sym q.table,
 )

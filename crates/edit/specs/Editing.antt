@@ -1,12 +1,11 @@
 -- Editing a message in a lent buffer: the grounds in their order, and what is left.
-use Rattle.std.specs.Prelude.{ℕ, ◌+◌, ◌-◌, Bool, true, List, ◌++◌, length, take, drop, replicate, leb}
+use Rattle.std.specs.Prelude.{ℕ, ◌+◌, ◌-◌, List, ◌++◌, length, take, drop, replicate, leb}
 use Rattle.bits.specs.Choice.{pick}
 use Rattle.bits.specs.Lent.{over}
-use Rattle.bits.specs.Outcome.{Outcome, accepted, refused, and_then, demand}
+use Rattle.bits.specs.Outcome.{Outcome, accepted, refused, and_then}
 use Rattle.tone.specs.Tone.{Tone, pattern_at}
 use Rattle.tone.specs.Writing.{tone_length, tone_octets, most_octets}
 use Rattle.tone.specs.Reading.{read_tone}
-use Rattle.places.specs.Rows.{place_rows, place_table, agrees, fits_rows}
 use Rattle.list_rules.specs.Sounding.{numbers}
 use Rattle.list_rules.specs.Playing.{Listing}
 use Rattle.list_rules.specs.Listing.{fitted, fits_numbers}
@@ -40,49 +39,16 @@ pub record Edited : Type 0 where
   pub tone : Tone
   pub listing : Listing
 
--- then 11 for the list, which goes beside the tone
+-- last 11 for the list, which goes beside the tone
 abbrev pub with_list : ℕ → Tone → Outcome Edited
 with_list cells t = and_then (fitted (fits_numbers cells) t) (λ g. accepted (record { tone = t; listing = g }))
 
--- ---- what lies beside a message
-
--- what an edit asks of it: that it is this tone's, and that it has room for the changed one
-pub record Beside : Type 0 where
-  pub belongs : Tone → Bool
-  pub fits : Tone → Bool
-
--- nothing does: nothing is asked
-abbrev pub alone : Beside
-alone = record { belongs = λ _. true; fits = λ _. true }
-
--- a lent place table: the rows that are there are the tone's, and there is a row for each header
-abbrev pub beside : List ℕ → Beside
-beside places = record { belongs = λ t. agrees places (place_rows t); fits = fits_rows (length places) }
-
--- 28 for a table that is not the message's, ahead of the edit's own grounds
-abbrev pub its_own : Beside → Tone → Outcome Tone
-its_own b t = demand (b.belongs t) 28 (accepted t)
-
--- and last 11, where there is no room beside it
-abbrev pub room_beside : Bool → Edited → Outcome Edited
-room_beside fits d = demand fits 11 (accepted d)
-
--- that is, for the rows
-abbrev pub with_rows : Beside → Edited → Outcome Edited
-with_rows b d = room_beside (b.fits d.tone) d
-
--- ---- the whole edit
-
--- the used length, the message's own refusals, the table, the edit's grounds, the buffer, the list, the rows
-unfoldable pub edit_beside : Beside → List ℕ → ℕ → Edit → ℕ → ℕ → ℕ → Outcome Edited
-edit_beside b buf used ed k i cells =
+-- the whole edit: the used length, the message's own refusals, the edit's grounds, the buffer, the list
+unfoldable pub edit_message : List ℕ → ℕ → Edit → ℕ → ℕ → ℕ → Outcome Edited
+edit_message buf used ed k i cells =
     pick (leb used (length buf))
-    (and_then (and_then (and_then (and_then (and_then (read_tone (take used buf)) (its_own b)) (edit_tone ed k i)) (in_buffer (length buf))) (with_list cells)) (with_rows b))
+    (and_then (and_then (and_then (read_tone (take used buf)) (edit_tone ed k i)) (in_buffer (length buf))) (with_list cells))
     (refused 1 0)
-
--- with nothing beside the message
-abbrev pub edit_message : List ℕ → ℕ → Edit → ℕ → ℕ → ℕ → Outcome Edited
-edit_message = edit_beside alone
 
 -- zeros from one octet up to another
 abbrev pub cleared : ℕ → ℕ → List ℕ → List ℕ
@@ -97,8 +63,3 @@ buffer_after (refused n p) used buf = buf
 abbrev pub list_after : Outcome Edited → List ℕ → List ℕ
 list_after (accepted d) list = over (numbers d.listing.entries) list
 list_after (refused n p) list = list
-
--- the place table after the edit: that of the changed tone, and the rest as it was
-abbrev pub places_after : Outcome Edited → List ℕ → List ℕ
-places_after (accepted d) places = over (place_table d.tone) places
-places_after (refused n p) places = places

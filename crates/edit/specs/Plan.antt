@@ -1,26 +1,23 @@
 -- The plan of an edit: why it is refused, or what is put where.
-use Rattle.std.specs.Prelude.{ℕ, ◌+◌, ◌-◌, ◌^◌, ◌≤◌, ◌<◌, ◌≡◌, Bool, true, false, List, length, take, drop, ltb}
+use Rattle.std.specs.Prelude.{ℕ, ◌+◌, ◌-◌, ◌^◌, ◌≤◌, ◌<◌, ◌≡◌, Bool, List, length, ltb}
 use Rattle.bits.specs.Choice.{pick}
 use Rattle.bits.specs.Bits.{bits_of, place_after}
 use Rattle.bits.specs.Outcome.{accepted, refused, and_then}
-use Rattle.tone.specs.Tone.{Tone, front_of, specifier, header, pattern_at, Formed}
-use Rattle.tone.specs.Writing.{front_bits, table_bits, song_bits, tone_octets, most_octets, WellFormed}
+use Rattle.tone.specs.Tone.{Tone, front_of, specifier, Formed}
+use Rattle.tone.specs.Writing.{front_bits, song_bits, tone_octets, most_octets, WellFormed}
 use Rattle.tone.specs.Reading.{read_tone}
 use Rattle.tone_judge.specs.declared.Wish.{Wish}
 use Rattle.list_count.specs.Bodies.{no_bodies}
 use Rattle.list_count.specs.Counting.{entry_count, mark_from}
 use Rattle.edit_build.specs.Anew.{joined}
 use Rattle.edit_change.specs.declared.Edit.{Edit}
-use Rattle.places.specs.Rows.{place_rows, agrees}
-use Rattle.edit_change.specs.Change.{carried, removed, body_after, with_body, changed, carries_new, instruction_place}
+use Rattle.edit_change.specs.Change.{changed, carries_new}
 use Rattle.edit_change.specs.Answers.{ground_of}
-use Rattle.edit.specs.declared.Answer.{Answer}
-use Rattle.edit.specs.declared.Answer.TheVariants.{Edited, Refused}
 use Rattle.edit.specs.declared.Outline.{Outline}
 use Rattle.edit.specs.declared.Layout.{Layout}
 use Rattle.edit.specs.declared.Plan.{Plan}
 use Rattle.edit.specs.declared.Plan.TheVariants.{Halt, Go}
-use Rattle.edit.specs.Editing.{edit_tone, beside, its_own}
+use Rattle.edit.specs.Editing.{edit_tone}
 
 -- the ground against an edit at instruction i of the pattern at k, of p, whose header is c: 6, 12, 13, 14, or 0 for none
 abbrev pub ground_for : Edit → ℕ → ℕ → ℕ → ℕ → ℕ
@@ -72,41 +69,17 @@ pub record SomeLaid (m : List ℕ) (l : Layout) : Type 0 where
 abbrev pub Room : ℕ → ℕ → ℕ → Type 0
 Room n buffer scratch = (n ≤ most_octets) × (n ≤ buffer) × (n ≤ scratch)
 
--- ---- the rows beside the message
-
--- the row of the part edited: there is such a part, the header is the changed one, and the bits that are put and taken are the edit's
-pub record RowLaid (ed : Edit) (k i : ℕ) (t : Tone) (l : Layout) : Type 0 where
-  pub found : k < length t.patterns
-  pub inside : i + removed ed ≤ length (pattern_at t.patterns k).body
-  pub cell : l.cell ≡ header (with_body (pattern_at t.patterns k) (body_after ed i (pattern_at t.patterns k).body))
-  pub came : l.piece.width ≡ length (table_bits (carried ed))
-  pub went : l.spot.behind.0 ≡ l.spot.at.0 + length (table_bits (take (removed ed) (drop i (pattern_at t.patterns k).body)))
-  pub at : l.spot.at.0 ≡ instruction_place t k i
-
--- an answer to an edit that was carried out
-abbrev pub is_done : Answer → Bool
-is_done (Edited l n k c) = true
-is_done (Refused n p) = false
-
 -- ---- plans
 
--- the message reads as a tone, the rows beside it are that tone's, the edit of it is accepted, and the changed tone is laid out
-pub record Going (m places : List ℕ) (ed : Edit) (k i : ℕ) (l : Layout) : Type 0 where
+-- the message reads as a tone, the edit of it is accepted, and the changed tone is laid out
+pub record Going (m : List ℕ) (ed : Edit) (k i : ℕ) (l : Layout) : Type 0 where
   pub tone : Tone
   pub reads : read_tone m ≡ accepted tone
   pub short : length m ≤ most_octets
-  pub owns : agrees places (place_rows tone) ≡ true
   pub accepts : edit_tone ed k i tone ≡ accepted (changed ed k i tone)
-  pub row : RowLaid ed k i tone l
   pub laid : Laid m l (changed ed k i tone)
 
--- some edit of the part named goes on so
-pub record RowsGoing (m places : List ℕ) (k : ℕ) (l : Layout) : Type 0 where
-  pub edit : Edit
-  pub instruction : ℕ
-  pub going : Going m places edit k instruction l
-
--- what a plan says of an edit of a message with rows beside it
-abbrev pub Plans : List ℕ → List ℕ → Wish → Plan → Type 0
-Plans m places w (Halt n p) = and_then (and_then (read_tone m) (its_own (beside places))) (edit_tone w.edit w.pattern w.instruction) ≡ refused n p.0
-Plans m places w (Go l) = Going m places w.edit w.pattern w.instruction l
+-- what a plan says of an edit of a message
+abbrev pub Plans : List ℕ → Wish → Plan → Type 0
+Plans m w (Halt n p) = and_then (read_tone m) (edit_tone w.edit w.pattern w.instruction) ≡ refused n p.0
+Plans m w (Go l) = Going m w.edit w.pattern w.instruction l

@@ -1,4 +1,4 @@
--- The promises of edits, with a place table and without.
+-- The promise of an edit.
 use Rattle.std.specs.Prelude.{ℕ, ◌≡◌, List, length, ℤ, pos, ◌-ℤ◌}
 use Rattle.bits.specs.Outcome.{Outcome, accepted, refused}
 use Rattle.bits.specs.Places.{place, octet_count}
@@ -6,7 +6,7 @@ use Rattle.tone.specs.Writing.{tone_length}
 use Rattle.edit_change.specs.declared.Edit.{Edit}
 use Rattle.edit.specs.declared.Answer.{Answer}
 use Rattle.edit.specs.declared.Answer.TheVariants.{Edited as Made, Refused}
-use Rattle.edit.specs.Editing.{Edited, Beside, alone, beside, edit_beside, buffer_after, list_after, places_after}
+use Rattle.edit.specs.Editing.{Edited, edit_message, buffer_after, list_after}
 
 -- the numbers of document 01
 pub record Numbers : Type 0 where
@@ -46,15 +46,6 @@ pub record Leaves (o : Outcome Edited) (used : ℕ) (buf list buf' list' : List 
   pub buffer : buf' ≡ buffer_after o used buf
   pub listed : list' ≡ list_after o list
 
--- what an edit of a message with this beside it answers and leaves
-abbrev pub LeavesBeside : Beside → List ℕ → ℕ → Edit → ℕ → ℕ → List ℕ → List ℕ → List ℕ → Answer → Type 0
-LeavesBeside b buf used ed k i list buf' list' r = Leaves (edit_beside b buf used ed k i (length list)) used buf list buf' list' r
-
 -- the promise
 abbrev pub EditPromise : List ℕ → ℕ → Edit → ℕ → ℕ → List ℕ → List ℕ → List ℕ → Answer → Type 0
-EditPromise = LeavesBeside alone
-
--- the promise of an edit with a place table: the same, and every number of the table
-pub record EditPlacesPromise (buf : List ℕ) (used : ℕ) (ed : Edit) (k i : ℕ) (list places buf' list' places' : List ℕ) (r : Answer) : Type 0 where
-  pub edited : LeavesBeside (beside places) buf used ed k i list buf' list' r
-  pub table : places' ≡ places_after (edit_beside (beside places) buf used ed k i (length list)) places
+EditPromise buf used ed k i list buf' list' r = Leaves (edit_message buf used ed k i (length list)) used buf list buf' list' r

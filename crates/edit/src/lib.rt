@@ -1,14 +1,13 @@
-ghost use Rattle.std.specs.Prelude.{◌≡◌, ℕ, ◌+◌, ◌≤◌, length, take, pos, ◌-ℤ◌};
+ghost use Rattle.std.specs.Prelude.{◌≡◌, ◌+◌, ◌≤◌, length, take, pos, ◌-ℤ◌};
 ghost use Rattle.bits.specs.Bits.{octets_to};
 ghost use Rattle.bits.specs.Outcome.{and_then};
 ghost use Rattle.bits.specs.Places.{place};
 ghost use Rattle.tone.specs.Tone.{Tone};
 ghost use Rattle.tone.specs.Writing.{tone_octets, WellFormed};
-ghost use Rattle.edit_change.specs.declared.Edit.{Edit};
-ghost use Rattle.edit.specs.Editing.{cleared, in_buffer, with_list, room_beside};
-ghost use Rattle.edit.specs.Promise.{Leaves, EditPromise, EditPlacesPromise};
+ghost use Rattle.edit.specs.Editing.{cleared, in_buffer, with_list};
+ghost use Rattle.edit.specs.Promise.{Leaves, EditPromise};
 ghost use Rattle.edit.specs.declared.Answer.TheVariants.{Refused};
-ghost use Rattle.edit.specs.Plan.{ground_for, Written, end_of, Laid, SomeLaid, Room, is_done, Going, RowsGoing, Plans};
+ghost use Rattle.edit.specs.Plan.{ground_for, Written, end_of, Laid, SomeLaid, Room, Plans};
 
 use bits::{BitPlace, OctetCount};
 use edit_build::{Piece, Spot};
@@ -85,12 +84,11 @@ fn ground(edit: Edit, k: usize, i: usize, patterns: u32, cell: u32) -> u32
     edit_change::ground(edit, i, (cell % 256) as usize)
 }
 
-// Judges a message with an edit in mind, and plans it. Judging has cut the part named, counted the changed list and compared the
-// rows that lie beside the message.
-fn plan_edit(msg: &[u8], wish: Wish, places: &[u32]) -> Plan
-    ensures { Plans msg.now places.now wish result }
+// Judges a message with an edit in mind, and plans it. Judging has cut the part named, and counted the changed list.
+fn plan_edit(msg: &[u8], wish: Wish) -> Plan
+    ensures { Plans msg.now wish result }
 {
-    match tone_judge::judge_for(msg, wish, places) {
+    match tone_judge::judge_for(msg, wish) {
         Judged::Faulty { number, at: fault } => Plan::Halt(number, fault),
         Judged::Sound {
             song: _,
@@ -100,9 +98,6 @@ fn plan_edit(msg: &[u8], wish: Wish, places: &[u32]) -> Plan
             total,
             unicode: _,
         } => {
-            if !total.own {
-                return Plan::Halt(28, BitPlace(0));
-            }
             let edit = wish.edit;
             let cut = total.cut;
             let cell = cut.cell;
@@ -158,8 +153,8 @@ fn clear(buf: &mut [u8], from: OctetCount, to: OctetCount)
     }
 }
 
-// Puts the message that was built in the first `n` octets of a scratch, and its list, in place of the old ones; or there is no
-// room in the list or beside the message, and nothing changes. What the list comes to was counted on the way over the old message.
+// Puts the message that was built in the first `n` octets of a scratch, and its list, in place of the old ones; or the
+// list refuses, and nothing changes. What the list comes to was counted on the way over the old message.
 fn finish(
     buf: &mut [u8],
     used: OctetCount,
@@ -167,20 +162,19 @@ fn finish(
     n: OctetCount,
     outline: Outline,
     list: &mut [u32],
-    fits: bool,
 ) -> Answer
     requires used_in_bounds { (used.0 ≤ length buf.old) × (used.0 ≤ 4096) × Room n.0 (length buf.old) (length scratch.old) }
     requires written { Written (take n.0 scratch.old) outline }
-    ensures { (t : Tone) → WellFormed t → tone_octets t ≡ take n.0 scratch.old → Leaves (and_then (with_list (length list.old) t) (room_beside fits)) used.0 buf.old list.old buf.new list.new result }
+    ensures { (t : Tone) → WellFormed t → tone_octets t ≡ take n.0 scratch.old → Leaves (with_list (length list.old) t) used.0 buf.old list.old buf.new list.new result }
 {
     let first = outline.first;
     let entries = outline.entries;
     let mark = outline.mark;
     if list.len() / list_rules::ENTRY_CELLS < entries as usize {
-        return halted(11);
-    }
-    if !fits {
-        return halted(11);
+        return Answer::Refused {
+            number: 11,
+            place: BitPlace(0),
+        };
     }
     let new = n.0;
     list_fill::fill_list(&scratch[..new], first, outline.patterns, list);
@@ -201,11 +195,10 @@ fn build_apart(
     layout: Layout,
     scratch: &mut [u8],
     list: &mut [u32],
-    fits: bool,
 ) -> Answer
     requires used_in_bounds { (used.0 ≤ length buf.old) × (used.0 ≤ 4096) × SomeLaid (take used.0 buf.old) layout }
     requires room { Room (octets_to (end_of layout) + 1) (length buf.old) (length scratch.old) }
-    ensures { (t : Tone) → Laid (take used.0 buf.old) layout t → Leaves (and_then (with_list (length list.old) t) (room_beside fits)) used.0 buf.old list.old buf.new list.new result }
+    ensures { (t : Tone) → Laid (take used.0 buf.old) layout t → Leaves (with_list (length list.old) t) used.0 buf.old list.old buf.new list.new result }
 {
     let old = used.0;
     let header = layout.header;
@@ -213,19 +206,13 @@ fn build_apart(
     let piece = layout.piece;
     let outline = layout.outline;
     let n = edit_build::build(&buf[..old], header, layout.cell, spot, piece, scratch);
-    finish(buf, used, scratch, n, outline, list, fits)
+    finish(buf, used, scratch, n, outline, list)
 }
 
 // Carries out an edit. A short message needs a short scratch: to clear a long one costs more than the edit.
-fn carry_out(
-    buf: &mut [u8],
-    used: OctetCount,
-    layout: Layout,
-    list: &mut [u32],
-    fits: bool,
-) -> Answer
+fn carry_out(buf: &mut [u8], used: OctetCount, layout: Layout, list: &mut [u32]) -> Answer
     requires { (used.0 ≤ length buf.old) × (used.0 ≤ 4096) × SomeLaid (take used.0 buf.old) layout }
-    ensures { (t : Tone) → Laid (take used.0 buf.old) layout t → Leaves (and_then (and_then (in_buffer (length buf.old) t) (with_list (length list.old))) (room_beside fits)) used.0 buf.old list.old buf.new list.new result }
+    ensures { (t : Tone) → Laid (take used.0 buf.old) layout t → Leaves (and_then (in_buffer (length buf.old) t) (with_list (length list.old))) used.0 buf.old list.old buf.new list.new result }
 {
     let spot = layout.spot;
     let piece = layout.piece;
@@ -239,10 +226,10 @@ fn carry_out(
     }
     if length <= 512 {
         let mut short = [0u8; 512];
-        return build_apart(buf, used, layout, &mut short, list, fits);
+        return build_apart(buf, used, layout, &mut short, list);
     }
     let mut long = [0u8; 4096];
-    build_apart(buf, used, layout, &mut long, list, fits)
+    build_apart(buf, used, layout, &mut long, list)
 }
 
 // Edits the message that lies in the first `used` octets of a lent buffer, and fills a lent list.
@@ -265,82 +252,8 @@ pub fn edit_message(
         pattern,
         instruction,
     };
-    match plan_edit(&buf[..old], wish, &[]) {
+    match plan_edit(&buf[..old], wish) {
         Plan::Halt(number, place) => Answer::Refused { number, place },
-        Plan::Go(layout) => carry_out(buf, used, layout, list, true),
-    }
-}
-
-// ---- with a place table
-
-// Was the edit carried out?
-fn is_done(answer: Answer) -> bool
-    ensures { result ≡ is_done answer }
-{
-    match answer {
-        Answer::Edited {
-            length: _,
-            entries: _,
-            mark: _,
-            change: _,
-        } => true,
-        Answer::Refused {
-            number: _,
-            place: _,
-        } => false,
-    }
-}
-
-// Carries out an edit, and renews the rows beside the message: the edited part's header, and the places of those behind it.
-fn carry_on(
-    buf: &mut [u8],
-    used: OctetCount,
-    pattern: usize,
-    layout: Layout,
-    list: &mut [u32],
-    places: &mut [u32],
-) -> Answer
-    requires { (used.0 ≤ length buf.old) × (used.0 ≤ 4096) × RowsGoing (take used.0 buf.old) places.old pattern layout }
-    ensures { (ed : Edit) (i : ℕ) → Going (take used.0 buf.old) places.old ed pattern i layout → EditPlacesPromise buf.old used.0 ed pattern i list.old places.old buf.new list.new places.new result }
-{
-    let outline = layout.outline;
-    let patterns = outline.patterns;
-    let fits = places::ROW_CELLS * patterns as usize <= places.len();
-    let answer = carry_out(buf, used, layout, list, fits);
-    if !is_done(answer) {
-        return answer;
-    }
-    let spot = layout.spot;
-    let came = layout.piece.width;
-    let went = (spot.behind.0 - spot.at.0) as u32;
-    places::renew_rows(places, pattern, patterns, layout.cell, came, went);
-    answer
-}
-
-// Edits a message with its place table beside it: the table is then that of the new message. One way over the message judges it
-// and compares the rows.
-pub fn edit_with_places(
-    buf: &mut [u8],
-    used: OctetCount,
-    edit: Edit,
-    pattern: usize,
-    instruction: usize,
-    list: &mut [u32],
-    places: &mut [u32],
-) -> Answer
-    ensures { EditPlacesPromise buf.old used.0 edit pattern instruction list.old places.old buf.new list.new places.new result }
-{
-    let old = used.0;
-    if buf.len() < old {
-        return halted(1);
-    }
-    let wish = Wish {
-        edit,
-        pattern,
-        instruction,
-    };
-    match plan_edit(&buf[..old], wish, places) {
-        Plan::Halt(number, place) => Answer::Refused { number, place },
-        Plan::Go(layout) => carry_on(buf, used, pattern, layout, list, places),
+        Plan::Go(layout) => carry_out(buf, used, layout, list),
     }
 }

@@ -1,37 +1,25 @@
 -- An edit is as good as starting over: what stands in the buffer after it is what `write` makes of the changed tone.
-use Prim.Native.Nat.{ℕ, ◌+◌, ◌*◌, ◌≤◌, ◌<◌}
+use Prim.Native.Nat.{ℕ, ◌≤◌}
 use mathlib.Core.Path.{◌≡◌, refl, sym, ap, ◌∙◌}
 use mathlib.Core.List.{List}
-use lib.ListN.{length, get_or, take, length-set}
-use borrow.Author.Tests.{leb-true}
-use Rattle.bits.specs.Bits.{bits_of, Octets}
+use lib.ListN.{length, take}
+use Rattle.bits.specs.Bits.{Octets}
 use Rattle.bits.specs.Lent.{over}
-use Rattle.bits.specs.Outcome.{Outcome, accepted}
+use Rattle.bits.specs.Outcome.{accepted}
 use Rattle.bits.specs.Places.{octet_count}
-use Rattle.tone.specs.Tone.{Tone, header, cells, pattern_at}
+use Rattle.tone.specs.Tone.{Tone, cells}
 use Rattle.tone.specs.Writing.{tone_length, tone_octets}
-use Rattle.tone.specs.Reading.{got, header_due, read_tone}
-use Rattle.tone_elements.specs.Answers.{all_known}
-use Rattle.tone_elements.proofs.Headers.{any_recalled}
-use Rattle.places.specs.Rows.{row_cells, fits_rows}
-use Rattle.places.proofs.Standing.{row_reads}
-use Rattle.place_table.specs.declared.Answer.{Answer as Placed}
-use Rattle.place_table.specs.declared.Answer.TheVariants.{Made}
-use Rattle.place_table.specs.Making.{make_table}
-use Rattle.place_table.specs.Promise.{table_answer, table_after, PlaceTablePromise}
-use Rattle.place_table.proofs.Order.{table_made}
+use Rattle.tone.specs.Reading.{read_tone}
 use Rattle.tone.proofs.Demand2.{read_well_formed, length_tone_octets}
 use Rattle.tone_write.specs.declared.Writing.{Writing}
 use Rattle.tone_write.specs.declared.Writing.TheVariants.{Written}
 use Rattle.tone_write.specs.Promise.{WritePromise}
 use Rattle.tone_write.proofs.Demand2.{write_gives}
 use Rattle.edit_change.specs.declared.Edit.{Edit}
-use Rattle.edit_change.specs.Change.{body_after, with_body, changed}
+use Rattle.edit_change.specs.Change.{changed}
 use Rattle.edit.specs.declared.Answer.{Answer}
-use Rattle.edit.specs.Editing.{alone, beside}
-use Rattle.edit.specs.Promise.{Numbers, EditPromise, EditPlacesPromise}
-use Rattle.edit.proofs.Calls.{Accepting, new_length, edit_numbers_lem, edit_bytes, edit_result_reads, Call, InARow, buffer_left, length_left, changed_by, row_reads as edits-read, row_bytes}
-use Rattle.edit.proofs.Tables.{table_is, table_as_long, table_belongs, place_after, header_after}
+use Rattle.edit.specs.Promise.{Numbers, EditPromise}
+use Rattle.edit.proofs.Calls.{Accepting, new_length, edit_numbers_lem, edit_bytes, edit_result_reads, Call, InARow, buffer_left, length_left, changed_by, row_reads, row_bytes}
 
 -- a call of `write` with the song type, UNICODE, title and table of t
 abbrev pub Writes : Tone → List ℕ → List ℕ → Writing → Type 0
@@ -53,10 +41,10 @@ pub edit_bytes_afresh : (buf : List ℕ) (used : ℕ) (ed : Edit) (k i : ℕ) (l
     → (w ≡ Written (octet_count (new_length r))) × (out' ≡ over (take (new_length r) buf') out)
 edit_bytes_afresh buf used ed k i list buf' list' r p a t q out out' w room h =
     let t' = changed ed k i t in
-    let e : take (new_length r) buf' ≡ tone_octets t' = edit_bytes alone buf used ed k i list buf' list' r p a t q in
+    let e : take (new_length r) buf' ≡ tone_octets t' = edit_bytes buf used ed k i list buf' list' r p a t q in
     let n : length (take (new_length r) buf') ≡ new_length r =
-    ap length e ∙ length_tone_octets t' ∙ sym (ap (λ (x : Numbers). x.length) (edit_numbers_lem alone buf used ed k i list buf' list' r p a t q)) in
-    let s = same_octets (take (new_length r) buf') t' (edit_result_reads alone buf used ed k i list buf' list' r p a t q) e out out' w (rw n room) h in
+    ap length e ∙ length_tone_octets t' ∙ sym (ap (λ (x : Numbers). x.length) (edit_numbers_lem buf used ed k i list buf' list' r p a t q)) in
+    let s = same_octets (take (new_length r) buf') t' (edit_result_reads buf used ed k i list buf' list' r p a t q) e out out' w (rw n room) h in
     (s.0 ∙ ap (λ (x : ℕ). Written (octet_count x)) n, s.1)
 
 -- any number of accepted edits in a row: writing the tone changed by each in turn gives the message that they leave
@@ -64,33 +52,4 @@ pub row_bytes_afresh : (cs : List Call) (buf : List ℕ) (used : ℕ) (t : Tone)
     → (out out' : List ℕ) (w : Writing) → length (take (length_left used cs) (buffer_left buf cs)) ≤ length out → Writes (changed_by cs t) out out' w
     → (w ≡ Written (octet_count (length (take (length_left used cs) (buffer_left buf cs))))) × (out' ≡ over (take (length_left used cs) (buffer_left buf cs)) out)
 row_bytes_afresh cs buf used t h q o out out' w room p =
-    same_octets (take (length_left used cs) (buffer_left buf cs)) (changed_by cs t) (edits-read cs buf used t h q) (row_bytes cs buf used t h q o) out out' w room p
-
--- ---- the place table
-
--- an accepted edit with a place table: making the table afresh from the new message, into what was lent for the edit, answers its headers and leaves the same
-pub edit_table_afresh : (buf : List ℕ) (used : ℕ) (ed : Edit) (k i : ℕ) (list places buf' list' places' : List ℕ) (r : Answer) → EditPlacesPromise buf used ed k i list places buf' list' places' r
-    → Accepting r → (t : Tone) → read_tone (take used buf) ≡ accepted t
-    → (places'' : List ℕ) (s : Placed) → PlaceTablePromise (take (new_length r) buf') places places'' s
-    → (s ≡ Made (length t.patterns)) × (places'' ≡ places')
-edit_table_afresh buf used ed k i list places buf' list' places' r p a t q places'' s h =
-    let t' = changed ed k i t in
-    let reads = edit_result_reads (beside places) buf used ed k i list buf' list' r p.edited a t q in
-    let fits = (table_belongs buf used ed k i list places buf' list' places' r p a t q).1 in
-    let long = table_as_long buf used ed k i list places buf' list' places' r p a t q in
-    let o : make_table (take (new_length r) buf') (length places) ≡ accepted t' = table_made (take (new_length r) buf') (length places) reads (leb-true (row_cells * length t'.patterns) (length places) (ap (λ (n : ℕ). fits_rows n t') (sym long) ∙ fits)) in
-    let n : length t'.patterns ≡ length t.patterns = length-set t.patterns k (with_body (pattern_at t.patterns k) (body_after ed i (pattern_at t.patterns k).body)) in (
-      h.answer ∙ ap table_answer o ∙ ap Made n,
-      h.leaves ∙ ap (λ (x : Outcome Tone). table_after x places) o ∙ sym (table_is buf used ed k i list places buf' list' places' r p a t q),
-    )
-
--- each row of the table that an accepted edit leaves is where that header stands: read there in the new octets, it is the header, whatever it recalls
-pub edit_row_reads : (buf : List ℕ) (used : ℕ) (ed : Edit) (k i : ℕ) (list places buf' list' places' : List ℕ) (r : Answer) → EditPlacesPromise buf used ed k i list places buf' list' places' r
-    → Accepting r → (t : Tone) → read_tone (take used buf) ≡ accepted t → (j : ℕ) → j < length t.patterns
-    → header_due all_known (bits_of (take (new_length r) buf')) (get_or places' (row_cells * j) 0) ≡ got (get_or places' (row_cells * j + 1) 0) (get_or places' (row_cells * j) 0 + 17)
-edit_row_reads buf used ed k i list places buf' list' places' r p a t q j h =
-    let t' = changed ed k i t in
-    let n : length t'.patterns ≡ length t.patterns = length-set t.patterns k (with_body (pattern_at t.patterns k) (body_after ed i (pattern_at t.patterns k).body)) in
-    let reads = edit_result_reads (beside places) buf used ed k i list buf' list' r p.edited a t q in
-    rw (place_after buf used ed k i list places buf' list' places' r p a t q j h, header_after buf used ed k i list places buf' list' places' r p a t q j h)
-    (row_reads (take (new_length r) buf') reads j (rw n h) all_known (any_recalled (header (pattern_at t'.patterns j))))
+    same_octets (take (length_left used cs) (buffer_left buf cs)) (changed_by cs t) (row_reads cs buf used t h q) (row_bytes cs buf used t h q o) out out' w room p

@@ -1,9 +1,8 @@
 -- What an edit changes in a tone.
 use Rattle.std.specs.Prelude.{ℕ, ◌+◌, ◌^◌, Bool, true, false, ◌&&◌, List, [], ◌∷◌, ◌++◌, length, take, drop, set, leb, ltb, eqb}
 use Rattle.tone.specs.Table.{kind, payload, width, allowed, is_instruction}
-use Rattle.tone.specs.Tone.{Pattern, Tone, pattern_at}
-use Rattle.tone.specs.Writing.{table_bits}
-use Rattle.places.specs.Rows.{header_place}
+use Rattle.tone.specs.Tone.{Pattern, Tone, front_of, cells, pattern_at}
+use Rattle.tone.specs.Writing.{table_bits, front_bits}
 use Rattle.edit_change.specs.declared.Edit.{Edit}
 use Rattle.edit_change.specs.declared.Edit.TheVariants.{Replace, Insert, Delete}
 
@@ -70,6 +69,10 @@ overfills (Insert e) n = eqb n 255
 overfills Delete n = false
 
 -- ---- where an instruction stands
+
+-- the place of the header at position k
+abbrev pub header_place : Tone → ℕ → ℕ
+header_place t k = length (front_bits (front_of t)) + length (table_bits (cells (take k t.patterns)))
 
 -- the place of instruction i of pattern k: its header's place, 17, and the widths before it
 abbrev pub instruction_place : Tone → ℕ → ℕ → ℕ

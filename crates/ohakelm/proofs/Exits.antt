@@ -32,10 +32,7 @@ use Rattle.list.specs.Promise.{numbers_of as listedNumbers, ListPromise, RowsPro
 use Rattle.edit_change.specs.declared.Edit.{Edit}
 use Rattle.edit.specs.declared.Answer.{Answer}
 use Rattle.edit.specs.declared.Answer.TheVariants.{Edited, Refused as Unedited}
-use Rattle.edit.specs.Promise.{numbers_of as edit_numbers, EditPromise, EditPlacesPromise}
-use Rattle.place_table.specs.declared.Answer.{Answer as Placed}
-use Rattle.place_table.specs.declared.Answer.TheVariants.{Made as PlacesMade, Refused as Unplaced}
-use Rattle.place_table.specs.Promise.{numbers_of as table_numbers, PlaceTablePromise}
+use Rattle.edit.specs.Promise.{numbers_of as edit_numbers, EditPromise}
 use Rattle.bitmap.specs.declared.Reading.{Reading as BitmapReading}
 use Rattle.bitmap.specs.declared.Reading.TheVariants.{Read as BitmapRead, Refused as Unread}
 use Rattle.bitmap.specs.declared.Writing.{Writing as BitmapWriting}
@@ -49,8 +46,7 @@ use Rattle.written.specs.declared.WrittenAnswer.{WrittenAnswer}
 use Rattle.ohakelm.specs.declared.LabelAnswer.{LabelAnswer}
 use Rattle.ohakelm.specs.declared.ListAnswer.{ListAnswer}
 use Rattle.ohakelm.specs.declared.EditAnswer.{EditAnswer}
-use Rattle.ohakelm.specs.declared.PlacesAnswer.{PlacesAnswer}
-use Rattle.ohakelm.specs.Promise.{read_as, ReadExport, written_as, WriteExport, LabelExport, listed_as, ListExport, RowsExport, edited_as, EditExport, placed_as, PlacesExport, EditPlacesExport, bitmap_as, BitmapReadExport, bitmap_written_as, BitmapWriteExport, KindWriteExport}
+use Rattle.ohakelm.specs.Promise.{read_as, ReadExport, written_as, WriteExport, LabelExport, listed_as, ListExport, RowsExport, edited_as, EditExport, bitmap_as, BitmapReadExport, bitmap_written_as, BitmapWriteExport, KindWriteExport}
 
 -- ---- reading a tone
 
@@ -142,24 +138,7 @@ pub edit_told : (ed : Edit) (buf : List ℕ) (used k i : ℕ) (list : List ℕ) 
     → EditPromise buf used ed k i list buf' list' x → r ≡ edited_as (edit_numbers x) → EditExport ed buf used k i list buf' list' r
 edit_told ed buf used k i list p e = record { answer = e ∙ ap edited_as p.numbers; buffer = p.buffer; listed = p.listed }
 
-pub edit_told_with : (ed : Edit) (buf : List ℕ) (used k i : ℕ) (list places : List ℕ) {buf' list' places' : List ℕ} {x : Answer} {r : EditAnswer}
-    → EditPlacesPromise buf used ed k i list places buf' list' places' x → r ≡ edited_as (edit_numbers x) → EditPlacesExport ed buf used k i list places buf' list' places' r
-edit_told_with ed buf used k i list places p e = record { edited = record { answer = e ∙ ap edited_as p.edited.numbers; buffer = p.edited.buffer; listed = p.edited.listed }; table = p.table }
-
--- ---- place tables
-
-pub places_refused : {x : Placed} {n : ℕ} {f : BitPlace} → x ≡ Unplaced n f → record { refusal = n; place = f.0; headers = 0 } ≡ placed_as (table_numbers x)
-places_refused g = ap (λ (y : Placed). placed_as (table_numbers y)) (sym g)
-
-pub places_made : {x : Placed} {n : ℕ} → x ≡ PlacesMade n → record { refusal = 0; place = 0; headers = n } ≡ placed_as (table_numbers x)
-places_made g = ap (λ (y : Placed). placed_as (table_numbers y)) (sym g)
-
-pub places_told : {m places places' : List ℕ} {x : Placed} {r : PlacesAnswer} → PlaceTablePromise m places places' x → r ≡ placed_as (table_numbers x) → PlacesExport m places places' r
-places_told p e = record { answer = e ∙ ap placed_as p.said; leaves = p.leaves }
-
-pub ruleset placings = (places_refused, places_made, places_told)
-
-pub ruleset edits = (edit_refused, edit_made, edit_told, edit_told_with)
+pub ruleset edits = (edit_refused, edit_made, edit_told)
 
 -- ---- bitmaps
 

@@ -29,10 +29,7 @@ use Rattle.list_rules.proofs.Bounds.{list_most}
 use Rattle.list.specs.Promise.{list_numbers}
 use Rattle.edit_change.specs.declared.Edit.{Edit}
 use Rattle.edit_change.specs.Change.{carries_new, is_there, empties, overfills}
-use Rattle.places.specs.Rows.{row_cells, fits_rows}
-use Rattle.place_table.specs.Making.{make_table}
-use Rattle.place_table.specs.Promise.{table_numbers}
-use Rattle.edit.specs.Editing.{body_length, edit_tone, in_buffer, with_list, Beside, alone, beside, with_rows, edit_beside}
+use Rattle.edit.specs.Editing.{body_length, edit_tone, in_buffer, with_list, edit_message}
 use Rattle.edit.specs.Promise.{edit_numbers}
 use Rattle.edit.proofs.Demand3.{edit_grounds, edit_formed}
 use Rattle.bitmap.specs.Bitmap.{Bitmap, writing_into}
@@ -58,9 +55,8 @@ use Rattle.ohakelm.specs.declared.ToneAnswer.{ToneAnswer}
 use Rattle.written.specs.declared.WrittenAnswer.{WrittenAnswer}
 use Rattle.ohakelm.specs.declared.ListAnswer.{ListAnswer}
 use Rattle.ohakelm.specs.declared.EditAnswer.{EditAnswer}
-use Rattle.ohakelm.specs.declared.PlacesAnswer.{PlacesAnswer}
-use Rattle.ohakelm.specs.Promise.{ReadExport, WriteExport, ListExport, RowsExport, EditExport, PlacesExport, EditPlacesExport, BitmapWriteExport, KindWriteExport}
-use Rattle.ohakelm.specs.Room.{title_room, table_room, tone_room, entries_room, list_room, bitmap_room, kind_room, pack_room, report_room, places_room}
+use Rattle.ohakelm.specs.Promise.{ReadExport, WriteExport, ListExport, RowsExport, EditExport, BitmapWriteExport, KindWriteExport}
+use Rattle.ohakelm.specs.Room.{title_room, table_room, tone_room, entries_room, list_room, bitmap_room, kind_room, pack_room, report_room}
 
 -- accepted, or refused on another ground than 11
 data Spared {A : Type 0} : Outcome A → Type 0 where
@@ -173,33 +169,24 @@ grounds_spared ed k i t =
 spared_on : {A B : Type 0} {n p : ℕ} → Spared {A = A} (refused n p) → Spared {A = B} (refused n p)
 spared_on (other n h) = other n h
 
-edit_spared : (b : Beside) (ed : Edit) (buf : List ℕ) (used k i cells : ℕ) → ((t : Tone) → Formed t → b.fits t ≡ true) → tone_room ≤ length buf → list_room ≤ cells → Spared (edit_beside b buf used ed k i cells)
-unfolding edit_beside
-edit_spared b ed buf used k i cells room h l =
+edit_spared : (ed : Edit) (buf : List ℕ) (used k i cells : ℕ) → tone_room ≤ length buf → list_room ≤ cells → Spared (edit_message buf used ed k i cells)
+unfolding edit_message
+edit_spared ed buf used k i cells h l =
     pick_elim Spared (leb used (length buf)) (λ _.
-    then_elim Owned (read_tone (take used buf)) (λ t e.
-    pick_elim Owned (b.belongs t) (λ _.
-    then_elim Put (edit_tone ed k i t) (λ t' a.
+    then_elim (λ x. Spared (and_then (and_then x (in_buffer (length buf))) (with_list cells))) (read_tone (take used buf)) (λ t e.
+    then_elim (λ x. Spared (and_then x (with_list cells))) (edit_tone ed k i t) (λ t' a.
     let g = edit_grounds ed k i t t' a in
     put t' (subst Formed (sym g.1) (edit_formed ed k i t (read_well_formed (take used buf) t e).formed g.0)))
     (λ n p a. spared_on (subst Spared a (grounds_spared ed k i t))))
-    (λ _. other 28 refl))
     (λ n p e. unread (take used buf) e))
     (λ _. other 1 refl)
   where
-    -- a changed tone goes to the list and the rows
-    Put : Outcome Tone → Type 0
-    Put x = Spared (and_then (and_then x (with_list cells)) (with_rows b))
-
-    Owned : Outcome Tone → Type 0
-    Owned x = Put (and_then (and_then x (edit_tone ed k i)) (in_buffer (length buf)))
-
-    -- in the buffer, with its list and its rows
-    put : (t : Tone) → Formed t → Put (in_buffer (length buf) t)
+    -- a changed tone, in the buffer and with its list
+    put : (t : Tone) → Formed t → Spared (and_then (in_buffer (length buf) t) (with_list cells))
     put t f =
         let n = tone_length t in
-        pick_elim Put (leb n most_octets) (λ a.
-        pick_elim Put (leb n (length buf)) (λ _. rw (numbers_fit cells t f l, room t f) none)
+        pick_elim (λ x. Spared (and_then x (with_list cells))) (leb n most_octets) (λ a.
+        pick_elim (λ x. Spared (and_then x (with_list cells))) (leb n (length buf)) (λ _. rw (numbers_fit cells t f l) none)
         (λ b. let z : ⊥ = omega (arith, leb-true n most_octets a, leb-false n (length buf) b) in absurd z))
         (λ _. other 1 refl)
 
@@ -207,31 +194,8 @@ edit_spared b ed buf used k i cells room h l =
 pub edit_room : (ed : Edit) (buf : List ℕ) (used k i : ℕ) (list buf' list' : List ℕ) (r : EditAnswer) → EditExport ed buf used k i list buf' list' r
     → tone_room ≤ length buf → list_room ≤ length list → r.refusal ≡ 11 → ⊥
 edit_room ed buf used k i list buf' list' r x h l e =
-    not_eleven (λ o. (edit_numbers used o).refusal) (λ _. refl) (λ _ _. refl) (edit_spared alone ed buf used k i (length list) (λ _ _. refl) h l)
+    not_eleven (λ o. (edit_numbers used o).refusal) (λ _. refl) (λ _ _. refl) (edit_spared ed buf used k i (length list) h l)
     (sym (ap (λ (a : EditAnswer). a.refusal) x.answer) ∙ e)
-
--- ---- place tables
-
--- no tone has more than 255 headers
-places_fit : (room : ℕ) (t : Tone) → Formed t → places_room ≤ room → fits_rows room t ≡ true
-places_fit room t f h = le-leb (row_cells * length t.patterns) room (omega (arith, f.front.most, h))
-
--- the same with places, with a table of 510 numbers too
-pub edit_places_room : (ed : Edit) (buf : List ℕ) (used k i : ℕ) (list places buf' list' places' : List ℕ) (r : EditAnswer) → EditPlacesExport ed buf used k i list places buf' list' places' r
-    → tone_room ≤ length buf → list_room ≤ length list → places_room ≤ length places → r.refusal ≡ 11 → ⊥
-edit_places_room ed buf used k i list places buf' list' places' r x h l s e =
-    not_eleven (λ o. (edit_numbers used o).refusal) (λ _. refl) (λ _ _. refl) (edit_spared (beside places) ed buf used k i (length list) (λ t f. places_fit (length places) t f s) h l)
-    (sym (ap (λ (a : EditAnswer). a.refusal) x.edited.answer) ∙ e)
-
-table_spared : (m : List ℕ) (room : ℕ) → places_room ≤ room → Spared (make_table m room)
-unfolding make_table
-table_spared m room h = then_elim Spared (read_tone m) (λ t e. rw (places_fit room t (read_well_formed m t e).formed h) none) (λ n p e. unread m e)
-
--- `ohakelm_places`, with a table of 510 numbers
-pub places_room_lem : (m places places' : List ℕ) (r : PlacesAnswer) → PlacesExport m places places' r → places_room ≤ length places → r.refusal ≡ 11 → ⊥
-places_room_lem m places places' r x h e =
-    not_eleven (λ o. (table_numbers o).refusal) (λ _. refl) (λ _ _. refl) (table_spared m (length places) h)
-    (sym (ap (λ (a : PlacesAnswer). a.refusal) x.answer) ∙ e)
 
 -- ---- bitmaps, icons and logos
 

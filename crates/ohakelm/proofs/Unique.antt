@@ -13,8 +13,7 @@ use Rattle.written.specs.declared.WrittenAnswer.{WrittenAnswer}
 use Rattle.ohakelm.specs.declared.LabelAnswer.{LabelAnswer}
 use Rattle.ohakelm.specs.declared.ListAnswer.{ListAnswer}
 use Rattle.ohakelm.specs.declared.EditAnswer.{EditAnswer}
-use Rattle.ohakelm.specs.declared.PlacesAnswer.{PlacesAnswer}
-use Rattle.ohakelm.specs.Promise.{VersionExport, ReadExport, WriteExport, LabelExport, ListExport, RowsExport, EditExport, PlacesExport, EditPlacesExport, BitmapReadExport, BitmapWriteExport, KindWriteExport}
+use Rattle.ohakelm.specs.Promise.{VersionExport, ReadExport, WriteExport, LabelExport, ListExport, RowsExport, EditExport, BitmapReadExport, BitmapWriteExport, KindWriteExport}
 
 -- `ohakelm_version`: the answer
 pub version_decided : (r s : ℕ) → VersionExport r → VersionExport s → r ≡ s
@@ -51,20 +50,6 @@ pub edit_decided : (ed : Edit) (buf : List ℕ) (used k i : ℕ) (list buf₁ li
     → EditExport ed buf used k i list buf₁ list₁ r → EditExport ed buf used k i list buf₂ list₂ s → (r ≡ s) × (buf₁ ≡ buf₂) × (list₁ ≡ list₂)
 edit_decided ed buf used k i list buf₁ list₁ buf₂ list₂ r s p q =
     (p.answer ∙ sym q.answer, p.buffer ∙ sym q.buffer, p.listed ∙ sym q.listed)
-
--- `ohakelm_places`: the answer and the table
-pub places_decided : (m places places₁ places₂ : List ℕ) (r s : PlacesAnswer) → PlacesExport m places places₁ r → PlacesExport m places places₂ s → (r ≡ s) × (places₁ ≡ places₂)
-places_decided m places places₁ places₂ r s p q = (p.answer ∙ sym q.answer, p.leaves ∙ sym q.leaves)
-
--- `ohakelm_replace_with_places`, `ohakelm_insert_with_places`, `ohakelm_delete_with_places`: the answer, the buffer, the list and the table
-pub edit_places_decided : (ed : Edit) (buf : List ℕ) (used k i : ℕ) (list places buf₁ list₁ places₁ buf₂ list₂ places₂ : List ℕ) (r s : EditAnswer)
-    → EditPlacesExport ed buf used k i list places buf₁ list₁ places₁ r → EditPlacesExport ed buf used k i list places buf₂ list₂ places₂ s → (r ≡ s) × (buf₁ ≡ buf₂) × (list₁ ≡ list₂) × (places₁ ≡ places₂)
-edit_places_decided ed buf used k i list places buf₁ list₁ places₁ buf₂ list₂ places₂ r s p q = (
-  p.edited.answer ∙ sym q.edited.answer,
-  p.edited.buffer ∙ sym q.edited.buffer,
-  p.edited.listed ∙ sym q.edited.listed,
-  p.table ∙ sym q.table,
-)
 
 -- `ohakelm_bitmap_read`: the answer
 pub bitmap_read_decided : (m : List ℕ) (r s : BitmapAnswer) → BitmapReadExport m r → BitmapReadExport m s → r ≡ s

@@ -11,9 +11,7 @@ use Rattle.list_rules.specs.Playing.{Listing}
 use Rattle.list_rules.specs.Listing.{list_tone, fits_numbers, fits_both}
 use Rattle.list.specs.Promise.{Numbers as ListNumbers, list_numbers, cells_after, rows_after}
 use Rattle.edit_change.specs.declared.Edit.{Edit}
-use Rattle.place_table.specs.Making.{make_table}
-use Rattle.place_table.specs.Promise.{TableNumbers, table_numbers, table_after as madeAfter}
-use Rattle.edit.specs.Editing.{Edited, beside, edit_beside, edit_message, buffer_after, list_after, places_after}
+use Rattle.edit.specs.Editing.{Edited, edit_message, buffer_after, list_after}
 use Rattle.edit.specs.Promise.{Numbers as EditNumbers, edit_numbers}
 use Rattle.bitmap.specs.Bitmap.{reading, writing_into}
 use Rattle.bitmap.specs.Promises.{ReadNumbers as BitmapNumbers, read_numbers as bitmapNumbers, image_of, image_start, WriteNumbers as BitmapWritten, write_numbers as bitmapWritten, lent_after}
@@ -26,13 +24,12 @@ use Rattle.written.specs.declared.WrittenAnswer.{WrittenAnswer}
 use Rattle.ohakelm.specs.declared.LabelAnswer.{LabelAnswer}
 use Rattle.ohakelm.specs.declared.ListAnswer.{ListAnswer}
 use Rattle.ohakelm.specs.declared.EditAnswer.{EditAnswer}
-use Rattle.ohakelm.specs.declared.PlacesAnswer.{PlacesAnswer}
 
 -- ---- the version
 
 -- a version is first × 10,000 + second × 100 + third; this one is 0.10.0
 abbrev pub version : ℕ
-version = 0 * 10000 + 11 * 100 + 0
+version = 0 * 10000 + 10 * 100 + 0
 
 -- `ohakelm_version`: the version
 pub record VersionExport (r : ℕ) : Type 0 where
@@ -116,22 +113,6 @@ pub record EditLeaves (o : Outcome Edited) (used : ℕ) (buf list buf' list' : L
 -- `ohakelm_replace`, `ohakelm_insert` and `ohakelm_delete`, each with its own edit: every number, every octet of the buffer and every cell of the list
 abbrev pub EditExport : Edit → List ℕ → ℕ → ℕ → ℕ → List ℕ → List ℕ → List ℕ → EditAnswer → Type 0
 EditExport ed buf used k i list buf' list' r = EditLeaves (edit_message buf used ed k i (length list)) used buf list buf' list' r
-
--- ---- place tables
-
--- the numbers of a place table, as the answer holds them
-abbrev pub placed_as : TableNumbers → PlacesAnswer
-placed_as n = record { refusal = n.refusal; place = n.place; headers = n.headers }
-
--- `ohakelm_places`: every number, and every number of the table
-pub record PlacesExport (m places places' : List ℕ) (r : PlacesAnswer) : Type 0 where
-  pub answer : r ≡ placed_as (table_numbers (make_table m (length places)))
-  pub leaves : places' ≡ madeAfter (make_table m (length places)) places
-
--- `ohakelm_replace_with_places`, `ohakelm_insert_with_places` and `ohakelm_delete_with_places`, each with its own edit: as without, and every number of the table
-pub record EditPlacesExport (ed : Edit) (buf : List ℕ) (used k i : ℕ) (list places buf' list' places' : List ℕ) (r : EditAnswer) : Type 0 where
-  pub edited : EditLeaves (edit_beside (beside places) buf used ed k i (length list)) used buf list buf' list' r
-  pub table : places' ≡ places_after (edit_beside (beside places) buf used ed k i (length list)) places
 
 -- ---- bitmaps
 

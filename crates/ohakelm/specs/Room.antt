@@ -49,7 +49,3 @@ pack_room = 65535
 -- numbers for the report of tones that are got out of a broken pack
 abbrev pub report_room : ℕ
 report_room = 16381
-
--- numbers for a place table: two for each of 255 headers
-abbrev pub places_room : ℕ
-places_room = 510

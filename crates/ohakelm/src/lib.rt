@@ -1,14 +1,13 @@
 ghost use Rattle.std.specs.Prelude.{◌≡◌, length};
 ghost use Rattle.list.specs.Promise.{numbers_of as listedNumbers};
 ghost use Rattle.edit.specs.Promise.{numbers_of as edit_numbers};
-ghost use Rattle.place_table.specs.Promise.{numbers_of as table_numbers};
 ghost use Rattle.edit_change.specs.declared.Edit.TheVariants.{Replace, Insert, Delete};
 ghost use Rattle.bitmap.specs.Promises.{numbers_of_writing as bitmapNumbers};
 ghost use Rattle.bitmap_ahead.specs.declared.Kind.TheVariants.{Icon, Logo};
 ghost use Rattle.bitmap_ahead.specs.Ahead.{said, nothing};
 ghost use Rattle.bitmap_answers.specs.Promise.{IconReadExport, LogoReadExport};
 ghost use Rattle.pack_answers.specs.Promise.{PackReadExport, PackMessageExport, PackWriteExport, PackSalvageExport};
-ghost use Rattle.ohakelm.specs.Promise.{VersionExport, ReadExport, WriteExport, LabelExport, ListExport, RowsExport, EditExport, PlacesExport, EditPlacesExport, BitmapReadExport, BitmapWriteExport, KindWriteExport, listed_as, edited_as, placed_as, bitmap_written_as};
+ghost use Rattle.ohakelm.specs.Promise.{VersionExport, ReadExport, WriteExport, LabelExport, ListExport, RowsExport, EditExport, BitmapReadExport, BitmapWriteExport, KindWriteExport, listed_as, edited_as, bitmap_written_as};
 
 use bitmap_ahead::Kind;
 use bitmap_answers::{BitmapAnswer, LogoAnswer};
@@ -69,23 +68,14 @@ pub struct EditAnswer {
     pub change: i32,
 }
 
-// What making a place table answers.
-#[repr(C)]
-#[derive(Drop)]
-pub struct PlacesAnswer {
-    pub refusal: u32,
-    pub place: usize,
-    pub headers: usize,
-}
-
 // ---- the version
 
-// The version of the library, 0.11.0.
+// The version of the library, 0.10.0.
 #[unsafe(no_mangle)]
 pub extern "C" fn ohakelm_version() -> u32
     ensures { VersionExport result }
 {
-    1100
+    1000
 }
 
 // ---- tones
@@ -311,102 +301,6 @@ pub extern "C" fn ohakelm_delete(
         instruction,
         list,
     )
-}
-
-// ---- place tables
-
-// The numbers of a place table.
-fn places_answer(made: place_table::Answer) -> PlacesAnswer
-    ensures { result ≡ placed_as (table_numbers made) }
-{
-    match made {
-        place_table::Answer::Refused { number, place } => PlacesAnswer {
-            refusal: number,
-            place: place.0,
-            headers: 0,
-        },
-        place_table::Answer::Made { headers } => PlacesAnswer {
-            refusal: 0,
-            place: 0,
-            headers: headers as usize,
-        },
-    }
-}
-
-// Makes the place table of a tone message, two numbers a header.
-#[unsafe(no_mangle)]
-pub extern "C" fn ohakelm_places(msg: &[u8], places: &mut [u32]) -> PlacesAnswer
-    ensures { PlacesExport msg.now places.old places.new result }
-{
-    places_answer(place_table::place_table(msg, places))
-}
-
-// Edits with a place table, and answers by the numbers.
-fn edited_with(
-    buf: &mut [u8],
-    used: OctetCount,
-    edit: Edit,
-    pattern: usize,
-    instruction: usize,
-    list: &mut [u32],
-    places: &mut [u32],
-) -> EditAnswer
-    ensures { EditPlacesExport edit buf.old used.0 pattern instruction list.old places.old buf.new list.new places.new result }
-{
-    edit_answer(edit::edit_with_places(buf, used, edit, pattern, instruction, list, places))
-}
-
-// Puts another instruction in an instruction's place, with the place table.
-#[unsafe(no_mangle)]
-pub extern "C" fn ohakelm_replace_with_places(
-    buf: &mut [u8],
-    used: usize,
-    pattern: usize,
-    instruction: usize,
-    cell: u32,
-    list: &mut [u32],
-    places: &mut [u32],
-) -> EditAnswer
-    ensures { EditPlacesExport (Replace cell) buf.old used pattern instruction list.old places.old buf.new list.new places.new result }
-{
-    let edit = Edit::Replace(cell);
-    let used = OctetCount(used);
-    edited_with(buf, used, edit, pattern, instruction, list, places)
-}
-
-// Inserts an instruction before another one, or behind the last, with the place table.
-#[unsafe(no_mangle)]
-pub extern "C" fn ohakelm_insert_with_places(
-    buf: &mut [u8],
-    used: usize,
-    pattern: usize,
-    instruction: usize,
-    cell: u32,
-    list: &mut [u32],
-    places: &mut [u32],
-) -> EditAnswer
-    ensures { EditPlacesExport (Insert cell) buf.old used pattern instruction list.old places.old buf.new list.new places.new result }
-{
-    let edit = Edit::Insert(cell);
-    let used = OctetCount(used);
-    edited_with(buf, used, edit, pattern, instruction, list, places)
-}
-
-// Deletes an instruction, with the place table.
-#[unsafe(no_mangle)]
-pub extern "C" fn ohakelm_delete_with_places(
-    buf: &mut [u8],
-    used: usize,
-    pattern: usize,
-    instruction: usize,
-    list: &mut [u32],
-    places: &mut [u32],
-) -> EditAnswer
-    ensures { EditPlacesExport Delete buf.old used pattern instruction list.old places.old buf.new list.new places.new result }
-{
-    let edit = Edit::Delete;
-    let used = OctetCount(used);
-    edited_with(buf, used, edit, pattern, instruction, list, places)
 }
 
 // ---- bitmaps

@@ -19,8 +19,6 @@
 //   m CELLS NAME                                            lists it in both forms, with four records lent
 //   e EDIT OCTETS CELLS PATTERN INSTRUCTION ENTRY NAME      replaces (0), inserts (1) or deletes (2) an instruction of the
 //                                                           message in hand, with so many octets of its buffer lent
-//   s CELLS NAME                                            makes the place table of the message in hand
-//   f EDIT OCTETS CELLS PATTERN INSTRUCTION ENTRY NAME      edits as e does, with the table in hand as its place table
 //   i KIND NAME                                             reads a bitmap (0), an icon (1) or a logo (2)
 //   o KIND WIDTH HEIGHT OCTETS NAME                         writes one of the image, the codes and the date in hand
 //   p NAME                                                  reads a pack
@@ -40,7 +38,7 @@ ghost use Rattle.std.specs.Prelude.{◌≤◌, length};
 
 use bitmap_answers::{BitmapAnswer, LogoAnswer};
 use list_rules::Entry;
-use ohakelm::{EditAnswer, LabelAnswer, ListAnswer, PlacesAnswer, ToneAnswer};
+use ohakelm::{EditAnswer, LabelAnswer, ListAnswer, ToneAnswer};
 use pack_answers::{PackAnswer, SalvageAnswer, StretchAnswer};
 use written::WrittenAnswer;
 
@@ -134,13 +132,6 @@ fn show_edited(answer: EditAnswer) {
     vectors::number(answer.entries as u64);
     vectors::number(answer.mark as u64);
     vectors::signed(answer.change);
-}
-
-// Prints what making a place table answers.
-fn show_placed(answer: PlacesAnswer) {
-    vectors::number(answer.refusal as u64);
-    vectors::number(answer.place as u64);
-    vectors::number(answer.headers as u64);
 }
 
 // Prints what reading a bitmap or an icon answers.
@@ -287,99 +278,6 @@ fn lend_edit(
     );
 }
 
-// Makes a place table. Prints the answer and what was lent.
-fn places(msg: &[u8], table: &mut [u32]) {
-    show_placed(ohakelm::ohakelm_places(msg, table));
-    show_lent(table);
-}
-
-// Edits a message with a place table.
-fn edited_with(
-    which: u64,
-    buf: &mut [u8],
-    used: usize,
-    pattern: usize,
-    instruction: usize,
-    cell: u32,
-    cells: &mut [u32],
-    table: &mut [u32],
-) -> EditAnswer {
-    if which == 0 {
-        return ohakelm::ohakelm_replace_with_places(
-            buf,
-            used,
-            pattern,
-            instruction,
-            cell,
-            cells,
-            table,
-        );
-    }
-    if which == 1 {
-        return ohakelm::ohakelm_insert_with_places(
-            buf,
-            used,
-            pattern,
-            instruction,
-            cell,
-            cells,
-            table,
-        );
-    }
-    ohakelm::ohakelm_delete_with_places(buf, used, pattern, instruction, cells, table)
-}
-
-// The same. Prints the answer and what was lent.
-fn edit_with(
-    which: u64,
-    buf: &mut [u8],
-    used: usize,
-    pattern: usize,
-    instruction: usize,
-    cell: u32,
-    cells: &mut [u32],
-    table: &mut [u32],
-) {
-    show_edited(edited_with(which, buf, used, pattern, instruction, cell, cells, table));
-    vectors::show_part(buf);
-    show_lent(cells);
-    show_lent(table);
-}
-
-// The same of a message in its buffer, with so many octets and so many cells lent, and so many numbers of a table.
-fn lend_edit_with(
-    which: u64,
-    msg: [u8; 1024],
-    used: usize,
-    octets: usize,
-    cells: usize,
-    pattern: usize,
-    instruction: usize,
-    cell: u32,
-    table: [u32; 32],
-    numbers: usize,
-) {
-    let mut buf = msg;
-    let mut list = [7u32; 64];
-    let mut rows = table;
-    if 1024 < octets || 64 < cells {
-        return;
-    }
-    if 32 < numbers {
-        return;
-    }
-    edit_with(
-        which,
-        &mut buf[0..octets],
-        used,
-        pattern,
-        instruction,
-        cell,
-        &mut list[0..cells],
-        &mut rows[0..numbers],
-    );
-}
-
 // Writes a bitmap of a kind.
 fn draw(
     kind: u64,
@@ -496,45 +394,6 @@ fn edit_case(line: &[u8], msg: &[u8; 1024], used: usize)
         pattern.value as usize,
         instruction.value as usize,
         vectors::cell(entry.value),
-    );
-}
-
-// Makes a place table as a line says.
-fn places_case(line: &[u8], msg: &[u8])
-    requires { 2 ≤ length line.now }
-{
-    let cells = vectors::word(line, 2);
-    vectors::name(line, cells.next);
-    let mut lent = [7u32; 64];
-    let end = cells.value as usize;
-    if 64 < end {
-        return;
-    }
-    places(msg, &mut lent[0..end]);
-}
-
-// Edits a message with a place table as a line says.
-fn edit_with_case(line: &[u8], msg: &[u8; 1024], used: usize, table: &[u32; 32], numbers: usize)
-    requires { 2 ≤ length line.now }
-{
-    let which = vectors::word(line, 2);
-    let octets = vectors::word(line, which.next);
-    let cells = vectors::word(line, octets.next);
-    let pattern = vectors::word(line, cells.next);
-    let instruction = vectors::word(line, pattern.next);
-    let entry = vectors::word(line, instruction.next);
-    vectors::name(line, entry.next);
-    lend_edit_with(
-        which.value,
-        *msg,
-        used,
-        octets.value as usize,
-        cells.value as usize,
-        pattern.value as usize,
-        instruction.value as usize,
-        vectors::cell(entry.value),
-        *table,
-        numbers,
     );
 }
 
@@ -670,7 +529,7 @@ fn for_pack(letter: u8) -> bool {
 }
 
 // Makes the call on a tone that a line says.
-fn tone_call(line: &[u8], hand: InHand, octets: &[u8; 1024], first: &[u8], cells: &[u32; 32])
+fn tone_call(line: &[u8], hand: InHand, octets: &[u8; 1024], first: &[u8], cells: &[u32])
     requires { 2 ≤ length line.now }
 {
     let letter = line[0];
@@ -680,25 +539,16 @@ fn tone_call(line: &[u8], hand: InHand, octets: &[u8; 1024], first: &[u8], cells
         edit_case(line, octets, used);
         return;
     }
-    if letter == b'f' {
-        edit_with_case(line, octets, used, cells, end);
-        return;
-    }
     let msg = vectors::front(octets, used);
     if letter == b'r' {
         read_case(line, msg);
         return;
     }
-    if letter == b's' {
-        places_case(line, msg);
-        return;
-    }
     if letter == b'w' {
-        if 32 < end {
+        if cells.len() < end {
             return;
         }
-        let table = &cells[..];
-        write_case(line, msg, &table[0..end]);
+        write_case(line, msg, &cells[0..end]);
         return;
     }
     if letter == b'n' {
@@ -716,7 +566,7 @@ fn call(
     first: &[u8],
     second: &[u8],
     third: &[u8],
-    cells: &[u32; 32],
+    cells: &[u32],
 )
     requires { 2 ≤ length line.now }
 {
@@ -742,11 +592,10 @@ fn call(
     }
     if for_pack(letter) {
         let end = hand.cells;
-        if 32 < end {
+        if cells.len() < end {
             return;
         }
-        let lengths = &cells[..];
-        pack_case(line, vectors::front(octets, hand.octets), &lengths[0..end]);
+        pack_case(line, vectors::front(octets, hand.octets), &cells[0..end]);
         return;
     }
     tone_call(line, hand, octets, first, cells);

@@ -12,9 +12,7 @@ use Rattle.samples.proofs.Label.{labels}
 use Rattle.samples.proofs.List.{lists}
 use Rattle.samples.proofs.Endless.{endless}
 use Rattle.samples.proofs.Drift.{drift}
-use Rattle.place_table.proofs.Samples.{table_samples}
 use Rattle.samples.proofs.Edits.{edits}
-use Rattle.samples.proofs.Places.{places}
 use Rattle.samples.proofs.Origins.{origins}
 use Rattle.samples.proofs.Bounds.{bounds}
 use Rattle.samples.proofs.Text.{texts}
@@ -31,8 +29,6 @@ pinned = record {
   drift = drift;
   durations = lengths.durations;
   edits = edits;
-  tables = table_samples;
-  places = places;
   origins = origins;
   bounds = bounds;
   bitmaps = bitmap_samples;

@@ -7,7 +7,6 @@ pub mod List
 pub mod Endless
 pub mod Drift
 pub mod Edits
-pub mod Places
 pub mod Origins
 pub mod Bounds
 pub mod Pinned

@@ -1,7 +1,6 @@
 -- Samples beside P1 to P12, in the order of document 01, one collection with a single claim: each number, code and bound of the rules by its own figures.
 use Rattle.bitmap.specs.Samples.{BitmapSamples}
 use Rattle.bitmap_kinds.specs.Samples.{KindSamples}
-use Rattle.place_table.specs.Samples.{TableSamples}
 use Rattle.pack.specs.Samples.{PackSamples}
 use Rattle.salvage.specs.Samples.{SalvageSamples}
 use Rattle.list_rules.specs.Samples.{Durations}
@@ -13,7 +12,6 @@ use Rattle.samples.specs.List.{Lists}
 use Rattle.samples.specs.Endless.{Endless}
 use Rattle.samples.specs.Drift.{Drift}
 use Rattle.samples.specs.Edits.{Edits}
-use Rattle.samples.specs.Places.{Places}
 use Rattle.samples.specs.Origins.{Origins}
 use Rattle.samples.specs.Bounds.{Bounds}
 use Rattle.samples.specs.Text.{Texts}
@@ -30,8 +28,6 @@ pub record Pinned : Type 0 where
   pub drift : Drift
   pub durations : Durations
   pub edits : Edits
-  pub tables : TableSamples
-  pub places : Places
   pub origins : Origins
   pub bounds : Bounds
   pub bitmaps : BitmapSamples

@@ -3,11 +3,10 @@ use Prim.Native.Nat.{ℕ, ◌+◌, ◌≤◌, ◌<◌}
 use native.Mathlib.Omega.{arith}
 use native.Mathlib.Nat.{zero-add}
 use mathlib.Core.Path.{◌≡◌, refl, sym, ap, ap₂, ◌∙◌}
-use mathlib.Core.Bool.{Bool, true, false}
-use mathlib.Core.List.{List, []}
+use mathlib.Core.Bool.{Bool}
+use mathlib.Core.List.{List}
 use lib.ListN.{length, take}
 use lib.Seq.{set_out}
-use lib.Dec.{eqb}
 use borrow.Author.Tests.{lt-ltb, le-ltb, eq-eqb, ne_eqb}
 use Rattle.bits.specs.Bits.{bits_of, place_after}
 use Rattle.bits.specs.Choice.{pick}
@@ -23,21 +22,18 @@ use Rattle.tone.proofs.Fronts.{front_exact}
 use Rattle.tone.proofs.Rows.{patterns_exact}
 use Rattle.tone.proofs.Demand2.{read_formed}
 use Rattle.edit_change.specs.Change.{with_body}
-use Rattle.tone_elements.specs.declared.Step.{Step}
 use Rattle.tone_elements.specs.declared.Step.TheVariants.{Good, Bad}
-use Rattle.tone_elements.specs.declared.Opening.{Opening}
 use Rattle.tone_elements.specs.declared.Opening.TheVariants.{Opened, Closed}
 use Rattle.tone_judge.specs.declared.Whole.{Whole}
 use Rattle.tone_judge.specs.declared.Whole.TheVariants.{Ended, Broken}
 use Rattle.tone_judge.specs.declared.Judged.{Judged}
 use Rattle.tone_judge.specs.declared.Judged.TheVariants.{Sound, Faulty}
 use Rattle.tone_elements.specs.Answers.{Within, step_of, opening_of}
-use Rattle.tone_judge.specs.declared.Tally.{Tally}
 use Rattle.tone_judge.specs.declared.Tally.TheVariants.{Counted, Stopped}
 use Rattle.tone_judge.specs.declared.Wish.{Wish}
 use Rattle.tone_judge.specs.declared.Total.{Total}
 use Rattle.tone_judge.specs.Wishes.{granted, no_wish, no_cut, cut_of}
-use Rattle.tone_judge.specs.Answers.{total_as, plainly, total_beside, total_of, tally_as, whole_as, whole_of, judged_as, judged_for, judged_of}
+use Rattle.tone_judge.specs.Answers.{total_as, plainly, total_of, tally_as, whole_of, judged_for, judged_of}
 use Rattle.tone_elements.proofs.Steps.{step_there, step_bad}
 use Rattle.tone_elements.proofs.Steps.{FrontThere, open_good, open_bad}
 use Rattle.tone_elements.proofs.Walks.{stays}
@@ -63,12 +59,12 @@ counted_there f (bad n p e') e = let z : ◌≡◌ {A = ℕ} 0 1 = cc in absurd 
 
 -- ---- a tone where it stands
 
-module _ (counts : ℕ → List Pattern → Total) (m : List ℕ) (at : ℕ) (i : Within m at) where
+module _ (w : Wish) (m : List ℕ) (at : ℕ) (i : Within m at) where
   -- the place, among the bits
   among : at ≤ length (bits_of m)
   among = rw (length_bits_of m) i.inside
 
-  pub whole_closed : {n : ℕ} {f : BitPlace} → Closed n f ≡ opening_of (front (bits_of m) at) → Broken f n ≡ whole_as counts at (whole_tone (bits_of m) at)
+  pub whole_closed : {n : ℕ} {f : BitPlace} → Closed n f ≡ opening_of (front (bits_of m) at) → Broken f n ≡ whole_of w at (whole_tone (bits_of m) at)
   unfolding whole_tone
   whole_closed q = let b = open_bad (front (bits_of m) at) q in rw b.1
 
@@ -82,26 +78,26 @@ module _ (counts : ℕ → List Pattern → Total) (m : List ℕ) (at : ℕ) (i 
     pub whole_count : count ≤ 255
     whole_count = rw opened.count (front_exact.sound (bits_of m) at among opened.there).good.most
 
-    pub whole_stopped : {n : ℕ} {f' : BitPlace} → Stopped f' n ≡ tally_as (counts f.0) (patterns_due count none_known (bits_of m) f.0) → Broken f' n ≡ whole_as counts at (whole_tone (bits_of m) at)
+    pub whole_stopped : {n : ℕ} {f' : BitPlace} → Stopped f' n ≡ tally_as (total_of w f.0) (patterns_due count none_known (bits_of m) f.0) → Broken f' n ≡ whole_of w at (whole_tone (bits_of m) at)
     unfolding whole_tone rest
     whole_stopped q' =
-        let b = stopped_there (counts f.0) (patterns_due count none_known (bits_of m) f.0) q' in
+        let b = stopped_there (total_of w f.0) (patterns_due count none_known (bits_of m) f.0) q' in
         rw (opened.there, ← opened.count, b.1)
 
-    module _ {v : Total} {f' : BitPlace} (q' : Counted f' v ≡ tally_as (counts f.0) (patterns_due count none_known (bits_of m) f.0)) where
-      counted : PatternsThere (counts f.0) (patterns_due count none_known (bits_of m) f.0) v f'.0
-      counted = counted_there (counts f.0) (patterns_due count none_known (bits_of m) f.0) q'
+    module _ {v : Total} {f' : BitPlace} (q' : Counted f' v ≡ tally_as (total_of w f.0) (patterns_due count none_known (bits_of m) f.0)) where
+      counted : PatternsThere (total_of w f.0) (patterns_due count none_known (bits_of m) f.0) v f'.0
+      counted = counted_there (total_of w f.0) (patterns_due count none_known (bits_of m) f.0) q'
 
       pub whole_last : Within m f'.0
       whole_last = record { inside = stays (patterns_exact count none_known) m f.0 whole_within.inside counted.there; counted = i.counted }
 
-      pub whole_bad : {x : ℕ} {f'' : BitPlace} → Bad x f'' ≡ step_of (ending (bits_of m) f'.0) → Broken f'' x ≡ whole_as counts at (whole_tone (bits_of m) at)
+      pub whole_bad : {x : ℕ} {f'' : BitPlace} → Bad x f'' ≡ step_of (ending (bits_of m) f'.0) → Broken f'' x ≡ whole_of w at (whole_tone (bits_of m) at)
       unfolding whole_tone rest
       whole_bad q'' =
           let b = step_bad (λ v. v) (ending (bits_of m) f'.0) q'' in
           rw (opened.there, ← opened.count, counted.there, b.1)
 
-      pub whole_good : {x : ℕ} {f'' : BitPlace} → Good x f'' ≡ step_of (ending (bits_of m) f'.0) → Ended f'' song f octets count v unicode ≡ whole_as counts at (whole_tone (bits_of m) at)
+      pub whole_good : {x : ℕ} {f'' : BitPlace} → Good x f'' ≡ step_of (ending (bits_of m) f'.0) → Ended f'' song f octets count v unicode ≡ whole_of w at (whole_tone (bits_of m) at)
       unfolding whole_tone rest
       whole_good {x} {f''} q'' =
           let b = step_there (ending (bits_of m) f'.0) q'' in
@@ -119,127 +115,59 @@ module _ (counts : ℕ → List Pattern → Total) (m : List ℕ) (at : ℕ) (i 
           let e₄ = counted.total in
           rw (opened.there, ← opened.count, counted.there, b, e₀) (cc)
 
--- in the code's terms: what each return of `whole_beside` shows
-module _ (w : Wish) (m places : List ℕ) (i : Within m 0) {o : Opening} (q : o ≡ opening_of (front (bits_of m) 0)) where
-  pub beside_closed : {n : ℕ} {f : BitPlace} → o ≡ Closed n f → Broken f n ≡ whole_as (total_beside places w) 0 (whole_tone (bits_of m) 0)
-  beside_closed g = whole_closed (total_beside places w) m 0 i (sym g ∙ q)
-
-  module _ {song : ℕ} {unicode : Bool} {octets : OctetCount} {count : ℕ} {f : BitPlace} (g : o ≡ Opened song f octets count unicode) where
-    pub beside_within : Within m f.0
-    beside_within = whole_within (total_beside places w) m 0 i (sym g ∙ q)
-
-    pub beside_count : count ≤ 255
-    beside_count = whole_count (total_beside places w) m 0 i (sym g ∙ q)
-
-    module _ {t : Tally} (q' : t ≡ tally_as (total_beside places w f.0) (patterns_due count none_known (bits_of m) f.0)) where
-      pub beside_stopped : {n : ℕ} {f' : BitPlace} → t ≡ Stopped f' n → Broken f' n ≡ whole_as (total_beside places w) 0 (whole_tone (bits_of m) 0)
-      beside_stopped g' = whole_stopped (total_beside places w) m 0 i (sym g ∙ q) (sym g' ∙ q')
-
-      module _ {v : Total} {f' : BitPlace} (g' : t ≡ Counted f' v) where
-        pub beside_last : Within m f'.0
-        beside_last = whole_last (total_beside places w) m 0 i (sym g ∙ q) (sym g' ∙ q')
-
-        module _ {s : Step} (q'' : s ≡ step_of (ending (bits_of m) f'.0)) where
-          pub beside_bad : {x : ℕ} {f'' : BitPlace} → s ≡ Bad x f'' → Broken f'' x ≡ whole_as (total_beside places w) 0 (whole_tone (bits_of m) 0)
-          beside_bad g'' = whole_bad (total_beside places w) m 0 i (sym g ∙ q) (sym g' ∙ q') (sym g'' ∙ q'')
-
-          pub beside_good : {x : ℕ} {f'' : BitPlace} → s ≡ Good x f'' → Ended f'' song f octets count v unicode ≡ whole_as (total_beside places w) 0 (whole_tone (bits_of m) 0)
-          beside_good g'' = whole_good (total_beside places w) m 0 i (sym g ∙ q) (sym g' ∙ q') (sym g'' ∙ q'')
-
-pub ruleset wholes = (beside_closed, beside_within, beside_count, beside_stopped, beside_last, beside_bad, beside_good)
-
 -- ---- the whole message
+
+pub judge_long : (w : Wish) (m : List ℕ) → most_octets < length m → Faulty 1 (place 0) ≡ judged_for w (read_tone m)
+unfolding read_tone
+judge_long w m h = rw (lt-ltb most_octets (length m) h)
 
 pub judge_begins : (m : List ℕ) → length m ≤ most_octets → Within m 0
 judge_begins m short = record { inside = omega arith; counted = omega arith }
 
--- what was judged at the start of so many octets, as all of them: 10 where something follows
-abbrev all_of : ℕ → Whole → Judged
-all_of octets (Ended p song at title n v unicode) = pick (eqb p.0 (place_after octets)) (Sound song at title n v unicode) (Faulty 10 p)
-all_of octets (Broken p n) = Faulty n p
-
-module _ (octets : ℕ) {w : Whole} where
-  all_broken : {n : ℕ} {f : BitPlace} → w ≡ Broken f n → Faulty n f ≡ all_of octets w
-  all_broken g = rw g refl
-
-  module _ {next at : BitPlace} {song patterns : ℕ} {title : OctetCount} {total : Total} {unicode : Bool} {end : ℕ} (g : w ≡ Ended next song at title patterns total unicode) (z : end ≡ place_after octets) where
-    all_more : (next.0 ≡ end → ⊥) → Faulty 10 next ≡ all_of octets w
-    all_more h = rw (g, ← z, ne_eqb next.0 end h) refl
-
-    all_there : next.0 ≡ end → Sound song at title patterns total unicode ≡ all_of octets w
-    all_there h = rw (g, ← z, eq-eqb next.0 end h) refl
-
-module _ (counts : ℕ → List Pattern → Total) (m : List ℕ) where
-  judge_long : most_octets < length m → Faulty 1 (place 0) ≡ judged_as counts (read_tone m)
+module _ (w : Wish) (m : List ℕ) (short : length m ≤ most_octets) {j : Whole} (q : j ≡ whole_of w 0 (whole_tone (bits_of m) 0)) where
+  pub judge_broken : {n : ℕ} {f : BitPlace} → j ≡ Broken f n → Faulty n f ≡ judged_for w (read_tone m)
   unfolding read_tone
-  judge_long h = rw (lt-ltb most_octets (length m) h)
-
-  -- what was judged at the message's start, as all of it, is the reading of the message
-  judge_all : length m ≤ most_octets → all_of (length m) (whole_as counts 0 (whole_tone (bits_of m) 0)) ≡ judged_as counts (read_tone m)
-  unfolding read_tone
-  judge_all short = rw (le-ltb most_octets (length m) short) (go (whole_tone (bits_of m) 0))
+  judge_broken {n} {f} g = rw (le-ltb most_octets (length m) short) (go (whole_tone (bits_of m) 0) (sym g ∙ q))
     where
-      go : (x : Got Tone) → all_of (length m) (whole_as counts 0 x) ≡ judged_as counts (nothing_more (place_after (length m)) x)
-      go (bad n p e) = refl
-      go (got t p) =
-          let at = length (front_bits (front_of t)) in
-          ap (λ (x : ℕ). pick (eqb p (place_after (length m))) (Sound t.song (place x) (octet_count (length t.title)) (length t.patterns) (counts x t.patterns) t.unicode) (Faulty 10 (place p))) (zero-add at)
-          ∙ each (eqb p (place_after (length m)))
-        where
-          each : (b : Bool) → pick b (Sound t.song (place (length (front_bits (front_of t)))) (octet_count (length t.title)) (length t.patterns) (counts (length (front_bits (front_of t))) t.patterns) t.unicode) (Faulty 10 (place p)) ≡ judged_as counts (pick b (accepted t) (refused 10 p))
-          each true = refl
-          each false = refl
+      go : (x : Got Tone) → Broken f n ≡ whole_of w 0 x → Faulty n f ≡ judged_for w (nothing_more (place_after (length m)) x)
+      go (got t p) e = let z : ◌≡◌ {A = ℕ} 0 1 = cc in absurd (omega arith)
+      go (bad n' p e') e = let e₁ : n ≡ n' = cc in let e₂ : f ≡ place p = cc in rw (e₁, e₂) refl
 
--- with an edit in mind
-module _ (w : Wish) (m places : List ℕ) where
-  pub judge_long_for : most_octets < length m → Faulty 1 (place 0) ≡ judged_for places w (read_tone m)
-  judge_long_for h = judge_long (total_beside places w) m h
+  module _ {next at : BitPlace} {song patterns : ℕ} {octets : OctetCount} {total : Total} {unicode : Bool} {end : ℕ} (g : j ≡ Ended next song at octets patterns total unicode) (z : end ≡ place_after (length m)) where
+    pub judge_more : (next.0 ≡ end → ⊥) → Faulty 10 next ≡ judged_for w (read_tone m)
+    unfolding read_tone
+    judge_more h = rw (le-ltb most_octets (length m) short) (go (whole_tone (bits_of m) 0) (sym g ∙ q))
+      where
+        go : (x : Got Tone) → Ended next song at octets patterns total unicode ≡ whole_of w 0 x → Faulty 10 next ≡ judged_for w (nothing_more (place_after (length m)) x)
+        go (got t p) e = let e₁ : next ≡ place p = cc in let e₂ : p ≡ next.0 = ap (λ (y : BitPlace). y.0) (sym e₁) in rw (e₂, ← z, ne_eqb next.0 end h) refl
+        go (bad n p e') e = let y : ◌≡◌ {A = ℕ} 0 1 = cc in absurd (omega arith)
 
-  module _ (short : length m ≤ most_octets) {j : Whole} (q : j ≡ whole_as (total_beside places w) 0 (whole_tone (bits_of m) 0)) where
-    all_for : all_of (length m) j ≡ judged_for places w (read_tone m)
-    all_for = ap (all_of (length m)) q ∙ judge_all (total_beside places w) m short
+    pub judge_sound : next.0 ≡ end → Sound song at octets patterns total unicode ≡ judged_for w (read_tone m)
+    unfolding read_tone
+    judge_sound h = rw (le-ltb most_octets (length m) short) (go (whole_tone (bits_of m) 0) (sym g ∙ q))
+      where
+        go : (x : Got Tone) → Ended next song at octets patterns total unicode ≡ whole_of w 0 x → Sound song at octets patterns total unicode ≡ judged_for w (nothing_more (place_after (length m)) x)
+        go (got t p) e =
+            let e₁ : next ≡ place p = cc in
+            let e₂ : p ≡ next.0 = ap (λ (y : BitPlace). y.0) (sym e₁) in
+            let e₃ = e ∙ ap (λ (x : ℕ). Ended (place p) t.song (place x) (octet_count (length t.title)) (length t.patterns) (total_of w x t.patterns) t.unicode) (zero-add (length (front_bits (front_of t)))) in
+            rw (e₂, ← z, eq-eqb next.0 end h) (cc)
+        go (bad n p e') e = let y : ◌≡◌ {A = ℕ} 0 1 = cc in absurd (omega arith)
 
-    pub judge_broken : {n : ℕ} {f : BitPlace} → j ≡ Broken f n → Faulty n f ≡ judged_for places w (read_tone m)
-    judge_broken g = all_broken (length m) g ∙ all_for
-
-    module _ {next at : BitPlace} {song patterns : ℕ} {title : OctetCount} {total : Total} {unicode : Bool} {end : ℕ} (g : j ≡ Ended next song at title patterns total unicode) (z : end ≡ place_after (length m)) where
-      pub judge_more : (next.0 ≡ end → ⊥) → Faulty 10 next ≡ judged_for places w (read_tone m)
-      judge_more h = all_more (length m) g z h ∙ all_for
-
-      pub judge_sound : next.0 ≡ end → Sound song at title patterns total unicode ≡ judged_for places w (read_tone m)
-      judge_sound h = all_there (length m) g z h ∙ all_for
-
-pub ruleset judgements = (judge_begins, judge_long_for, judge_broken, judge_more, judge_sound)
+pub ruleset judgements = (judge_long, judge_begins, judge_broken, judge_more, judge_sound)
 
 -- ---- with no edit in mind
 
 -- no message has a pattern at position 255
-judge_plain : (m : List ℕ) → judged_for [] no_wish (read_tone m) ≡ judged_of (read_tone m)
-judge_plain m = go (read_tone m) refl
+pub judge_plain : (m : List ℕ) {r : Judged} → r ≡ judged_for no_wish (read_tone m) → r ≡ judged_of (read_tone m)
+judge_plain m e = e ∙ go (read_tone m) refl
   where
-    go : (o : Outcome Tone) → read_tone m ≡ o → judged_for [] no_wish o ≡ judged_of o
+    go : (o : Outcome Tone) → read_tone m ≡ o → judged_for no_wish o ≡ judged_of o
     go (accepted t) q =
         let at = length (front_bits (front_of t)) in
         let few : length t.patterns ≤ 255 = (read_formed m t q).0.front.most in
         let p = pattern_at t.patterns 255 in
         let same : total_of no_wish at t.patterns ≡ plainly at t.patterns =
-        ap₂ (λ (qs : List Pattern) (b : Bool). total_as at t.patterns qs (pick b (cut_of no_wish (at + length (table_bits (cells (take 255 t.patterns)))) (header p) p.body) no_cut) true) (set_out t.patterns 255 (with_body p (granted no_wish p.body)) few) (le-ltb 255 (length t.patterns) few) in
+        ap₂ (λ (qs : List Pattern) (b : Bool). total_as at t.patterns qs (pick b (cut_of no_wish (at + length (table_bits (cells (take 255 t.patterns)))) (header p) p.body) no_cut)) (set_out t.patterns 255 (with_body p (granted no_wish p.body)) few) (le-ltb 255 (length t.patterns) few) in
         ap (λ (v : Total). Sound t.song (place at) (octet_count (length t.title)) (length t.patterns) v t.unicode) same
     go (refused n p) q = refl
-
-module _ (m : List ℕ) where
-  pub plain_long : most_octets < length m → Faulty 1 (place 0) ≡ judged_of (read_tone m)
-  plain_long h = judge_long plainly m h
-
-  module _ (short : length m ≤ most_octets) {j : Whole} (q : j ≡ whole_of no_wish 0 (whole_tone (bits_of m) 0)) where
-    pub plain_broken : {n : ℕ} {f : BitPlace} → j ≡ Broken f n → Faulty n f ≡ judged_of (read_tone m)
-    plain_broken g = judge_broken no_wish m [] short q g ∙ judge_plain m
-
-    module _ {next at : BitPlace} {song patterns : ℕ} {title : OctetCount} {total : Total} {unicode : Bool} {end : ℕ} (g : j ≡ Ended next song at title patterns total unicode) (z : end ≡ place_after (length m)) where
-      pub plain_more : (next.0 ≡ end → ⊥) → Faulty 10 next ≡ judged_of (read_tone m)
-      plain_more h = judge_more no_wish m [] short q g z h ∙ judge_plain m
-
-      pub plain_sound : next.0 ≡ end → Sound song at title patterns total unicode ≡ judged_of (read_tone m)
-      plain_sound h = judge_sound no_wish m [] short q g z h ∙ judge_plain m
-
-pub ruleset plain_judgements = (judge_begins, plain_long, plain_broken, plain_more, plain_sound)

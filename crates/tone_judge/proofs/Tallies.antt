@@ -1,13 +1,13 @@
 -- Patterns are judged and counted, one a turn.
 use Prim.Native.Nat.{ℕ, suc, ◌+◌, ◌-◌, ◌*◌, ◌≤◌, ◌<◌}
 use native.Mathlib.Omega.{arith}
-use native.Mathlib.Nat.{add-zero, zero-add, add_assoc, sub_self, le_trans}
+use native.Mathlib.Nat.{add-zero, zero-add, add_assoc, le_trans}
 use mathlib.Core.Path.{◌≡◌, refl, sym, ap, ap₂, subst, ◌∙◌}
 use mathlib.Core.Logic.{◌⊎◌, ⊎_elim}
-use mathlib.Core.Bool.{Bool, true, false, ◌&&◌}
+use mathlib.Core.Bool.{Bool, true, false}
 use mathlib.Core.List.{List, [], ◌∷◌}
-use lib.ListN.{length, get_or, set, drop, replicate, length-append}
-use lib.Seq.{set-get_or, drop-drop}
+use lib.ListN.{length, get_or, set, replicate, length-append}
+use lib.Seq.{set-get_or}
 use lib.Dec.{eqb}
 use mir.Val.{Fits}
 use mir.Syntax.{w32}
@@ -23,8 +23,6 @@ use Rattle.tone.specs.Writing.{entry_bits, table_bits}
 use Rattle.tone.specs.Reading.{Got, got, bad, onward, header_due, body_due, patterns_due}
 use Rattle.tone.proofs.Exact.{Accepted}
 use Rattle.tone.proofs.Rows.{Header, Body, header_exact, header_pattern, body_exact, header_wide, patterns_exact}
-use Rattle.places.specs.Rows.{row_of, pattern_bits, rows_at, agrees}
-use Rattle.places.proofs.Rows.{and_true, and_assoc, agrees_none, agrees_one}
 use Rattle.tone_elements.specs.declared.Step.{Step}
 use Rattle.tone_elements.specs.declared.Step.TheVariants.{Good, Bad}
 use Rattle.tone_elements.specs.Answers.{Within, all_known, step_as, step_of, notes}
@@ -47,7 +45,7 @@ use Rattle.list_count.specs.Counting.{entry_count, mark_of, mark_from, no_count,
 use Rattle.list_count.specs.Parts.{sounding_part}
 use Rattle.tone_elements.specs.Standing.{body_in, PartAt}
 use Rattle.tone_judge.specs.Wishes.{wished, left_at, no_cut, cut_of, cut_in, Owned}
-use Rattle.tone_judge.specs.Answers.{single_of, total_to, total_beside, tally_as}
+use Rattle.tone_judge.specs.Answers.{single_of, total_to, total_of, tally_as}
 use Rattle.list_count.proofs.Bodies.{is_known, known_of, remember_length, body_sounding, learn_read, Each, each_start, each_sounds, each_kept, Brief, none_brief}
 use Rattle.list_count.proofs.Counts.{counted_most, Unmarked, counted_unmarked}
 use Rattle.list_count.proofs.Parts.{AllFor, parts_kept, part_sounds, known_sounding, Noted, noted_unknown, noted_known}
@@ -56,60 +54,53 @@ use Rattle.tone_judge.proofs.Wishing.{granted_length, behind_part, part_bits, bo
 -- ---- what is counted, resumed
 
 -- what a count comes to with the patterns that are left, behind t entries of the table: ps in the table, qs in the list
-abbrev resumed : ℕ → Count → List Remembered → ℕ → Cut → Bool → List Pattern → List Pattern → Total
-resumed t c bodies z k s ps qs =
+abbrev resumed : ℕ → Count → List Remembered → ℕ → Cut → List Pattern → List Pattern → Total
+resumed t c bodies z k ps qs =
     pick c.ended
-    (record { table = t + entries ps; list = c.entries; mark = c.mark; end = place z; cut = k; own = s })
-    (record { table = t + entries ps; list = c.entries + entry_count bodies qs; mark = mark_from bodies c.entries qs; end = place z; cut = k; own = s })
+    (record { table = t + entries ps; list = c.entries; mark = c.mark; end = place z; cut = k })
+    (record { table = t + entries ps; list = c.entries + entry_count bodies qs; mark = mark_from bodies c.entries qs; end = place z; cut = k })
 
 -- one pattern more in the table
 table_one : (t : ℕ) (p : Pattern) (ps : List Pattern) → t + entries (p ∷ ps) ≡ t + (1 + length p.body) + entries ps
 table_one t p ps = rw (length-append p.body (cells ps)) (omega arith)
 
 -- one pattern
-resumed_one : (t : ℕ) (c : Count) (bodies : List Remembered) (z : ℕ) (k : Cut) (s : Bool) (p q : Pattern) (ps qs : List Pattern)
-    → resumed t c bodies z k s (p ∷ ps) (q ∷ qs) ≡ resumed (t + (1 + length p.body)) (counted c (notes (body_of bodies q)) q.loop) (remember bodies q) z k s ps qs
+resumed_one : (t : ℕ) (c : Count) (bodies : List Remembered) (z : ℕ) (k : Cut) (p q : Pattern) (ps qs : List Pattern)
+    → resumed t c bodies z k (p ∷ ps) (q ∷ qs) ≡ resumed (t + (1 + length p.body)) (counted c (notes (body_of bodies q)) q.loop) (remember bodies q) z k ps qs
 unfolding counted
-resumed_one t c bodies z k s p q ps qs = rw (table_one t p ps) (go c.ended (eqb q.loop 15))
+resumed_one t c bodies z k p q ps qs = rw (table_one t p ps) (go c.ended (eqb q.loop 15))
   where
     go : (b u : Bool) →
         let n = notes (body_of bodies q) in
         let m = n * passes_of q.loop in
         let more = entry_count (remember bodies q) qs in
         let c' : Count = pick b (record { entries = c.entries; mark = c.mark; ended = b }) (pick u (record { entries = c.entries + m; mark = mark_of c.entries n; ended = true }) (record { entries = c.entries + m; mark = c.mark; ended = false })) in
-        ◌≡◌ {A = Total} (pick b (record { table = t + (1 + length p.body) + entries ps; list = c.entries; mark = c.mark; end = place z; cut = k; own = s }) (record { table = t + (1 + length p.body) + entries ps; list = c.entries + (m + pick u 0 more); mark = pick u (mark_of c.entries n) (mark_from (remember bodies q) (c.entries + m) qs); end = place z; cut = k; own = s }))
-        (resumed (t + (1 + length p.body)) c' (remember bodies q) z k s ps qs)
+        ◌≡◌ {A = Total} (pick b (record { table = t + (1 + length p.body) + entries ps; list = c.entries; mark = c.mark; end = place z; cut = k }) (record { table = t + (1 + length p.body) + entries ps; list = c.entries + (m + pick u 0 more); mark = pick u (mark_of c.entries n) (mark_from (remember bodies q) (c.entries + m) qs); end = place z; cut = k }))
+        (resumed (t + (1 + length p.body)) c' (remember bodies q) z k ps qs)
     go true u = refl
-    go false true = ap (λ (x : ℕ). record { table = t + (1 + length p.body) + entries ps; list = c.entries + x; mark = mark_of c.entries (notes (body_of bodies q)); end = place z; cut = k; own = s }) (add-zero (notes (body_of bodies q) * passes_of q.loop))
+    go false true = ap (λ (x : ℕ). record { table = t + (1 + length p.body) + entries ps; list = c.entries + x; mark = mark_of c.entries (notes (body_of bodies q)); end = place z; cut = k }) (add-zero (notes (body_of bodies q) * passes_of q.loop))
     go false false =
         let m = notes (body_of bodies q) * passes_of q.loop in
-        ap (λ (x : ℕ). record { table = t + (1 + length p.body) + entries ps; list = x; mark = mark_from (remember bodies q) (c.entries + m) qs; end = place z; cut = k; own = s }) (sym (add_assoc c.entries m (entry_count (remember bodies q) qs)))
+        ap (λ (x : ℕ). record { table = t + (1 + length p.body) + entries ps; list = x; mark = mark_from (remember bodies q) (c.entries + m) qs; end = place z; cut = k }) (sym (add_assoc c.entries m (entry_count (remember bodies q) qs)))
 
--- the same of patterns that stand at a place, as they are wished, with rows beside them; those ahead have agreed or not
-abbrev summed : Wish → ℕ → ℕ → ℕ → Cut → ℕ → Count → List Remembered → List ℕ → Bool → List Pattern → Total
-summed w named left at k t c bodies rows s ps = resumed t c bodies (at + length (table_bits (cells ps))) (cut_from w named left at k ps) (s && agrees rows (rows_at at ps)) ps (wished_from w named left ps)
+-- the same of patterns that stand at a place, as they are wished
+abbrev summed : Wish → ℕ → ℕ → ℕ → Cut → ℕ → Count → List Remembered → List Pattern → Total
+summed w named left at k t c bodies ps = resumed t c bodies (at + length (table_bits (cells ps))) (cut_from w named left at k ps) ps (wished_from w named left ps)
 
--- one row, and then the others
-agrees_on : (rows : List ℕ) (s : Bool) (at : ℕ) (p : Pattern) (ps : List Pattern) → s && agrees rows (rows_at at (p ∷ ps)) ≡ (s && agrees rows (row_of at (header p) ∷ [])) && agrees (drop 2 rows) (rows_at (behind_part at p) ps)
-agrees_on rows s at p ps =
-    let e : at + length (pattern_bits p) ≡ behind_part at p = part_bits at p [] ∙ add-zero (behind_part at p) in
-    ap (λ (b : Bool). s && b) (ap (λ (x : ℕ). agrees rows (row_of at (header p) ∷ rows_at x ps)) e ∙ agrees_one rows (row_of at (header p)) (rows_at (behind_part at p) ps))
-    ∙ and_assoc s (agrees rows (row_of at (header p) ∷ [])) (agrees (drop 2 rows) (rows_at (behind_part at p) ps))
-
-summed_one : (w : Wish) (named left at : ℕ) (k : Cut) (t : ℕ) (c : Count) (bodies : List Remembered) (rows : List ℕ) (s : Bool) (p : Pattern) (ps : List Pattern) →
+summed_one : (w : Wish) (named left at : ℕ) (k : Cut) (t : ℕ) (c : Count) (bodies : List Remembered) (p : Pattern) (ps : List Pattern) →
     let q = with_body p (body_wished w named (suc left) p.body) in
-    summed w named (suc left) at k t c bodies rows s (p ∷ ps)
-    ≡ summed w named left (behind_part at p) (cut_past w named (suc left) at p k) (t + (1 + length p.body)) (counted c (notes (body_of bodies q)) p.loop) (remember bodies q) (drop 2 rows) (s && agrees rows (row_of at (header p) ∷ [])) ps
-summed_one w named left at k t c bodies rows s p ps =
+    summed w named (suc left) at k t c bodies (p ∷ ps)
+    ≡ summed w named left (behind_part at p) (cut_past w named (suc left) at p k) (t + (1 + length p.body)) (counted c (notes (body_of bodies q)) p.loop) (remember bodies q) ps
+summed_one w named left at k t c bodies p ps =
     let q = with_body p (body_wished w named (suc left) p.body) in
     let k' = cut_from w named left (behind_part at p) (cut_past w named (suc left) at p k) ps in
-    ap₂ (λ (z : ℕ) (b : Bool). resumed t c bodies z k' b (p ∷ ps) (q ∷ wished_from w named left ps)) (part_bits at p ps) (agrees_on rows s at p ps)
-    ∙ resumed_one t c bodies (behind_part at p + length (table_bits (cells ps))) k' ((s && agrees rows (row_of at (header p) ∷ [])) && agrees (drop 2 rows) (rows_at (behind_part at p) ps)) p q ps (wished_from w named left ps)
+    ap (λ (z : ℕ). resumed t c bodies z k' (p ∷ ps) (q ∷ wished_from w named left ps)) (part_bits at p ps)
+    ∙ resumed_one t c bodies (behind_part at p + length (table_bits (cells ps))) k' p q ps (wished_from w named left ps)
 
 -- from the start on
-summed_all : (w : Wish) (at : ℕ) {n : ℕ} (rows : List ℕ) (ps : List Pattern) → length ps ≡ n → summed w (left_at n w.pattern) n at no_cut 0 no_count no_bodies rows true ps ≡ total_beside rows w at ps
-summed_all w at rows ps e = rw (← e) (ap₂ (λ (k : Cut) (qs : List Pattern). resumed 0 no_count no_bodies (at + length (table_bits (cells ps))) k (agrees rows (rows_at at ps)) ps qs) (cut_is w at ps) (wished_is w at ps)
-    ∙ ap₂ (λ (x y : ℕ). record { table = x; list = y; mark = mark_from no_bodies 0 (wished w ps); end = place (at + length (table_bits (cells ps))); cut = cut_in w at ps; own = agrees rows (rows_at at ps) }) (zero-add (entries ps)) (zero-add (entry_count no_bodies (wished w ps))))
+summed_all : (w : Wish) (at : ℕ) {n : ℕ} (ps : List Pattern) → length ps ≡ n → summed w (left_at n w.pattern) n at no_cut 0 no_count no_bodies ps ≡ total_of w at ps
+summed_all w at ps e = rw (← e) (ap₂ (λ (k : Cut) (qs : List Pattern). resumed 0 no_count no_bodies (at + length (table_bits (cells ps))) k ps qs) (cut_is w at ps) (wished_is w at ps)
+    ∙ ap₂ (λ (x y : ℕ). record { table = x; list = y; mark = mark_from no_bodies 0 (wished w ps); end = place (at + length (table_bits (cells ps))); cut = cut_in w at ps }) (zero-add (entries ps)) (zero-add (entry_count no_bodies (wished w ps))))
 
 -- ---- answers that count
 
@@ -123,23 +114,23 @@ tally_map f q (got ps p) = refl
 tally_map f q (bad n p e) = refl
 
 -- one pattern is read
-tally_step : (w : Wish) (named : ℕ) {left k : ℕ} (at : ℕ) (z : Cut) (t : ℕ) (c : Count) (bodies : List Remembered) (rows : List ℕ) (s : Bool) (seen : List Bool) (l : List Bool) {h q : ℕ} {b : List ℕ} {r : ℕ}
+tally_step : (w : Wish) (named : ℕ) {left k : ℕ} (at : ℕ) (z : Cut) (t : ℕ) (c : Count) (bodies : List Remembered) (seen : List Bool) (l : List Bool) {h q : ℕ} {b : List ℕ} {r : ℕ}
     → left ≡ suc k → header_due seen l at ≡ got h q → body_due (specifier h) l q ≡ got b r →
     let x = pattern h (body_wished w named left b) in
-    tally_as (summed w named left at z t c bodies rows s) (patterns_due left seen l at)
-    ≡ tally_as (summed w named k (behind_part at (pattern h b)) (cut_past w named left at (pattern h b) z) (t + (1 + length b)) (counted c (notes (body_of bodies x)) (loop_of h)) (remember bodies x) (drop 2 rows) (s && agrees rows (row_of at (header (pattern h b)) ∷ []))) (patterns_due k (learn seen h) l r)
+    tally_as (summed w named left at z t c bodies) (patterns_due left seen l at)
+    ≡ tally_as (summed w named k (behind_part at (pattern h b)) (cut_past w named left at (pattern h b) z) (t + (1 + length b)) (counted c (notes (body_of bodies x)) (loop_of h)) (remember bodies x)) (patterns_due k (learn seen h) l r)
 unfolding patterns_due
-tally_step w named {left} {k} at z t c bodies rows s seen l {h} {q} {b} {r} j e f =
+tally_step w named {left} {k} at z t c bodies seen l {h} {q} {b} {r} j e f =
     rw (j, e, f)
-    (tally_map (summed w named (suc k) at z t c bodies rows s) (pattern h b) (patterns_due k (learn seen h) l r)
-    ∙ tally_cong (patterns_due k (learn seen h) l r) (λ ps p _. summed_one w named k at z t c bodies rows s (pattern h b) ps))
+    (tally_map (summed w named (suc k) at z t c bodies) (pattern h b) (patterns_due k (learn seen h) l r)
+    ∙ tally_cong (patterns_due k (learn seen h) l r) (λ ps p _. summed_one w named k at z t c bodies (pattern h b) ps))
 
 -- nothing is left
-resumed_none : (t : ℕ) (c : Count) (bodies : List Remembered) (z : ℕ) (k : Cut) (s : Bool) → Unmarked c → resumed t c bodies z k s [] [] ≡ record { table = t; list = c.entries; mark = c.mark; end = place z; cut = k; own = s }
-resumed_none t c bodies z k s h =
-    pick_elim (λ (v : Total). v ≡ record { table = t; list = c.entries; mark = c.mark; end = place z; cut = k; own = s }) c.ended
-    (λ _. λ i. record { table = add-zero t i; list = c.entries; mark = c.mark; end = place z; cut = k; own = s })
-    (λ e. λ i. record { table = add-zero t i; list = add-zero c.entries i; mark = sym (h e) i; end = place z; cut = k; own = s })
+resumed_none : (t : ℕ) (c : Count) (bodies : List Remembered) (z : ℕ) (k : Cut) → Unmarked c → resumed t c bodies z k [] [] ≡ record { table = t; list = c.entries; mark = c.mark; end = place z; cut = k }
+resumed_none t c bodies z k h =
+    pick_elim (λ (v : Total). v ≡ record { table = t; list = c.entries; mark = c.mark; end = place z; cut = k }) c.ended
+    (λ _. λ i. record { table = add-zero t i; list = c.entries; mark = c.mark; end = place z; cut = k })
+    (λ e. λ i. record { table = add-zero t i; list = add-zero c.entries i; mark = sym (h e) i; end = place z; cut = k })
 
 -- ---- one pattern by itself
 
@@ -244,7 +235,7 @@ kept_is parts v own {part} {now} e told =
 -- ---- the loop
 
 -- with `left` patterns to come at p, from the bodies that the parts stand for, the entries of the table, what is counted and where the wish has cut
-pub record TallyWalk (w : Wish) (named : ℕ) (m places : List ℕ) (n at : ℕ) (parts : List Part) (p left t : ℕ) (c : Count) (k : Cut) (s : Bool) : Type 0 where
+pub record TallyWalk (w : Wish) (named : ℕ) (m : List ℕ) (n at : ℕ) (parts : List Part) (p left t : ℕ) (c : Count) (k : Cut) : Type 0 where
   pub inside : Within m p
   pub few : n ≤ 255
   pub fewer : c.entries + 3825 * left ≤ 3825 * n
@@ -254,10 +245,10 @@ pub record TallyWalk (w : Wish) (named : ℕ) (m places : List ℕ) (n at : ℕ)
   pub brief : Each Brief bodies
   pub unmarked : Unmarked c
   pub noted : AllFor Noted parts bodies
-  pub goes : tally_as (total_beside places w at) (patterns_due n none_known (bits_of m) at) ≡ tally_as (summed w named left p k t c bodies (drop (2 * (n - left)) places) s) (patterns_due left (known_of bodies) (bits_of m) p)
+  pub goes : tally_as (total_of w at) (patterns_due n none_known (bits_of m) at) ≡ tally_as (summed w named left p k t c bodies) (patterns_due left (known_of bodies) (bits_of m) p)
 
-pub tally_begins : (w : Wish) {named : ℕ} (m places : List ℕ) (n at : ℕ) {c : Count} {k : Cut} → named ≡ left_at n w.pattern → Within m at → n ≤ 255 → c ≡ no_count → k ≡ no_cut → TallyWalk w named m places n at (replicate 4 Unknown) at n 0 c k true
-tally_begins w m places n at q h few e f = record {
+pub tally_begins : (w : Wish) {named : ℕ} (m : List ℕ) (n at : ℕ) {c : Count} {k : Cut} → named ≡ left_at n w.pattern → Within m at → n ≤ 255 → c ≡ no_count → k ≡ no_cut → TallyWalk w named m n at (replicate 4 Unknown) at n 0 c k
+tally_begins w m n at q h few e f = record {
   inside = h;
   few = few;
   fewer = rw e (omega arith);
@@ -267,33 +258,19 @@ tally_begins w m places n at q h few e f = record {
   brief = each_start Brief none_brief;
   unmarked = rw e (λ _. refl);
   noted = (refl, (refl, (refl, (refl, tt))));
-  goes = rw (q, e, f, sub_self n) (sym (tally_cong (patterns_due n none_known (bits_of m) at) (λ ps p r. summed_all w at places ps ((patterns_exact n none_known).sound (bits_of m) at (rw (length_bits_of m) h.inside) r).good.size)));
+  goes = rw (q, e, f) (sym (tally_cong (patterns_due n none_known (bits_of m) at) (λ ps p r. summed_all w at ps ((patterns_exact n none_known).sound (bits_of m) at (rw (length_bits_of m) h.inside) r).good.size)));
 }
 
-pub tally_done : {w : Wish} {named : ℕ} {m places : List ℕ} {n at : ℕ} {parts : List Part} {left t : ℕ} {c : Count} {k : Cut} {s : Bool} {q : BitPlace} {r : Total} → TallyWalk w named m places n at parts q.0 left t c k s → left ≤ 0 → r ≡ total_to q t c k s
-    → Counted q r ≡ tally_as (total_beside places w at) (patterns_due n none_known (bits_of m) at)
+pub tally_done : {w : Wish} {named : ℕ} {m : List ℕ} {n at : ℕ} {parts : List Part} {left t : ℕ} {c : Count} {k : Cut} {q : BitPlace} {r : Total} → TallyWalk w named m n at parts q.0 left t c k → left ≤ 0 → r ≡ total_to q t c k
+    → Counted q r ≡ tally_as (total_of w at) (patterns_due n none_known (bits_of m) at)
 unfolding patterns_due
-tally_done {places = places} {n = n} {left = left} {t = t} {c = c} {k = k} {s = s} {q = q} w h e₀ =
+tally_done {left = left} {t = t} {c = c} {k = k} {q = q} w h e₀ =
     let e : left ≡ 0 = omega arith in
-    sym (w.goes ∙ (rw (e, e₀) (ap (Counted q) (resumed_none t c w.bodies (q.0 + 0) k (s && agrees (drop (2 * (n - 0)) places) []) w.unmarked ∙ ap₂ (λ (x : ℕ) (b : Bool). total_to (place x) t c k b) (add-zero q.0) (ap (λ (b : Bool). s && b) (agrees_none (drop (2 * (n - 0)) places)) ∙ and_true s)))))
+    sym (w.goes ∙ (rw (e, e₀) (ap (Counted q) (resumed_none t c w.bodies (q.0 + 0) k w.unmarked ∙ ap (λ (x : ℕ). total_to (place x) t c k) (add-zero q.0)))))
 
-module _ {w : Wish} {named : ℕ} {m places : List ℕ} {n at : ℕ} {parts : List Part} {p left t : ℕ} {c : Count} {k : Cut} {s : Bool} (y : TallyWalk w named m places n at parts p left t c k s) where
-  -- the rows that are left beside them
-  abbrev rows : List ℕ
-  rows = drop (2 * (n - left)) places
-
+module _ {w : Wish} {named : ℕ} {m : List ℕ} {n at : ℕ} {parts : List Part} {p left t : ℕ} {c : Count} {k : Cut} (y : TallyWalk w named m n at parts p left t c k) where
   pub tally_within : Within m p
   tally_within = y.inside
-
-  -- the row of the next one
-  pub tally_left : left ≤ n
-  tally_left = omega (arith, y.small)
-
-  pub tally_twice : Fits w32 (2 * (n - left))
-  tally_twice = record { fits = omega (arith, y.few) }
-
-  pub tally_row : 2 * (n - left) ≤ 510
-  tally_row = omega (arith, y.few)
 
   -- what is counted leaves room for one pattern more
   module _ (h : 0 < left) where
@@ -303,18 +280,18 @@ module _ {w : Wish} {named : ℕ} {m places : List ℕ} {n at : ℕ} {parts : Li
     pub tally_fits : (v : ℕ) → Fits w32 (t + (1 + specifier v))
     tally_fits v = record { fits = omega (arith, y.few, y.small) }
 
-  module _ {f₀ : Single} (h : 0 < left) (q : f₀ ≡ single_of (bits_of m) p) where
+  module _ {s : Single} (h : 0 < left) (q : s ≡ single_of (bits_of m) p) where
     one_less : left ≡ suc (left - 1)
     one_less = omega arith
 
     -- the row is stopped here
-    stopped : {x : ℕ} {f : BitPlace} → tally_as (summed w named left p k t c y.bodies rows s) (patterns_due (suc (left - 1)) (known_of y.bodies) (bits_of m) p) ≡ Stopped f x → Stopped f x ≡ tally_as (total_beside places w at) (patterns_due n none_known (bits_of m) at)
-    stopped z = sym (y.goes ∙ ap (λ (x : ℕ). tally_as (summed w named left p k t c y.bodies rows s) (patterns_due x (known_of y.bodies) (bits_of m) p)) one_less ∙ z)
+    stopped : {x : ℕ} {f : BitPlace} → tally_as (summed w named left p k t c y.bodies) (patterns_due (suc (left - 1)) (known_of y.bodies) (bits_of m) p) ≡ Stopped f x → Stopped f x ≡ tally_as (total_of w at) (patterns_due n none_known (bits_of m) at)
+    stopped z = sym (y.goes ∙ ap (λ (x : ℕ). tally_as (summed w named left p k t c y.bodies) (patterns_due x (known_of y.bodies) (bits_of m) p)) one_less ∙ z)
 
-    pub tally_bad : {x : ℕ} {f : BitPlace} → f₀ ≡ Fault x f → Stopped f x ≡ tally_as (total_beside places w at) (patterns_due n none_known (bits_of m) at)
-    tally_bad g = stopped (single_fault (summed w named left p k t c y.bodies rows s) (left - 1) (known_of y.bodies) (bits_of m) p (sym g ∙ q))
+    pub tally_bad : {x : ℕ} {f : BitPlace} → s ≡ Fault x f → Stopped f x ≡ tally_as (total_of w at) (patterns_due n none_known (bits_of m) at)
+    tally_bad g = stopped (single_fault (summed w named left p k t c y.bodies) (left - 1) (known_of y.bodies) (bits_of m) p (sym g ∙ q))
 
-    module _ {v own : ℕ} {f' : BitPlace} (g : f₀ ≡ Fine v f' own) where
+    module _ {v own : ℕ} {f' : BitPlace} (g : s ≡ Fine v f' own) where
       single : SingleThere (bits_of m) p v f'.0 own
       single = single_fine (bits_of m) p (sym g ∙ q)
 
@@ -388,8 +365,8 @@ module _ {w : Wish} {named : ℕ} {m places : List ℕ} {n at : ℕ} {parts : Li
         unfolding after
         allowed = known_sounding y.bodies v wish y.four wish_length.0
 
-        pub tally_unknown : part ≡ Unknown → Stopped (place (p + 3)) 7 ≡ tally_as (total_beside places w at) (patterns_due n none_known (bits_of m) at)
-        tally_unknown z = stopped (single_unknown (summed w named left p k t c y.bodies rows s) (left - 1) (known_of y.bodies) (bits_of m) p single.header (sym allowed ∙ noted_unknown (get_or after (part_of v) unknown) sounding z))
+        pub tally_unknown : part ≡ Unknown → Stopped (place (p + 3)) 7 ≡ tally_as (total_of w at) (patterns_due n none_known (bits_of m) at)
+        tally_unknown z = stopped (single_unknown (summed w named left p k t c y.bodies) (left - 1) (known_of y.bodies) (bits_of m) p single.header (sym allowed ∙ noted_unknown (get_or after (part_of v) unknown) sounding z))
 
         module _ {heard : ℕ} (i : part ≡ Known heard) where
           known_part : (is_known (get_or after (part_of v) unknown) ≡ true) × (heard ≡ notes (recalled (get_or after (part_of v) unknown)))
@@ -408,17 +385,10 @@ module _ {w : Wish} {named : ℕ} {m places : List ℕ} {n at : ℕ} {parts : Li
               let z : header (pattern v b) ≡ v = header_pattern v b header_is.good.small size in
               omega (arith, ap (λ (x : ℕ). length (entry_bits x)) z, header_is.end, body_is.end)
 
-          -- the row beside it is compared
-          row_on : {s' : Bool} → s' ≡ s && agrees rows (row_of p v ∷ []) → s && agrees rows (row_of p (header (pattern v b)) ∷ []) ≡ s'
-          row_on e' = ap (λ (x : ℕ). s && agrees rows (row_of p x ∷ [])) (header_pattern v b header_is.good.small size) ∙ sym e'
-
-          rows_on : drop 2 rows ≡ drop (2 * (n - (left - 1))) places
-          rows_on = let z : 2 * (n - left) + 2 ≡ 2 * (n - (left - 1)) = omega (arith, y.small) in drop-drop 2 (2 * (n - left)) places ∙ ap (λ (x : ℕ). drop x places) z
-
-          pub tally_on : {c' : Count} {now : List Part} {s' : Bool} → c' ≡ counted c heard (loop_of v) → Kept parts v part now → s' ≡ s && agrees (drop (2 * (n - left)) places) (row_of p v ∷ [])
-              → TallyWalk w named m places n at now f'.0 (left - 1) (t + (1 + specifier v)) c' o.cut s'
+          pub tally_on : {c' : Count} {now : List Part} → c' ≡ counted c heard (loop_of v) → Kept parts v part now
+              → TallyWalk w named m n at now f'.0 (left - 1) (t + (1 + specifier v)) c' o.cut
           unfolding after wish
-          tally_on {c'} {s' = s'} j told row =
+          tally_on {c'} j told =
               let l : learn (known_of y.bodies) v ≡ known_of after = learn_read y.bodies v wish wish_length.0 in
               let d : header_due (known_of y.bodies) (bits_of m) p ≡ got v f = single_header (known_of y.bodies) (bits_of m) p single.header (sym allowed ∙ known_part.0) in
               let j' : c' ≡ counted c (notes (body_of y.bodies (pattern v wish))) (loop_of v) = j ∙ ap (λ (x : ℕ). counted c x (loop_of v)) sounds in
@@ -434,15 +404,14 @@ module _ {w : Wish} {named : ℕ} {m places : List ℕ} {n at : ℕ} {parts : Li
                 unmarked = rw j (counted_unmarked c heard (loop_of v) y.unmarked);
                 noted = rw (kept_is parts v (Known o.notes) e told) noted_after;
                 goes = y.goes
-                    ∙ tally_step w named p k t c y.bodies rows s (known_of y.bodies) (bits_of m) one_less d single.reads
-                    ∙ ap₂ (λ (x : List ℕ) (z : Bool). tally_as (summed w named (left - 1) (behind_part p (pattern v b)) (cut_past w named left p (pattern v b) k) (t + (1 + length b)) (counted c (notes (body_of y.bodies (pattern v wish))) (loop_of v)) after x z) (patterns_due (left - 1) (learn (known_of y.bodies) v) (bits_of m) f'.0)) rows_on (row_on row)
-                    ∙ ap₂ (λ (x : ℕ) (z : Cut). tally_as (summed w named (left - 1) x z (t + (1 + length b)) (counted c (notes (body_of y.bodies (pattern v wish))) (loop_of v)) after (drop (2 * (n - (left - 1))) places) s') (patterns_due (left - 1) (learn (known_of y.bodies) v) (bits_of m) f'.0)) behind_part_lem (sym own_is.1)
-                    ∙ ap (λ (x : ℕ). tally_as (summed w named (left - 1) f'.0 o.cut (t + (1 + x)) (counted c (notes (body_of y.bodies (pattern v wish))) (loop_of v)) after (drop (2 * (n - (left - 1))) places) s') (patterns_due (left - 1) (learn (known_of y.bodies) v) (bits_of m) f'.0)) size
-                    ∙ ap₂ (λ (x : Count) (z : List Bool). tally_as (summed w named (left - 1) f'.0 o.cut (t + (1 + specifier v)) x after (drop (2 * (n - (left - 1))) places) s') (patterns_due (left - 1) z (bits_of m) f'.0)) (sym j') l;
+                    ∙ tally_step w named p k t c y.bodies (known_of y.bodies) (bits_of m) one_less d single.reads
+                    ∙ ap₂ (λ (x : ℕ) (z : Cut). tally_as (summed w named (left - 1) x z (t + (1 + length b)) (counted c (notes (body_of y.bodies (pattern v wish))) (loop_of v)) after) (patterns_due (left - 1) (learn (known_of y.bodies) v) (bits_of m) f'.0)) behind_part_lem (sym own_is.1)
+                    ∙ ap (λ (x : ℕ). tally_as (summed w named (left - 1) f'.0 o.cut (t + (1 + x)) (counted c (notes (body_of y.bodies (pattern v wish))) (loop_of v)) after) (patterns_due (left - 1) (learn (known_of y.bodies) v) (bits_of m) f'.0)) size
+                    ∙ ap₂ (λ (x : Count) (z : List Bool). tally_as (summed w named (left - 1) f'.0 o.cut (t + (1 + specifier v)) x after) (patterns_due (left - 1) z (bits_of m) f'.0)) (sym j') l;
               }
 
 -- one fact beside another, as each way out of a test has them
 pub beside : {A B : Type 0} → A → B → A × B
 beside a b = (a, b)
 
-pub ruleset tallies = (tally_begins, tally_done, tally_within, tally_left, tally_twice, tally_row, tally_counts, tally_fits, tally_bad, tally_part, tally_unknown, tally_notes, tally_on)
+pub ruleset tallies = (tally_begins, tally_done, tally_within, tally_counts, tally_fits, tally_bad, tally_part, tally_unknown, tally_notes, tally_on)

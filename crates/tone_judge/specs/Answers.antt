@@ -1,12 +1,11 @@
 -- What the code answers of a message that it judges.
-use Rattle.std.specs.Prelude.{ℕ, ◌+◌, Bool, true, List, [], length}
+use Rattle.std.specs.Prelude.{ℕ, ◌+◌, Bool, List, length}
 use Rattle.bits.specs.Outcome.{Outcome, accepted, refused}
 use Rattle.bits.specs.declared.BitPlace.{BitPlace}
 use Rattle.bits.specs.Places.{place, octet_count}
 use Rattle.tone.specs.Tone.{Pattern, Tone, front_of, cells, specifier, entries}
 use Rattle.tone.specs.Writing.{front_bits, table_bits}
 use Rattle.tone.specs.Reading.{Got, got, bad, onward, header_due, body_due}
-use Rattle.places.specs.Rows.{rows_at, agrees}
 use Rattle.tone_elements.specs.Answers.{all_known, notes}
 use Rattle.tone_judge.specs.declared.Wish.{Wish}
 use Rattle.tone_judge.specs.declared.Cut.{Cut}
@@ -31,41 +30,33 @@ single_of l p =
     (λ h q. onward (body_due (specifier h) l q) (λ b r. Fine h (place r) (notes b)) (λ n f e. Fault n (place f)))
     (λ n f e. Fault n (place f))
 
--- patterns that were counted: t entries in the table, what the list comes to, and whether the rows beside them are theirs
-abbrev pub total_to : BitPlace → ℕ → Count → Cut → Bool → Total
-total_to end t c cut own = record { table = t; list = c.entries; mark = c.mark; end = end; cut = cut; own = own }
+-- patterns that were counted: t entries in the table, and what the list comes to
+abbrev pub total_to : BitPlace → ℕ → Count → Cut → Total
+total_to end t c cut = record { table = t; list = c.entries; mark = c.mark; end = end; cut = cut }
 
 -- what the patterns ps at a place come to, with the list that qs have
-abbrev pub total_as : ℕ → List Pattern → List Pattern → Cut → Bool → Total
-total_as at ps qs c own = record { table = entries ps; list = entry_count no_bodies qs; mark = mark_from no_bodies 0 qs; end = place (at + length (table_bits (cells ps))); cut = c; own = own }
+abbrev pub total_as : ℕ → List Pattern → List Pattern → Cut → Total
+total_as at ps qs c = record { table = entries ps; list = entry_count no_bodies qs; mark = mark_from no_bodies 0 qs; end = place (at + length (table_bits (cells ps))); cut = c }
 
 -- what patterns at a place come to
 abbrev pub plainly : ℕ → List Pattern → Total
-plainly at ps = total_as at ps ps no_cut true
+plainly at ps = total_as at ps ps no_cut
 
--- what they come to as they are wished, with a place table beside them
-abbrev pub total_beside : List ℕ → Wish → ℕ → List Pattern → Total
-total_beside places w at ps = total_as at ps (wished w ps) (cut_in w at ps) (agrees places (rows_at at ps))
-
--- and with none
+-- what they come to as they are wished
 abbrev pub total_of : Wish → ℕ → List Pattern → Total
-total_of w = total_beside [] w
+total_of w at ps = total_as at ps (wished w ps) (cut_in w at ps)
 
 -- patterns that were read, counted by f, or the refusal
 abbrev pub tally_as : (List Pattern → Total) → Got (List Pattern) → Tally
 tally_as f (got ps p) = Counted (place p) (f ps)
 tally_as f (bad n p e) = Stopped (place p) n
 
--- a tone that was judged at a place, its patterns counted by f: the place behind it, song type, the place of the first pattern, the title's octets, the patterns, what they come to, UNICODE or not; or the refusal
-abbrev pub whole_as : (ℕ → List Pattern → Total) → ℕ → Got Tone → Whole
-whole_as f at (got t p) =
-    let q = at + length (front_bits (front_of t)) in
-    Ended (place p) t.song (place q) (octet_count (length t.title)) (length t.patterns) (f q t.patterns) t.unicode
-whole_as f at (bad n p e) = Broken (place p) n
-
--- judged with an edit in mind
+-- a tone that was judged at a place, with an edit in mind: the place behind it, song type, the place of the first pattern, the title's octets, the patterns, what they come to, UNICODE or not; or the refusal
 abbrev pub whole_of : Wish → ℕ → Got Tone → Whole
-whole_of w = whole_as (total_of w)
+whole_of w at (got t p) =
+    let q = at + length (front_bits (front_of t)) in
+    Ended (place p) t.song (place q) (octet_count (length t.title)) (length t.patterns) (total_of w q t.patterns) t.unicode
+whole_of w at (bad n p e) = Broken (place p) n
 
 -- a tone that was judged, its patterns counted by f from the place of the first: song type, that place, the title's octets, the patterns, what they come to, UNICODE or not; or the refusal
 abbrev pub judged_as : (ℕ → List Pattern → Total) → Outcome Tone → Judged
@@ -74,9 +65,9 @@ judged_as f (accepted t) =
     Sound t.song (place at) (octet_count (length t.title)) (length t.patterns) (f at t.patterns) t.unicode
 judged_as f (refused n p) = Faulty n (place p)
 
--- judged with an edit in mind, and a place table beside it
-abbrev pub judged_for : List ℕ → Wish → Outcome Tone → Judged
-judged_for places w o = judged_as (total_beside places w) o
+-- judged with an edit in mind
+abbrev pub judged_for : Wish → Outcome Tone → Judged
+judged_for w o = judged_as (total_of w) o
 
 -- judged with none
 abbrev pub judged_of : Outcome Tone → Judged

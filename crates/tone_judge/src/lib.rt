@@ -5,7 +5,7 @@ ghost use Rattle.tone.specs.Reading.{read_tone, front as frontDue, patterns_due,
 ghost use Rattle.tone_elements.specs.Answers.{Within, step_of, opening_of, notes as notes_of};
 ghost use Rattle.tone_elements.specs.Standing.{body_in, behind_in, BodyAt, PartAt};
 ghost use Rattle.tone_judge.specs.Wishes.{no_cut, left_at, OwnOf, Owned};
-ghost use Rattle.tone_judge.specs.Answers.{single_of, total_to, total_beside, total_of, tally_as, whole_as, whole_of, judged_for, judged_of};
+ghost use Rattle.tone_judge.specs.Answers.{single_of, total_to, total_of, tally_as, whole_of, judged_for, judged_of};
 
 use bits::{BitPlace, OctetCount};
 use edit_change::Edit;
@@ -38,7 +38,7 @@ pub struct Cut {
 }
 
 // What patterns come to: their entries in the tone table, those of their list and its return mark, as wished, where they
-// end, where the wish cuts them, and whether the rows beside them are their own.
+// end, and where the wish cuts them.
 #[derive(Drop)]
 pub struct Total {
     pub table: u32,
@@ -46,7 +46,6 @@ pub struct Total {
     pub mark: u32,
     pub end: BitPlace,
     pub cut: Cut,
-    pub own: bool,
 }
 
 // A pattern that was judged by itself: its header, the place behind it, and the notes of its own instructions; or the
@@ -233,8 +232,8 @@ fn pattern(msg: &[u8], at: BitPlace) -> Single
 
 impl Total {
     // What patterns come to that were counted up to a place.
-    fn up_to(end: BitPlace, table: u32, count: Count, cut: Cut, own: bool) -> Total
-        ensures { result ≡ total_to end table count cut own }
+    fn up_to(end: BitPlace, table: u32, count: Count, cut: Cut) -> Total
+        ensures { result ≡ total_to end table count cut }
     {
         Total {
             table,
@@ -242,17 +241,16 @@ impl Total {
             mark: count.mark,
             end,
             cut,
-            own,
         }
     }
 }
 
-// Judges `n` patterns, counts what they come to and compares the rows that lie beside them. The four parts, A to D, are kept as
-// they are counted: a recall of one that is not yet defined is refused at its payload, behind the three bits of its id.
-fn patterns_beside(msg: &[u8], at: BitPlace, n: u32, wish: Wish, places: &[u32]) -> Tally
+// Judges `n` patterns and counts what they come to. The four parts, A to D, are kept as they are counted: a recall of one that
+// is not yet defined is refused at its payload, behind the three bits of its id.
+fn patterns(msg: &[u8], at: BitPlace, n: u32, wish: Wish) -> Tally
     requires within { Within msg.now at.0 }
     requires n_bound { n ≤ 255 }
-    ensures { result ≡ tally_as (total_beside places.now wish at.0) (patterns_due n none_known (bits_of msg.now) at.0) }
+    ensures { result ≡ tally_as (total_of wish at.0) (patterns_due n none_known (bits_of msg.now) at.0) }
 {
     let named = left_at(n, wish.pattern);
     let mut parts = [Part::Unknown; 4];
@@ -261,18 +259,13 @@ fn patterns_beside(msg: &[u8], at: BitPlace, n: u32, wish: Wish, places: &[u32])
     let mut table: u32 = 0;
     let mut count = Count::none();
     let mut cut = Cut::none();
-    let mut own = true;
     while 0 < left {
         match pattern(msg, place) {
             Single::Fault { number, at: fault } => {
                 return Tally::Stopped { at: fault, number };
             }
-            Single::Fine {
-                cell,
-                next,
-                own: notes,
-            } => {
-                let wished = own_part(msg, left == named, place, cell, notes, wish, cut);
+            Single::Fine { cell, next, own } => {
+                let wished = own_part(msg, left == named, place, cell, own, wish, cut);
                 let id = (cell / 4096 % 4) as usize;
                 let part = list_count::part_after(parts[id], cell, wished.notes);
                 // A recall's part stays as it is: a store that is not needed makes the next read of it wait.
@@ -286,11 +279,10 @@ fn patterns_beside(msg: &[u8], at: BitPlace, n: u32, wish: Wish, places: &[u32])
                             number: 7,
                         };
                     }
-                    Part::Known { notes: heard } => {
-                        count = count.with(heard, cell / 256 % 16);
+                    Part::Known { notes } => {
+                        count = count.with(notes, cell / 256 % 16);
                     }
                 }
-                own = places::still_agrees(own, places, (2 * (n - left)) as usize, place, cell);
                 table += 1 + cell % 256;
                 cut = wished.cut;
                 place = next;
@@ -298,17 +290,8 @@ fn patterns_beside(msg: &[u8], at: BitPlace, n: u32, wish: Wish, places: &[u32])
             }
         }
     }
-    let total = Total::up_to(place, table, count, cut, own);
+    let total = Total::up_to(place, table, count, cut);
     Tally::Counted { next: place, total }
-}
-
-// The same with nothing beside them.
-fn patterns(msg: &[u8], at: BitPlace, n: u32, wish: Wish) -> Tally
-    requires within { Within msg.now at.0 }
-    requires n_bound { n ≤ 255 }
-    ensures { result ≡ tally_as (total_of wish at.0) (patterns_due n none_known (bits_of msg.now) at.0) }
-{
-    patterns_beside(msg, at, n, wish, &[])
 }
 
 // ---- a reader on its way
@@ -396,40 +379,9 @@ pub fn judge_start(msg: &[u8], wish: Wish) -> Whole
 
 // ---- a message
 
-// Judges the tone at the start of a message with an edit in mind, and compares the rows that lie beside the message.
-fn whole_beside(msg: &[u8], wish: Wish, places: &[u32]) -> Whole
-    requires { Within msg.now 0 }
-    ensures { result ≡ whole_as (total_beside places.now wish) 0 (whole_tone (bits_of msg.now) 0) }
-{
-    match tone_elements::open(msg, BitPlace(0)) {
-        Opening::Closed { number, at: fault } => Whole::Broken { at: fault, number },
-        Opening::Opened {
-            song,
-            next: first,
-            octets,
-            count,
-            unicode,
-        } => match patterns_beside(msg, first, count, wish, places) {
-            Tally::Stopped { at: fault, number } => Whole::Broken { at: fault, number },
-            Tally::Counted { next: last, total } => match tone_elements::ending(msg, last) {
-                Step::Bad { number, at: fault } => Whole::Broken { at: fault, number },
-                Step::Good { value: _, next } => Whole::Ended {
-                    next,
-                    song,
-                    at: first,
-                    octets,
-                    patterns: count,
-                    total,
-                    unicode,
-                },
-            },
-        },
-    }
-}
-
-// Judges a whole message with an edit in mind and a place table beside it, and changes nothing.
-pub fn judge_for(msg: &[u8], wish: Wish, places: &[u32]) -> Judged
-    ensures { result ≡ judged_for places.now wish (read_tone msg.now) }
+// Judges a whole message with an edit in mind, and changes nothing.
+pub fn judge_for(msg: &[u8], wish: Wish) -> Judged
+    ensures { result ≡ judged_for wish (read_tone msg.now) }
 {
     if 4096 < msg.len() {
         return Judged::Faulty {
@@ -437,7 +389,7 @@ pub fn judge_for(msg: &[u8], wish: Wish, places: &[u32]) -> Judged
             at: BitPlace(0),
         };
     }
-    match whole_beside(msg, wish, places) {
+    match judge_start(msg, wish) {
         Whole::Broken { at: fault, number } => Judged::Faulty { number, at: fault },
         Whole::Ended {
             next,
@@ -470,43 +422,10 @@ pub fn judge_for(msg: &[u8], wish: Wish, places: &[u32]) -> Judged
 pub fn judge(msg: &[u8]) -> Judged
     ensures { result ≡ judged_of (read_tone msg.now) }
 {
-    let octets = OctetCount(msg.len());
-    if 4096 < octets.0 {
-        return Judged::Faulty {
-            number: 1,
-            at: BitPlace(0),
-        };
-    }
     let wish = Wish {
         edit: Edit::Delete,
         pattern: 255,
         instruction: 0,
     };
-    match judge_start(msg, wish) {
-        Whole::Broken { at: fault, number } => Judged::Faulty { number, at: fault },
-        Whole::Ended {
-            next,
-            song,
-            at,
-            octets: title,
-            patterns,
-            total,
-            unicode,
-        } => {
-            if next.0 != bits::place_after(octets).0 {
-                return Judged::Faulty {
-                    number: 10,
-                    at: next,
-                };
-            }
-            Judged::Sound {
-                song,
-                at,
-                octets: title,
-                patterns,
-                total,
-                unicode,
-            }
-        }
-    }
+    judge_for(msg, wish)
 }

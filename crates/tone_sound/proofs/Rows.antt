@@ -1,31 +1,26 @@
 -- Patterns are gone over one by one, and a tone from its front to its end.
 use Prim.Native.Nat.{ℕ, suc, ◌+◌, ◌-◌, ◌*◌, ◌/◌, ◌%◌, ◌^◌, ◌≤◌, ◌<◌}
 use native.Mathlib.Omega.{arith}
-use mathlib.Core.Path.{◌≡◌, refl, sym, ap, ap₂, subst, ◌∙◌}
+use mathlib.Core.Path.{◌≡◌, refl, sym, ap, subst, ◌∙◌}
 use mathlib.Core.Bool.{Bool, true, false, not}
-use mathlib.Core.List.{List, [], ◌∷◌, ◌++◌, append_assoc, append-nil}
-use lib.ListN.{length, get_or, set, length-append}
+use mathlib.Core.List.{List, [], ◌∷◌}
+use lib.ListN.{length, get_or, set}
 use borrow.Author.Tests.{eq-eqb, ne_eqb}
 use Rattle.bits.specs.Choice.{pick}
 use Rattle.bits.specs.Bits.{bits_of}
-use Rattle.bits.specs.Lent.{over}
 use Rattle.bits.specs.declared.BitPlace.{BitPlace}
 use Rattle.bits.proofs.Octets.{length_bits_of}
-use Rattle.tone.specs.Tone.{Pattern, specifier, header, pattern, none_known, recallable, learn}
-use Rattle.tone.specs.Writing.{entry_bits, table_bits}
+use Rattle.tone.specs.Tone.{Pattern, specifier, pattern, none_known, recallable, learn}
 use Rattle.tone.proofs.Recalls.{learn_set}
-use Rattle.tone.proofs.Rows.{header_exact, header_pattern, body_exact, patterns_exact}
+use Rattle.tone.proofs.Rows.{header_exact, body_exact, patterns_exact}
 use Rattle.tone.specs.Reading.{got, bad, onward, header_due, body_due, patterns_due}
-use Rattle.places.specs.Rows.{row_of, rows_at, pattern_bits, numbers, row_cells}
-use Rattle.places.specs.Moving.{kept}
-use Rattle.places.proofs.Standing.{kept_long, kept_behind}
 use Rattle.tone_elements.specs.declared.Step.{Step}
 use Rattle.tone_elements.specs.declared.Step.TheVariants.{Good, Bad}
 use Rattle.tone_elements.specs.Answers.{Within, all_known, step_of}
 use Rattle.tone_elements.proofs.Steps.{step_there, step_bad, onward_got, onward_made}
 use Rattle.tone_elements.proofs.Headers.{header_apart}
 use Rattle.tone_elements.proofs.Walks.{stays}
-use Rattle.tone_sound.specs.Answers.{Tells, Past, Stand, Room, PatternsTold, PatternsStand}
+use Rattle.tone_sound.specs.Answers.{Tells, Past, Stand, PatternsPast, PatternsStand}
 use Rattle.tone_sound.proofs.Bodies.{surely, nowhere, nothing_sure, was_sure}
 
 -- ---- what is known
@@ -39,18 +34,11 @@ module _ (known : List Bool) (h : ℕ) where
 
 -- ---- patterns
 
--- with `left` of n patterns still to come: with them, all are read, and where all are read, so are they. The rows of those that were
--- passed are i numbers, and a scratch that has room has them in front
-pub record Row (m : List ℕ) (at n : ℕ) (old : List ℕ) (known : List Bool) (p left : ℕ) (rows : List ℕ) (i : ℕ) : Type 0 where
+-- with `left` of n patterns still to come: with them, all are read, and where all are read, so are they
+pub record Row (m : List ℕ) (at n : ℕ) (known : List Bool) (p left : ℕ) : Type 0 where
   pub inside : p ≤ 8 * length m
-  pub done : List ℕ
-  pub size : length done ≡ i
-  pub passed : i + row_cells * left ≡ row_cells * n
-  pub resumes : (ps : List Pattern) (q : ℕ) → patterns_due left known (bits_of m) p ≡ got ps q
-      → (all : List Pattern) × (patterns_due n none_known (bits_of m) at ≡ got all q) × (numbers (rows_at at all) ≡ done ++ numbers (rows_at p ps))
+  pub resumes : (ps : List Pattern) (q : ℕ) → patterns_due left known (bits_of m) p ≡ got ps q → (all : List Pattern) × (patterns_due n none_known (bits_of m) at ≡ got all q)
   pub rests : (all : List Pattern) (q : ℕ) → patterns_due n none_known (bits_of m) at ≡ got all q → (ps : List Pattern) × (patterns_due left known (bits_of m) p ≡ got ps q)
-  pub long : length rows ≡ length old
-  pub keeps : Room m n old → rows ≡ over done old
 
 -- the first of `left` patterns that were read from a place, and those behind it
 pub record First (m : List ℕ) (known : List Bool) (p left end : ℕ) : Type 0 where
@@ -92,39 +80,11 @@ first_of m known p left {ps} {end} h d =
     let r = header_read known l p a.2 in
     record { value = v; behind = a.1; header = r.0; recalls = r.1; own = b.0; next = b.1; body = b.2; more = c.0; rest = c.1 }
 
--- a pattern that was read: where it ends, and the numbers of its row and of those behind it
-pattern_rows : (m : List ℕ) (p : ℕ) {v q : ℕ} {b : List ℕ} {t : ℕ} → p ≤ 8 * length m → header_due all_known (bits_of m) p ≡ got v q → body_due (v % 256) (bits_of m) q ≡ got b t
-    → (ps : List Pattern) → numbers (rows_at p (pattern v b ∷ ps)) ≡ p ∷ (v ∷ numbers (rows_at t ps))
-pattern_rows m p {v} {q} {b} {t} i h g ps =
-    let a = (header_exact all_known).sound (bits_of m) p (rw (length_bits_of m) i) h in
-    let c = (body_exact (v % 256)).sound (bits_of m) q a.inside g in
-    let e : header (pattern v b) ≡ v = header_pattern v b a.good.small c.good.size in
-    let w : length (pattern_bits (pattern v b)) ≡ length (entry_bits v) + length (table_bits b) =
-    ap₂ (λ (x : ℕ) (y : List ℕ). length (entry_bits x ++ table_bits y)) e (append-nil b) ∙ length-append (entry_bits v) (table_bits b) in
-    let z : p + length (pattern_bits (pattern v b)) ≡ t = omega (arith, w, a.end, c.end) in
-    ap₂ (λ (x y : ℕ). p ∷ (x ∷ numbers (rows_at y ps))) e z
+module _ (m : List ℕ) (at n : ℕ) where
+  pub row_begins : at ≤ 8 * length m → Row m at n none_known at n
+  row_begins h = record { inside = h; resumes = λ ps q e. (ps, e); rests = λ ps q e. (ps, e) }
 
-module _ (m : List ℕ) (at n : ℕ) (old : List ℕ) where
-  pub row_begins : at ≤ 8 * length m → Row m at n old none_known at n old 0
-  row_begins h = record {
-    inside = h;
-    done = [];
-    size = refl;
-    passed = omega arith;
-    resumes = λ ps q e. (ps, e, refl);
-    rests = λ ps q e. (ps, e);
-    long = refl;
-    keeps = λ _. refl;
-  }
-
-  module _ {known : List Bool} {p left : ℕ} {rows : List ℕ} {i : ℕ} (r : Row m at n old known p left rows i) where
-    -- the scratch is as long as it was
-    pub row_long : length rows ≡ length old
-    row_long = r.long
-
-    pub row_few : n ≤ 255 → i ≤ 510
-    row_few h = omega (arith, r.passed)
-
+  module _ {known : List Bool} {p left : ℕ} (r : Row m at n known p left) where
     -- a header that stands, its body, and the patterns behind them
     row_one : {v q : ℕ} {b : List ℕ} {t : ℕ} {k : ℕ} → left ≡ suc k → header_due all_known (bits_of m) p ≡ got v q → recallable known v ≡ true → body_due (v % 256) (bits_of m) q ≡ got b t
         → (ps : List Pattern) (z : ℕ) → patterns_due k (learn known v) (bits_of m) t ≡ got ps z → patterns_due left known (bits_of m) p ≡ got (pattern v b ∷ ps) z
@@ -140,32 +100,21 @@ module _ (m : List ℕ) (at n : ℕ) (old : List ℕ) where
         let c = onward_made (patterns_due k (learn known v) (bits_of m) t) (λ qs. pattern v b ∷ qs) (sym u ∙ l) in
         (c.0, c.1)
 
-    pub row_on : {s : Step} {v : ℕ} {q : BitPlace} {w : Bool} {t : ℕ} {stands : Bool} {rows' : List ℕ} → 0 < left → s ≡ step_of (header_due all_known (bits_of m) p) → s ≡ Good v q
-        → stands ≡ recallable known v → not stands ≡ false → Tells w (Past m q.0 (v % 256) t) (Stand m q.0 (v % 256)) → not w ≡ false → rows' ≡ kept i (row_of (p % 2 ^ 32) v) rows
-        → Row m at n old (set known (v / 4096 % 4) true) t (left - 1) rows' (i + 2)
-    row_on {s} {v} {q} {w} {t} {stands} {rows'} h e g f y u x k =
+    pub row_on : {s : Step} {v : ℕ} {q : BitPlace} {w : Bool} {t : ℕ} {stands : Bool} → 0 < left → s ≡ step_of (header_due all_known (bits_of m) p) → s ≡ Good v q
+        → stands ≡ recallable known v → not stands ≡ false → Tells w (Past m q.0 (v % 256) t) (Stand m q.0 (v % 256)) → not w ≡ false → Row m at n (set known (v / 4096 % 4) true) t (left - 1)
+    row_on {s} {v} {q} {w} {t} {stands} h e g f y u x =
         let b = u.so (was_sure w x) in
         let d = step_there (header_due all_known (bits_of m) p) (sym g ∙ e) in
         let z : left ≡ suc (left - 1) = omega arith in
         let a = sym f ∙ was_sure stands y in
-        let row : List ℕ = p ∷ (v ∷ []) in
         record {
           inside = b.inside;
-          done = r.done ++ row;
-          size = length-append r.done row ∙ ap (λ (j : ℕ). j + 2) r.size;
-          passed = omega (arith, r.passed);
-          resumes = λ ps j l.
-              let o = r.resumes (pattern v b.body ∷ ps) j
-              (row_one z d a b.reads ps j (subst (λ (k : List Bool). patterns_due (left - 1) k (bits_of m) t ≡ got ps j) (sym (learn_set known v a)) l)) in
-              (o.0, o.1, o.2 ∙ ap (λ (y : List ℕ). r.done ++ y) (pattern_rows m p r.inside d b.reads ps) ∙ sym (append_assoc r.done row (numbers (rows_at t ps))));
-          rests = λ all j l.
-              let o = r.rests all j l in
-              let c = row_back z d a b.reads o.0 j o.1 in
-              (c.0, subst (λ (k : List Bool). patterns_due (left - 1) k (bits_of m) t ≡ got c.0 j) (learn_set known v a) c.1);
-          long = ap length k ∙ kept_long i (row_of (p % 2 ^ 32) v) rows ∙ r.long;
-          keeps = λ o.
-              let fits : p % 2 ^ 32 ≡ p = omega (arith, r.inside, o.1) in
-              k ∙ ap (λ (x : ℕ). kept i (row_of x v) rows) fits ∙ kept_behind old r.done p v (r.keeps o) r.long r.size (omega (arith, r.passed, o.0));
+          resumes = λ ps i l. r.resumes (pattern v b.body ∷ ps) i
+              (row_one z d a b.reads ps i (subst (λ (k : List Bool). patterns_due (left - 1) k (bits_of m) t ≡ got ps i) (sym (learn_set known v a)) l));
+          rests = λ all i l.
+              let o = r.rests all i l in
+              let c = row_back z d a b.reads o.0 i o.1 in
+              (c.0, subst (λ (k : List Bool). patterns_due (left - 1) k (bits_of m) t ≡ got c.0 i) (learn_set known v a) c.1);
         }
 
     -- the next of those that stand
@@ -174,7 +123,7 @@ module _ (m : List ℕ) (at n : ℕ) (old : List ℕ) where
       next_of u = let o = r.rests u.past.patterns u.end u.past.reads in first_of m known p left h o.1
 
       -- none begins there
-      pub row_cut : {k z : ℕ} {q : BitPlace} {y : Bool} → s ≡ Bad k q → y ≡ false → Tells y (PatternsTold m at n z old rows) (PatternsStand m at n)
+      pub row_cut : {k z : ℕ} {q : BitPlace} {y : Bool} → s ≡ Bad k q → y ≡ false → Tells y (PatternsPast m at n z) (PatternsStand m at n)
       row_cut g f = nowhere f (λ u.
           let b = step_bad (λ v. v) (header_due all_known (bits_of m) p) (sym g ∙ e) in
           let c = sym b.1 ∙ (next_of u).header in
@@ -196,28 +145,25 @@ module _ (m : List ℕ) (at n : ℕ) (old : List ℕ) where
             (subst (λ (x : ℕ). recallable known x ≡ true) ev o.recalls, subst (λ (x : ℕ). Stand m q.0 (x % 256)) ev (subst (λ (x : ℕ). Stand m x (o.value % 256)) eq b))
 
         -- it recalls what is not known
-        pub row_barred : {stands y : Bool} {z : ℕ} → stands ≡ recallable known v → not stands ≡ true → y ≡ false → Tells y (PatternsTold m at n z old rows) (PatternsStand m at n)
+        pub row_barred : {stands y : Bool} {z : ℕ} → stands ≡ recallable known v → not stands ≡ true → y ≡ false → Tells y (PatternsPast m at n z) (PatternsStand m at n)
         row_barred {stands} f x l = nowhere l (λ u. nothing_sure stands x (f ∙ (there u).0))
 
         -- its body does not stand
-        pub row_lost : {w y : Bool} {t z : ℕ} → Tells w (Past m q.0 (v % 256) t) (Stand m q.0 (v % 256)) → not w ≡ true → y ≡ false → Tells y (PatternsTold m at n z old rows) (PatternsStand m at n)
+        pub row_lost : {w y : Bool} {t z : ℕ} → Tells w (Past m q.0 (v % 256) t) (Stand m q.0 (v % 256)) → not w ≡ true → y ≡ false → Tells y (PatternsPast m at n z) (PatternsStand m at n)
         row_lost {w} b x l = nowhere l (λ u. nothing_sure w x (b.back (there u).1))
 
-    pub row_done : left ≤ 0 → PatternsTold m at n p old rows
+    pub row_done : left ≤ 0 → PatternsPast m at n p
     unfolding patterns_due
     row_done h =
         let z : left ≡ 0 = omega arith in
         let a = r.resumes [] p (subst (λ (k : ℕ). patterns_due k known (bits_of m) p ≡ got [] p) (sym z) refl) in
-        record {
-          past = record { patterns = a.0; reads = a.1; inside = r.inside };
-          rows = λ o. r.keeps o ∙ ap (λ (l : List ℕ). over l old) (sym (a.2 ∙ append-nil r.done));
-        }
+        record { patterns = a.0; reads = a.1; inside = r.inside }
 
 -- the place behind a header is within the message
 pub header_within : {m : List ℕ} {p : ℕ} {s : Step} {v : ℕ} {q : BitPlace} → length m < 2 ^ 60 → p ≤ 8 * length m → s ≡ step_of (header_due all_known (bits_of m) p) → s ≡ Good v q → Within m q.0
 header_within {m} {p} c i e g = record { inside = stays (header_exact all_known) m p i (step_there (header_due all_known (bits_of m) p) (sym g ∙ e)); counted = c }
 
-pub row_inside : {m : List ℕ} {at n : ℕ} {old : List ℕ} {known : List Bool} {p left : ℕ} {rows : List ℕ} {i : ℕ} → Row m at n old known p left rows i → p ≤ 8 * length m
+pub row_inside : {m : List ℕ} {at n : ℕ} {known : List Bool} {p left : ℕ} → Row m at n known p left → p ≤ 8 * length m
 row_inside r = r.inside
 
-pub ruleset rows = (surely, row_begins, row_long, row_few, row_on, row_cut, row_barred, row_lost, row_done, row_inside, header_within)
+pub ruleset rows = (surely, row_begins, row_on, row_cut, row_barred, row_lost, row_done, row_inside, header_within)

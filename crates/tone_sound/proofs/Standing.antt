@@ -2,7 +2,7 @@
 use Prim.Native.Nat.{ℕ, ◌+◌, ◌-◌, ◌*◌, ◌/◌, ◌%◌, ◌^◌, ◌≤◌, ◌<◌}
 use native.Mathlib.Omega.{arith}
 use native.Mathlib.Nat.{zero-div}
-use mathlib.Core.Path.{◌≡◌, refl, sym, ap, ap₂, subst, ◌∙◌}
+use mathlib.Core.Path.{◌≡◌, refl, sym, ap, subst, ◌∙◌}
 use mathlib.Core.Bool.{Bool, true, false, not}
 use mathlib.Core.List.{List}
 use lib.ListN.{length, drop}
@@ -10,22 +10,17 @@ use lib.Dec.{eqb, lit<}
 use lib.Pow.{shr-shr, shr_mod}
 use borrow.Author.Tests.{eqb-true}
 use Rattle.bits.specs.Bits.{bits_of, place_after, octets_to, filler_to}
-use Rattle.bits.specs.Lent.{over}
 use Rattle.bits.specs.Places.{place}
 use Rattle.bits.specs.Window.{Sight}
 use Rattle.bits.proofs.Octets.{length_bits_of}
-use Rattle.tone.specs.Tone.{Front, FrontFormed, Pattern, Tone, front_of, none_known}
-use Rattle.tone.specs.Writing.{front_bits}
+use Rattle.tone.specs.Tone.{Front, Pattern, Tone, none_known}
 use Rattle.tone.specs.Reading.{Got, got, bad, onward, element, front as frontDue, patterns_due, ending, rest, whole_tone, octets_read, tone_at}
-use Rattle.tone.proofs.Exact.{Accepted}
 use Rattle.tone.proofs.Fronts.{front_exact}
-use Rattle.tone.proofs.Standing.{read_stands, stands_at}
 use Rattle.tone.proofs.Rows.{header_exact, header_wide, body_exact, patterns_exact}
-use Rattle.places.specs.Rows.{rows_at, numbers}
 use Rattle.tone_elements.specs.Answers.{Within, all_known}
 use Rattle.tone_elements.proofs.Steps.{step_there, onward_got, onward_made}
 use Rattle.tone_elements.proofs.Openings.{ending_told}
-use Rattle.tone_sound.specs.Answers.{Tells, PatternsPast, PatternsTold, PatternsStand, FrontAt, Starts, SongTold, ToneFrom, TabledAt}
+use Rattle.tone_sound.specs.Answers.{Tells, PatternsPast, PatternsStand, FrontAt, Starts, SongPast, ToneFrom}
 use Rattle.tone_sound.proofs.Dues.{element_read, element_seen}
 use Rattle.tone_sound.proofs.Bodies.{nothing_sure, nowhere, was_sure}
 use Rattle.tone_sound.proofs.Rows.{first_of}
@@ -161,7 +156,7 @@ module _ (m : List ℕ) (start : ℕ) where
 
   module _ {at p n : ℕ} (ea : at ≡ place_after start) (f : Starts frontDue m at p n) where
     -- no front
-    pub song_none : {q k : ℕ} {old new : List ℕ} {r : Bool} → start ≤ length m → r ≡ false → n ≡ 0 → Tells r (SongTold m start q k old new) (ToneFrom m start)
+    pub song_none : {q : ℕ} {r : Bool} → start ≤ length m → r ≡ false → n ≡ 0 → Tells r (SongPast m start q) (ToneFrom m start)
     song_none h e z = nowhere e (λ t.
         let w = whole_read t in
         let o : frontDue (bits_of m) at ≡ got w.front w.behind = subst (λ (k : ℕ). frontDue (bits_of m) k ≡ got w.front w.behind) (sym ea) w.opens in
@@ -177,16 +172,19 @@ module _ (m : List ℕ) (start : ℕ) where
       pub opened_within : length m < 2 ^ 60 → Within m p
       opened_within l = record { inside = opened.inside; counted = l }
 
-      -- they are at most 255
-      pub opened_few : start ≤ length m → n ≤ 255
-      opened_few h =
-          let a = front_exact.sound (bits_of m) at (rw (ea, length_bits_of m) (omega arith)) opened.reads in
-          omega (arith, opened.count, a.good.most)
-
       -- the front, and the patterns behind it
-      pub song_told : {q : ℕ} {old new : List ℕ} {r : Bool} → start ≤ length m → Tells r (PatternsTold m p n q old new) (PatternsStand m p n) → Tells r (SongTold m start q n old new) (ToneFrom m start)
+      pub song_told : {q : ℕ} {r : Bool} → start ≤ length m → Tells r (PatternsPast m p n q) (PatternsStand m p n) → Tells r (SongPast m start q) (ToneFrom m start)
       song_told {q} h s = record {
-        so = λ y. record { front = opened.front; behind = p; opens = here; count = opened.count; told = s.so y };
+        so = λ y.
+            let b = s.so y in
+            record {
+              front = opened.front;
+              behind = p;
+              opens = here;
+              patterns = b.patterns;
+              reads = subst (λ (k : ℕ). patterns_due k none_known (bits_of m) p ≡ got b.patterns q) (sym opened.count) b.reads;
+              inside = b.inside;
+            };
         back = λ t.
             let w = whole_read t in
             let o = sym w.opens ∙ here in
@@ -205,93 +203,45 @@ module _ (m : List ℕ) (start : ℕ) where
           place_same : {a b : Front} {i j : ℕ} → got a i ≡ got b j → i ≡ j
           place_same e = cc
 
-  module _ {b : Bool} {q n : ℕ} {old new : List ℕ} (s : Tells b (SongTold m start q n old new) (ToneFrom m start)) where
-    module _ (unsure : not b ≡ true) where
-      -- where it is not sure of front and patterns, no tone starts there
-      pub tone_none : {r : ℕ} → r ≡ 0 → r ≡ tone_at m start
-      unfolding tone_at
-      tone_none z = z ∙ go (whole_tone (bits_of m) (place_after start)) refl
-        where
-          go : (x : Got Tone) → whole_tone (bits_of m) (place_after start) ≡ x → 0 ≡ octets_read start x
-          go (got t z) e = nothing_sure b unsure (s.back (record { tone = t; end = z; reads = e }))
-          go (bad k p z) e = refl
-
-      pub table_none : {k : ℕ} → TabledAt m start k old new
-      table_none = record {
-        many = λ t z e. nothing_sure b unsure (s.back (record { tone = t; end = z; reads = e }));
-        rows = λ t z e _. nothing_sure b unsure (s.back (record { tone = t; end = z; reads = e }));
-      }
+  module _ {b : Bool} {q : ℕ} (s : Tells b (SongPast m start q) (ToneFrom m start)) where
+    -- where it is not sure of front and patterns, no tone starts there
+    pub tone_none : not b ≡ true → 0 ≡ tone_at m start
+    unfolding tone_at
+    tone_none h = go (whole_tone (bits_of m) (place_after start)) refl
+      where
+        go : (x : Got Tone) → whole_tone (bits_of m) (place_after start) ≡ x → 0 ≡ octets_read start x
+        go (got t z) e = nothing_sure b h (s.back (record { tone = t; end = z; reads = e }))
+        go (bad k p z) e = refl
 
     module _ (sure : not b ≡ false) where
       -- where it is sure of them, they were read
-      told : SongTold m start q n old new
-      told = s.so (was_sure b sure)
-
-      abbrev past : PatternsPast m told.behind n q
-      past = told.told.past
+      past : SongPast m start q
+      past = s.so (was_sure b sure)
 
       -- they end within the octets
       pub song_within : length m < 2 ^ 60 → Within m q
       song_within l = record { inside = past.inside; counted = l }
 
       -- what is read of a tone is what is read of its end
-      all_read : whole_tone (bits_of m) (place_after start) ≡ onward (onward (ending (bits_of m) q) (λ _ z. got past.patterns z) bad) (λ ps z. got (tone_of told.front ps) z) bad
+      all_read : whole_tone (bits_of m) (place_after start) ≡ onward (onward (ending (bits_of m) q) (λ _ z. got past.patterns z) bad) (λ ps z. got (tone_of past.front ps) z) bad
       unfolding whole_tone rest
-      all_read = rw (told.opens, told.count, past.reads) refl
+      all_read = rw (past.opens, past.reads) refl
 
       -- it has as many octets as lie ahead of its end and behind its start
-      octets_there : {e : ℕ} → e ≡ octets_read 0 (ending (bits_of m) q) → e - start ≡ tone_at m start
+      pub tone_there : {e : ℕ} → e ≡ octets_read 0 (ending (bits_of m) q) → e - start ≡ tone_at m start
       unfolding tone_at
-      octets_there h = ap (λ (k : ℕ). k - start) h ∙ go (ending (bits_of m) q) ∙ sym (ap (octets_read start) all_read)
+      tone_there h = ap (λ (k : ℕ). k - start) h ∙ go (ending (bits_of m) q) ∙ sym (ap (octets_read start) all_read)
         where
-          go : (x : Got ℕ) → octets_read 0 x - start ≡ octets_read start (onward (onward x (λ _ z. got past.patterns z) bad) (λ ps z. got (tone_of told.front ps) z) bad)
+          go : (x : Got ℕ) → octets_read 0 x - start ≡ octets_read start (onward (onward x (λ _ z. got past.patterns z) bad) (λ ps z. got (tone_of past.front ps) z) bad)
           go (got v z) = omega arith
           go (bad k p z) = omega arith
 
-      module _ {e : ℕ} (h : e ≡ octets_read 0 (ending (bits_of m) q)) where
-        pub tone_there : e - start ≡ tone_at m start
-        tone_there = octets_there h
-
-        -- none where that is not behind its start
-        pub tone_cut : {r : ℕ} → r ≡ 0 → e ≤ start → r ≡ tone_at m start
-        tone_cut z l = omega (arith, tone_there)
-
-        pub table_cut : {k : ℕ} → start ≤ length m → e ≤ start → TabledAt m start k old new
-        table_cut {k} i l = record { many = λ t z d. absurd (none t z d); rows = λ t z d _. absurd (none t z d) }
-          where
-            none : (t : Tone) (z : ℕ) → whole_tone (bits_of m) (place_after start) ≡ got t z → ⊥
-            none t z d = let a = stands_at m start i (read_stands m start i d).1 in omega (arith, a, tone_there, l)
-
-      -- its front is the one that was read, and its patterns are those whose rows are kept
-      own_parts : {t : Tone} {z : ℕ} → whole_tone (bits_of m) (place_after start) ≡ got t z → (t.patterns ≡ past.patterns) × (tone_of told.front past.patterns ≡ t)
-      own_parts {t} {z} d =
-          let a = onward_made (onward (ending (bits_of m) q) (λ _ z. got past.patterns z) bad) (tone_of told.front) (sym all_read ∙ d) in
-          let c = onward_made (ending (bits_of m) q) (λ _. past.patterns) a.1 in
-          (ap (λ (x : Tone). x.patterns) a.2 ∙ c.2, sym (a.2 ∙ ap (tone_of told.front) c.2))
-
-      pub table_there : start ≤ length m → TabledAt m start n old new
-      table_there i = record {
-        many = λ t z d. sym (ap length (own_parts d).0 ∙ count);
-        rows = λ t z d o.
-            let w = own_parts d in
-            let f : told.front ≡ front_of t = front_own ∙ ap front_of w.1 in
-            let p : told.behind ≡ place_after start + length (front_bits (front_of t)) = front.end ∙ ap (λ (x : Front). place_after start + length (front_bits x)) f in
-            told.told.rows o ∙ ap₂ (λ (x : ℕ) (ps : List Pattern). over (numbers (rows_at x ps)) old) p (sym w.0);
-      }
-        where
-          front : Accepted FrontFormed (λ _ f. front_bits f) (bits_of m) (place_after start) told.front told.behind
-          front = front_exact.sound (bits_of m) (place_after start) (rw (length_bits_of m) (omega arith)) told.opens
-
-          count : length past.patterns ≡ n
-          count = ((patterns_exact n none_known).sound (bits_of m) told.behind front.inside past.reads).good.size
-
-          -- the front announces as many patterns as there are
-          front_own : told.front ≡ front_of (tone_of told.front past.patterns)
-          front_own = let c : told.front.count ≡ length past.patterns = told.count ∙ sym count in
-              λ i. record { song = told.front.song; unicode = told.front.unicode; title = told.front.title; count = c i }
+      -- none where that is not behind its start
+      pub tone_cut : {e : ℕ} → e ≡ octets_read 0 (ending (bits_of m) q) → e ≤ start → 0 ≡ tone_at m start
+      tone_cut h l = omega (arith, tone_there h)
 
 pub ruleset ended = (end_cut, end_other, end_there)
 
-pub ruleset songs = (song_none, opened_within, opened_few, song_told)
+pub ruleset songs = (song_none, opened_within, song_told)
 
-pub ruleset tones = (tone_none, table_none, song_within, tone_cut, table_cut, tone_there, table_there)
+pub ruleset tones = (tone_none, song_within, tone_cut, tone_there)

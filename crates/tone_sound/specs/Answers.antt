@@ -1,12 +1,9 @@
 -- What the code answers of a tone that it tells.
-use Rattle.std.specs.Prelude.{ℕ, ◌+◌, ◌-◌, ◌*◌, ◌%◌, ◌^◌, ◌≤◌, ◌<◌, ◌≡◌, Bool, true, List, length, drop}
+use Rattle.std.specs.Prelude.{ℕ, ◌+◌, ◌-◌, ◌%◌, ◌≤◌, ◌≡◌, Bool, true, List, length, drop}
 use Rattle.bits.specs.Bits.{bits_of, place_after}
-use Rattle.bits.specs.Lent.{over}
 use Rattle.bits.specs.Window.{Sight}
-use Rattle.tone.specs.Tone.{Pattern, Tone, Front, front_of, none_known}
-use Rattle.tone.specs.Writing.{front_bits}
+use Rattle.tone.specs.Tone.{Pattern, Tone, Front, none_known}
 use Rattle.tone.specs.Reading.{Reader, got, command, front as frontDue, body_due, patterns_due, whole_tone}
-use Rattle.places.specs.Rows.{rows_at, numbers, row_cells}
 use Rattle.tone_sound.specs.declared.Told.{Told}
 use Rattle.tone_sound.specs.Turning.{turn, clear, Mark, width_in, along, AllClear}
 
@@ -44,15 +41,6 @@ pub record PatternsPast (m : List ℕ) (at n p : ℕ) : Type 0 where
   pub patterns : List Pattern
   pub reads : patterns_due n none_known (bits_of m) at ≡ got patterns p
   pub inside : p ≤ place_after (length m)
-
--- a scratch has room for n rows, and the places in a message fit its numbers
-abbrev pub Room : List ℕ → ℕ → List ℕ → Type 0
-Room m n scratch = (row_cells * n ≤ length scratch) × (place_after (length m) < 2 ^ 32)
-
--- n patterns stand from one place up to another, and their rows are in front of a scratch that has room
-pub record PatternsTold (m : List ℕ) (at n p : ℕ) (old new : List ℕ) : Type 0 where
-  pub past : PatternsPast m at n p
-  pub rows : Room m n old → new ≡ over (numbers (rows_at at past.patterns)) old
 
 -- n patterns stand at a place, and the end octet's bits are left behind them
 pub record PatternsStand (m : List ℕ) (at n : ℕ) : Type 0 where
@@ -92,22 +80,17 @@ pub record Starts (due : Reader Front) (m : List ℕ) (at p n : ℕ) : Type 0 wh
   pub so : 1 ≤ n → FrontAt due m at p n
   pub back : FrontStands due m at → 1 ≤ n
 
--- a tone's front and its patterns, as many as there are headers, stand from an octet up to a place
-pub record SongTold (m : List ℕ) (start p headers : ℕ) (old new : List ℕ) : Type 0 where
+-- a tone's front and patterns stand from an octet up to a place
+pub record SongPast (m : List ℕ) (start p : ℕ) : Type 0 where
   pub front : Front
   pub behind : ℕ
   pub opens : frontDue (bits_of m) (place_after start) ≡ got front behind
-  pub count : front.count ≡ headers
-  pub told : PatternsTold m behind headers p old new
+  pub patterns : List Pattern
+  pub reads : patterns_due front.count none_known (bits_of m) behind ≡ got patterns p
+  pub inside : p ≤ place_after (length m)
 
 -- a tone starts at an octet
 pub record ToneFrom (m : List ℕ) (start : ℕ) : Type 0 where
   pub tone : Tone
   pub end : ℕ
   pub reads : whole_tone (bits_of m) (place_after start) ≡ got tone end
-
--- of the tone that is read from an octet on: its headers, and its place table in front of a scratch that has room
-pub record TabledAt (m : List ℕ) (start headers : ℕ) (old new : List ℕ) : Type 0 where
-  pub many : (t : Tone) (end : ℕ) → whole_tone (bits_of m) (place_after start) ≡ got t end → headers ≡ length t.patterns
-  pub rows : (t : Tone) (end : ℕ) → whole_tone (bits_of m) (place_after start) ≡ got t end → Room m headers old
-      → new ≡ over (numbers (rows_at (place_after start + length (front_bits (front_of t))) t.patterns)) old

@@ -9,7 +9,7 @@ ghost use Rattle.tone.specs.Tone.{recallable};
 ghost use Rattle.tone.specs.Reading.{typed as typedDue, front as frontDue, ending, octets_read, tone_at};
 ghost use Rattle.tone_elements.specs.Answers.{Within};
 ghost use Rattle.tone_sound.specs.Turning.{turn, onward, wide_in, mark_in, Mark, Marks};
-ghost use Rattle.tone_sound.specs.Answers.{Tells, ToldOf, Past, Stand, Gone, CommandOn, CommandSeen, PatternsTold, PatternsStand, Starts, SongTold, ToneFrom, TabledAt};
+ghost use Rattle.tone_sound.specs.Answers.{Tells, ToldOf, Past, Stand, Gone, CommandOn, CommandSeen, PatternsPast, PatternsStand, Starts, SongPast, ToneFrom};
 
 use bits::{BitPlace, OctetCount, TwoSights};
 use tone_elements::Step;
@@ -350,18 +350,15 @@ fn may_stand(known: [bool; 4], cell: u32) -> bool
     true
 }
 
-// Goes over the `n` patterns at a place, and keeps each header's row in a scratch that has room for it. Of a place the scratch has the
-// lowest 32 bits, which are all of it in a message that can be read.
-fn patterns(whole: &[u8], at: BitPlace, n: u32, marks: &[u8; 512], rows: &mut [u32]) -> Way
+// Goes over the `n` patterns at a place.
+fn patterns(whole: &[u8], at: BitPlace, n: u32, marks: &[u8; 512]) -> Way
     requires marks { Marks marks.now }
     requires within { Within whole.now at.0 }
-    requires n_bound { n ≤ 255 }
-    ensures { Tells result.sure (PatternsTold whole.now at.0 n result.at.0 rows.old rows.new) (PatternsStand whole.now at.0 n) }
+    ensures { Tells result.sure (PatternsPast whole.now at.0 n result.at.0) (PatternsStand whole.now at.0 n) }
 {
     let mut known = [false; 4];
     let mut place = at;
     let mut left = n;
-    let mut behind: usize = 0;
     while 0 < left {
         match tone_elements::header(whole, place) {
             Step::Bad { number: _, at: _ } => {
@@ -375,11 +372,9 @@ fn patterns(whole: &[u8], at: BitPlace, n: u32, marks: &[u8; 512], rows: &mut [u
                 if !way.sure {
                     return lost(place);
                 }
-                places::keep_row(rows, behind, BitPlace(place.0 % 4294967296), value);
                 known[(value / 4096 % 4) as usize] = true;
                 place = way.at;
                 left -= 1;
-                behind += places::ROW_CELLS;
             }
         }
     }
@@ -392,37 +387,17 @@ fn patterns(whole: &[u8], at: BitPlace, n: u32, marks: &[u8; 512], rows: &mut [u
 
 // ---- the end, and the tone
 
-// Where the patterns of a tone end, how many headers there are, and whether front and patterns are surely well formed.
-#[derive(Drop)]
-struct Sung {
-    at: BitPlace,
-    headers: u32,
-    sure: bool,
-}
-
-// Goes over the front and the patterns of a tone that starts behind so many octets, and keeps its rows as `patterns` does.
-fn song(whole: &[u8], start: OctetCount, marks: &[u8; 512], rows: &mut [u32]) -> Sung
+// Goes over the front and the patterns of a tone that starts behind so many octets.
+fn song(whole: &[u8], start: OctetCount, marks: &[u8; 512]) -> Way
     requires marks { Marks marks.now }
     requires start_in_bounds { (start.0 ≤ length whole.now) × (length whole.now < 2 ^ 60) }
-    ensures { Tells result.sure (SongTold whole.now start.0 result.at.0 result.headers rows.old rows.new) (ToneFrom whole.now start.0) }
+    ensures { Tells result.sure (SongPast whole.now start.0 result.at.0) (ToneFrom whole.now start.0) }
 {
     let opened = front(whole, bits::place_after(start));
-    let headers = opened.count;
-    let from = opened.at;
-    if headers == 0 {
-        return Sung {
-            at: from,
-            headers,
-            sure: false,
-        };
+    if opened.count == 0 {
+        return lost(opened.at);
     }
-    let way = patterns(whole, from, headers, marks, rows);
-    let at = way.at;
-    Sung {
-        at,
-        headers,
-        sure: way.sure,
-    }
+    patterns(whole, opened.at, opened.count, marks)
 }
 
 // Behind how many octets filler and the end octet end that stand at a place; 0 where they do not stand there.
@@ -441,52 +416,19 @@ fn end_behind(whole: &[u8], at: BitPlace) -> OctetCount
     OctetCount(reached.0 + 1)
 }
 
-// A tone: its octets, through its own end octet, and its headers; no octets where no tone starts.
-#[derive(Drop)]
-pub struct Tabled {
-    pub octets: OctetCount,
-    pub headers: u32,
-}
-
-// No tone starts there.
-fn no_tone() -> Tabled
-    ensures { (result.octets.0 ≡ 0) × (result.headers ≡ 0) }
-{
-    Tabled {
-        octets: OctetCount(0),
-        headers: 0,
-    }
-}
-
-// The tone that starts behind so many octets, with its place table in front of a scratch that has room for it.
-pub fn tabled_at(whole: &[u8], start: OctetCount, marks: &[u8; 512], rows: &mut [u32]) -> Tabled
-    requires marks { Marks marks.now }
-    requires start_in_bounds { (start.0 ≤ length whole.now) × (length whole.now < 2 ^ 60) }
-    ensures octets_value { result.octets.0 ≡ tone_at whole.now start.0 }
-    ensures tabled_at { TabledAt whole.now start.0 result.headers rows.old rows.new }
-{
-    let sung = song(whole, start, marks, rows);
-    if !sung.sure {
-        return no_tone();
-    }
-    let end = end_behind(whole, sung.at);
-    if end.0 <= start.0 {
-        return no_tone();
-    }
-    Tabled {
-        octets: OctetCount(end.0 - start.0),
-        headers: sung.headers,
-    }
-}
-
-// How many octets the tone has that starts behind so many, through its own end octet; none where no tone starts there. Its scratch has
-// no room, so no row is kept.
+// How many octets the tone has that starts behind so many, through its own end octet; none where no tone starts there.
 pub fn tone_at(whole: &[u8], start: OctetCount, marks: &[u8; 512]) -> OctetCount
     requires marks { Marks marks.now }
     requires start_in_bounds { (start.0 ≤ length whole.now) × (length whole.now < 2 ^ 60) }
     ensures { result.0 ≡ tone_at whole.now start.0 }
 {
-    let mut no_rows = [0u32; 0];
-    let tabled = tabled_at(whole, start, marks, &mut no_rows);
-    OctetCount(tabled.octets.0)
+    let way = song(whole, start, marks);
+    if !way.sure {
+        return OctetCount(0);
+    }
+    let end = end_behind(whole, way.at);
+    if end.0 <= start.0 {
+        return OctetCount(0);
+    }
+    OctetCount(end.0 - start.0)
 }

@@ -7,7 +7,7 @@
 use std::slice::{from_raw_parts, from_raw_parts_mut};
 
 use ohakelm_answers::{Bitmap, Edited, Entry, Label, Listed, Logo};
-use ohakelm_answers::{Pack, Placed, Salvage, Stretch, Tone, Written};
+use ohakelm_answers::{Pack, Salvage, Stretch, Tone, Written};
 use ohakelm_reference as reference;
 
 /// # Safety
@@ -165,97 +165,6 @@ pub unsafe extern "C" fn guide_delete(
         pattern,
         instruction,
         from_raw_parts_mut(list, list_len),
-    )
-}
-
-/// # Safety
-/// As `guide_read`.
-#[no_mangle]
-pub unsafe extern "C" fn guide_places(
-    msg: *const u8,
-    msg_len: usize,
-    places: *mut u32,
-    places_len: usize,
-) -> Placed {
-    reference::places(
-        from_raw_parts(msg, msg_len),
-        from_raw_parts_mut(places, places_len),
-    )
-}
-
-/// # Safety
-/// As `guide_read`.
-#[no_mangle]
-pub unsafe extern "C" fn guide_replace_with_places(
-    buf: *mut u8,
-    buf_len: usize,
-    used: usize,
-    pattern: usize,
-    instruction: usize,
-    entry: u32,
-    list: *mut u32,
-    list_len: usize,
-    places: *mut u32,
-    places_len: usize,
-) -> Edited {
-    reference::replace_with_places(
-        from_raw_parts_mut(buf, buf_len),
-        used,
-        pattern,
-        instruction,
-        entry,
-        from_raw_parts_mut(list, list_len),
-        from_raw_parts_mut(places, places_len),
-    )
-}
-
-/// # Safety
-/// As `guide_read`.
-#[no_mangle]
-pub unsafe extern "C" fn guide_insert_with_places(
-    buf: *mut u8,
-    buf_len: usize,
-    used: usize,
-    pattern: usize,
-    instruction: usize,
-    entry: u32,
-    list: *mut u32,
-    list_len: usize,
-    places: *mut u32,
-    places_len: usize,
-) -> Edited {
-    reference::insert_with_places(
-        from_raw_parts_mut(buf, buf_len),
-        used,
-        pattern,
-        instruction,
-        entry,
-        from_raw_parts_mut(list, list_len),
-        from_raw_parts_mut(places, places_len),
-    )
-}
-
-/// # Safety
-/// As `guide_read`.
-#[no_mangle]
-pub unsafe extern "C" fn guide_delete_with_places(
-    buf: *mut u8,
-    buf_len: usize,
-    used: usize,
-    pattern: usize,
-    instruction: usize,
-    list: *mut u32,
-    list_len: usize,
-    places: *mut u32,
-    places_len: usize,
-) -> Edited {
-    reference::delete_with_places(
-        from_raw_parts_mut(buf, buf_len),
-        used,
-        pattern,
-        instruction,
-        from_raw_parts_mut(list, list_len),
-        from_raw_parts_mut(places, places_len),
     )
 }
 

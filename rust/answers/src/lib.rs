@@ -14,10 +14,6 @@ pub const NO_MARK: u32 = u32::MAX;
 /// number, the microseconds and the origin, which is header * 256 + position.
 pub const ENTRY_CELLS: usize = 3;
 
-/// How many numbers of a place table a row takes: the place where the header begins,
-/// and the header's table entry.
-pub const PLACE_CELLS: usize = 2;
-
 /// What reading a tone answers.
 #[repr(C)]
 #[derive(Clone, Copy, Debug, Default, PartialEq, Eq)]
@@ -76,16 +72,6 @@ pub struct Edited {
     pub mark: u32,
     /// The new length minus the old one.
     pub change: i32,
-}
-
-/// What making a place table answers.
-#[repr(C)]
-#[derive(Clone, Copy, Debug, Default, PartialEq, Eq)]
-pub struct Placed {
-    pub refusal: u32,
-    pub place: usize,
-    /// How many headers there are. Each has a row of two numbers.
-    pub headers: usize,
 }
 
 /// What reading a pack answers.
@@ -196,8 +182,6 @@ mod tests {
         assert_eq!(offset_of!(Listed, mark), 24);
         assert_eq!(size_of::<Edited>(), 40);
         assert_eq!(offset_of!(Edited, change), 36);
-        assert_eq!(size_of::<Placed>(), 24);
-        assert_eq!(offset_of!(Placed, headers), 16);
         assert_eq!(size_of::<Pack>(), 24);
         assert_eq!(offset_of!(Pack, messages), 16);
         assert_eq!(size_of::<Stretch>(), 32);

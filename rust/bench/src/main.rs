@@ -7,7 +7,6 @@
 mod broken;
 mod clock;
 mod measure;
-mod places;
 mod tones;
 // The tests have them too.
 #[path = "../../tests/support/worst.rs"]
@@ -29,25 +28,15 @@ const SCALE: u32 = 2 * 65536;
 const TEMPO: u32 = 4 * 65536 + 8;
 
 fn main() {
-    let (mut rows, mut with_places) = (Vec::new(), Vec::new());
+    let mut rows = Vec::new();
     for octets in [24, 400, 4096] {
         let tone = tones::of_octets(octets);
         rows.push(read(&tone));
         rows.push(write(&tone));
         rows.push(list(&tone));
         rows.push(rows_of(&tone.message, "rows"));
-        let tone = tones::of_octets(octets.min(LARGEST_EDITED));
-        rows.extend(edits(&tone));
-        for (against_plain, against_without) in places::edits(&tone) {
-            rows.push(against_plain);
-            with_places.push(against_without);
-        }
+        rows.extend(edits(&tones::of_octets(octets.min(LARGEST_EDITED))));
     }
-    for (against_plain, against_without) in places::edits_of_many_headers() {
-        rows.push(against_plain);
-        with_places.push(against_without);
-    }
-    rows.extend(places::tables());
     for tone in tones::of_titles() {
         rows.push(read(&tone));
         rows.push(write(&tone));
@@ -66,7 +55,7 @@ fn main() {
         rows.extend(icons(width, height));
         rows.extend(logos(width, height));
     }
-    measure::print(&rows, &with_places);
+    measure::print(&rows);
 }
 
 /// The longest titles are told apart from the usual ones.

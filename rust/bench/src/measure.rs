@@ -107,19 +107,12 @@ fn median(mut times: Vec<f64>) -> f64 {
     times[times.len() / 2]
 }
 
-/// Prints the rows as a table, and then those of Rattle's edits with a place table, held
-/// against the same edits without one.
-pub fn print(rows: &[Row], with_places: &[Row]) {
+/// Prints the rows as a table.
+pub fn print(rows: &[Row]) {
     println!("Median of {RUNS} runs, nanoseconds of processor time a call.");
     println!("The worst inputs have fewer runs.");
     println!();
-    print_table("Rattle ns | Plain Rust ns", rows);
-    println!();
-    print_table("Rattle, with places, ns | Rattle, without, ns", with_places);
-}
-
-fn print_table(sides: &str, rows: &[Row]) {
-    println!("| Case | {sides} | Ratio |");
+    println!("| Case | Rattle ns | Plain Rust ns | Ratio |");
     println!("|---|--:|--:|--:|");
     for row in rows {
         let ratio = row.rattle / row.plain;

@@ -125,35 +125,6 @@ pub fn of_pack(first: u64, messages: usize, octets: usize) -> (Vec<u8>, Vec<u32>
     (tones.concat(), lengths)
 }
 
-/// So many tones, none of them longer than so many octets. No two have the same
-/// instructions.
-pub fn of_many(tones: usize, octets: usize) -> Vec<Vec<u8>> {
-    let titles = [&b"Ring"[..], b"", b"Ohm", b"Tune", b"Bell"];
-    (0..tones)
-        .map(|number| filled_from(number as u64, octets, titles[number % titles.len()]).message)
-        .collect()
-}
-
-/// The tone of a number that has as many headers as there can be. One in four is a recall,
-/// and the others have one to six instructions.
-pub fn of_many_headers(number: u64) -> Tone {
-    let mut instructions = Instructions::from(number);
-    let mut table = Vec::new();
-    for position in 0..255 {
-        let part = position % 4 * 4096 + instructions.below(2) * 256;
-        // The first four are no recalls.
-        let recalls = position >= 4 && instructions.below(4) == 0;
-        let count = if recalls {
-            0
-        } else {
-            1 + instructions.below(6)
-        };
-        table.push(part + count);
-        table.extend((0..count).map(|_| instructions.next()));
-    }
-    titled(false, b"Bell", &table)
-}
-
 /// Headers and bodies, each sounding once.
 fn table_of_parts(parts: &[Vec<u32>]) -> Vec<u32> {
     let mut table = Vec::new();

@@ -5,7 +5,7 @@ use ohakelm_answers::{Edited, ENTRY_CELLS};
 
 use crate::codes::{entry_width, width, LARGEST_TONE, NOTE};
 use crate::judge::{
-    judge_end, judge_front, judge_patterns, refusal, Body, Front, Passed, Refusal, Watch, UNDEFINED,
+    judge_end, judge_front, judge_patterns, refusal, Body, Passed, Refusal, Watch, UNDEFINED,
 };
 use crate::list::{fill, Count};
 use crate::window::{move_bits, put, window};
@@ -20,12 +20,7 @@ pub fn replace(
     list: &mut [u32],
 ) -> Edited {
     let change = Change::Replace(entry);
-    let spot = Spot {
-        used,
-        pattern,
-        instruction,
-    };
-    answer(edit(buffer, spot, change, list, &mut NoTable))
+    answer(edit(buffer, used, pattern, instruction, change, list))
 }
 
 /// Inserts the instruction that the entry holds before another, or at the end.
@@ -38,12 +33,7 @@ pub fn insert(
     list: &mut [u32],
 ) -> Edited {
     let change = Change::Insert(entry);
-    let spot = Spot {
-        used,
-        pattern,
-        instruction,
-    };
-    answer(edit(buffer, spot, change, list, &mut NoTable))
+    answer(edit(buffer, used, pattern, instruction, change, list))
 }
 
 /// Deletes an instruction.
@@ -54,64 +44,19 @@ pub fn delete(
     instruction: usize,
     list: &mut [u32],
 ) -> Edited {
-    let spot = Spot {
-        used,
-        pattern,
-        instruction,
-    };
-    answer(edit(buffer, spot, Change::Delete, list, &mut NoTable))
-}
-
-/// Where an edit applies: the used length, the pattern and the instruction.
-#[derive(Clone, Copy)]
-pub struct Spot {
-    pub used: usize,
-    pub pattern: usize,
-    pub instruction: usize,
+    let change = Change::Delete;
+    answer(edit(buffer, used, pattern, instruction, change, list))
 }
 
 #[derive(Clone, Copy)]
-pub enum Change {
+enum Change {
     Replace(u32),
     Insert(u32),
     Delete,
 }
 
-/// What is kept beside a message, and edited with it.
-pub trait Beside {
-    /// Holds against the message's next pattern what is kept of it.
-    fn meet(&mut self, passed: &Passed);
-    /// Whether it was the same for all of them.
-    fn agrees(&self) -> bool;
-    /// Whether so many patterns have room.
-    fn has_room(&self, patterns: usize) -> bool;
-    /// Does what an edit of a pattern does to it.
-    fn follow(&mut self, pattern: usize, patterns: usize, step: &Step);
-}
-
-/// Nothing is kept.
-struct NoTable;
-
-impl Beside for NoTable {
-    #[inline(always)]
-    fn meet(&mut self, _: &Passed) {}
-
-    #[inline(always)]
-    fn agrees(&self) -> bool {
-        true
-    }
-
-    #[inline(always)]
-    fn has_room(&self, _: usize) -> bool {
-        true
-    }
-
-    #[inline(always)]
-    fn follow(&mut self, _: usize, _: usize, _: &Step) {}
-}
-
 #[inline(always)]
-pub fn answer(done: Result<Edited, Refusal>) -> Edited {
+fn answer(done: Result<Edited, Refusal>) -> Edited {
     match done {
         Ok(answer) => answer,
         Err(refusal) => Edited {
@@ -124,9 +69,8 @@ pub fn answer(done: Result<Edited, Refusal>) -> Edited {
 
 /// Finds the instruction named while the message is judged, and counts the
 /// entries of the new list.
-struct Finding<'a, B> {
+struct Finding<'a> {
     message: &'a [u8],
-    beside: &'a mut B,
     /// How many patterns come before the one named.
     before: usize,
     instruction: usize,
@@ -145,10 +89,9 @@ struct Found {
     notes: usize,
 }
 
-impl<B: Beside> Watch for Finding<'_, B> {
+impl Watch for Finding<'_> {
     #[inline(always)]
     fn pattern(&mut self, passed: &Passed) {
-        self.beside.meet(passed);
         if self.before == 0 && passed.own {
             self.find(passed);
         }
@@ -164,7 +107,7 @@ impl<B: Beside> Watch for Finding<'_, B> {
     }
 }
 
-impl<B> Finding<'_, B> {
+impl Finding<'_> {
     fn find(&mut self, passed: &Passed) {
         let body = passed.body;
         let steps = self.instruction.min(body.count);
@@ -203,28 +146,22 @@ fn skip(message: &[u8], mut place: usize, steps: usize) -> usize {
     place
 }
 
-/// A message that was judged, and where it is to be edited.
-struct Judged {
-    front: Front,
-    /// The place behind the patterns.
-    end: usize,
-    found: Found,
-    count: Count,
-}
-
-#[inline(always)]
-fn judge(
-    message: &[u8],
-    spot: Spot,
+fn edit(
+    buffer: &mut [u8],
+    used: usize,
+    pattern: usize,
+    instruction: usize,
     change: Change,
-    beside: &mut impl Beside,
-) -> Result<Judged, Refusal> {
+    list: &mut [u32],
+) -> Result<Edited, Refusal> {
+    let Some(message) = buffer.get(..used) else {
+        return Err(refusal(1, 0));
+    };
     let front = judge_front(message)?;
     let mut finding = Finding {
         message,
-        beside,
-        before: spot.pattern,
-        instruction: spot.instruction,
+        before: pattern,
+        instruction,
         change,
         found: Found {
             header: 0,
@@ -237,74 +174,37 @@ fn judge(
     let end = judge_patterns(message, &front, &mut finding)?;
     judge_end(message, end)?;
     let Finding { found, count, .. } = finding;
-    Ok(Judged {
-        front,
-        end,
-        found,
-        count,
-    })
-}
-
-#[inline(always)]
-pub fn edit(
-    buffer: &mut [u8],
-    spot: Spot,
-    change: Change,
-    list: &mut [u32],
-    beside: &mut impl Beside,
-) -> Result<Edited, Refusal> {
-    let Some(message) = buffer.get(..spot.used) else {
-        return Err(refusal(1, 0));
-    };
-    let judged = judge(message, spot, change, beside)?;
-    let Judged {
-        front,
-        end,
-        found,
-        count,
-    } = judged;
-    if !beside.agrees() {
-        return Err(refusal(28, 0));
-    }
-    let step = judge_change(message, &found, spot.instruction, change)?;
+    let step = judge_change(message, &found, instruction, change)?;
     let new_end = end + step.comes - step.goes;
     let length = new_end.div_ceil(8) + 1;
     if length > LARGEST_TONE {
         return Err(refusal(1, 0));
     }
-    let cells = list.get_mut(..ENTRY_CELLS * count.entries);
-    let (Some(list), true) = (cells, beside.has_room(front.patterns)) else {
-        return Err(refusal(11, 0));
-    };
     if length > buffer.len() {
         return Err(refusal(11, 0));
     }
+    let Some(list) = list.get_mut(..ENTRY_CELLS * count.entries) else {
+        return Err(refusal(11, 0));
+    };
     apply(buffer, &found, &step, end);
-    clear_end(buffer, new_end, length.max(spot.used));
+    clear_end(buffer, new_end, length.max(used));
     fill(&buffer[..length], &front, list);
-    beside.follow(spot.pattern, front.patterns, &step);
-    Ok(edited(length, spot.used, &count))
-}
-
-/// The answer of an edit that was made.
-#[inline(always)]
-fn edited(length: usize, used: usize, count: &Count) -> Edited {
-    Edited {
+    Ok(Edited {
         refusal: 0,
         place: 0,
         length,
         entries: count.entries,
         mark: count.mark,
         change: length as i32 - used as i32,
-    }
+    })
 }
 
 /// The bits that go and come at the place found, and the body's new count.
-pub struct Step {
-    pub goes: usize,
-    pub comes: usize,
+struct Step {
+    goes: usize,
+    comes: usize,
     bits: u32,
-    pub count: usize,
+    count: usize,
 }
 
 /// Judges the change itself: a bad entry, then a bad position, then the count.

@@ -47,8 +47,6 @@ pub const UNDEFINED: Body = Body {
 /// A pattern that the judge has passed.
 pub struct Passed {
     pub header: usize,
-    /// The header's table entry.
-    pub entry: u32,
     pub repeats: usize,
     /// Whether the body is the pattern's own. A recall has another's.
     pub own: bool,
@@ -74,13 +72,6 @@ pub fn header(window: u64) -> Header {
         repeats: (window >> 55) as usize & 15,
         count: (window >> 47) as usize & 255,
     }
-}
-
-/// The table entry of the header at the front of a window: all its bits, for those of
-/// its id are 0.
-#[inline(always)]
-pub fn entry_of(window: u64) -> u32 {
-    (window >> 47) as u32
 }
 
 /// 00000010 0100101 0 0011101, the front of a message without UNICODE.
@@ -235,7 +226,6 @@ pub fn judge_patterns(
         }
         watch.pattern(&Passed {
             header: at,
-            entry: entry_of(start),
             repeats,
             own: count > 0,
             body: parts[part],

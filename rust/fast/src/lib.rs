@@ -16,7 +16,6 @@ mod judge;
 mod kinds;
 mod list;
 mod packs;
-mod places;
 mod read;
 mod salvage;
 mod title;
@@ -29,9 +28,6 @@ pub use edit::{delete, insert, replace};
 pub use kinds::{icon_read, icon_write, logo_read, logo_write};
 pub use list::{list, list_by_copying, rows};
 pub use packs::{pack_message, pack_read, pack_read_by_branches, pack_write};
-pub use places::{
-    delete_with_places, insert_with_places, places, places_by_branches, replace_with_places,
-};
 pub use read::{label, read};
 pub use salvage::pack_salvage;
 pub use write::write;

@@ -4,8 +4,7 @@ use ohakelm_answers::{Label, Tone};
 
 use crate::codes::{width, NOTE};
 use crate::judge::{
-    entry_of, header, judge_end, judge_front, judge_patterns, refusal, Front, Passed, Refusal,
-    Watch,
+    header, judge_end, judge_front, judge_patterns, refusal, Front, Passed, Refusal, Watch,
 };
 use crate::window::window;
 
@@ -68,7 +67,7 @@ fn fill_table(message: &[u8], front: &Front, table: &mut [u32]) {
     let mut rest = table;
     while let Some((cell, after)) = rest.split_first_mut() {
         let start = window(message, place);
-        *cell = entry_of(start);
+        *cell = (start >> 47) as u32;
         place += 17;
         let (body, behind) = after.split_at_mut(header(start).count);
         place = fill_body(message, place, body);

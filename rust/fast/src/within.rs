@@ -20,7 +20,7 @@ pub fn is_sound(octets: &[u8], start: usize, end: usize) -> bool {
         return false;
     }
     match patterns_passed(octets, start, end) {
-        Some(place) => is_whole(octets, place, end),
+        Some(place) => is_end(octets, place) && end_behind(place) == end,
         None => false,
     }
 }
@@ -38,38 +38,10 @@ pub fn end_of_sound(octets: &[u8], start: usize, last_end: usize) -> Option<usiz
 /// the last end, but no pattern begins there.
 #[inline(always)]
 fn patterns_passed(octets: &[u8], start: usize, last_end: usize) -> Option<usize> {
-    let ahead = ahead_passed(octets, start)?;
-    each_pattern_passed(octets, ahead, last_end, |_, _| {})
-}
-
-/// What is ahead of the patterns, if all up to there is as it should be.
-#[derive(Clone, Copy)]
-pub struct Ahead {
-    pub patterns: usize,
-    /// The place of the first header.
-    pub first: usize,
-}
-
-#[inline(always)]
-pub fn ahead_passed(octets: &[u8], start: usize) -> Option<Ahead> {
-    let place = title_passed(octets, start)?;
-    Some(Ahead {
-        patterns: (window(octets, place) >> 56) as usize,
-        first: place + 8,
-    })
-}
-
-/// The place behind the patterns, as above. Each header is shown on the way, by its place
-/// and its window.
-#[inline(always)]
-pub fn each_pattern_passed(
-    octets: &[u8],
-    ahead: Ahead,
-    last_end: usize,
-    mut show: impl FnMut(usize, u64),
-) -> Option<usize> {
-    let Ahead { patterns, first } = ahead;
-    let (mut place, mut defined) = (first, 0);
+    let mut place = title_passed(octets, start)?;
+    let patterns = window(octets, place) >> 56;
+    place += 8;
+    let mut defined = 0;
     for _ in 0..patterns {
         let next = window(octets, place);
         let Header { part, count, .. } = header(next);
@@ -77,7 +49,6 @@ pub fn each_pattern_passed(
         if next >> 61 != 0 || defined >> part & 1 == 0 || place > 8 * last_end {
             return None;
         }
-        show(place, next);
         let (body, classes) = body_passed(octets, place + 17, count);
         if classes & NO_INSTRUCTION != 0 {
             return None;
@@ -150,12 +121,6 @@ fn passed(turned: &mut u64, count: usize, classes: &mut u8) -> u64 {
         *turned = turned.rotate_left(width as u32 & 63);
     }
     used
-}
-
-/// Whether a message whose patterns end at a place ends with this octet and no other.
-#[inline(always)]
-pub fn is_whole(octets: &[u8], place: usize, end: usize) -> bool {
-    is_end(octets, place) && end_behind(place) == end
 }
 
 /// Whether filler and an end octet are here. What is read behind the last octet looks

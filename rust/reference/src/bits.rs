@@ -68,11 +68,6 @@ impl BitWriter {
         }
     }
 
-    /// How many bits were put so far.
-    pub fn count(&self) -> usize {
-        self.bits.len()
-    }
-
     /// Zeros up to an octet boundary.
     pub fn fill(&mut self) {
         while self.bits.len() % 8 != 0 {

@@ -69,7 +69,7 @@ fn instruction_of(entry: u32) -> Result<Instruction, Refusal> {
     }
 }
 
-pub(crate) fn answer(done: Result<Edited, Refusal>) -> Edited {
+fn answer(done: Result<Edited, Refusal>) -> Edited {
     done.unwrap_or_else(|refusal| Edited {
         refusal: refusal.number,
         place: refusal.place,

@@ -125,7 +125,7 @@ impl Tone {
     pub fn table(&self) -> Vec<u32> {
         let mut table = Vec::new();
         for pattern in &self.patterns {
-            table.push(pattern.entry());
+            table.push(pattern.part * 4096 + pattern.repeats * 256 + pattern.body.len() as u32);
             for instruction in &pattern.body {
                 table.push(instruction.entry());
             }
@@ -133,39 +133,20 @@ impl Tone {
         table
     }
 
-    /// The place table: for each pattern how many bits are written ahead of it, and the
-    /// entry of its header.
-    pub fn places(&self) -> Vec<u32> {
-        let mut bits = self.bits_ahead();
-        let mut places = Vec::new();
-        for pattern in &self.patterns {
-            places.push(bits.count() as u32);
-            places.push(pattern.entry());
-            pattern.put(&mut bits);
-        }
-        places
-    }
-
     /// The message, whatever its length.
     pub fn octets(&self) -> Vec<u8> {
-        let mut bits = self.bits_ahead();
-        for pattern in &self.patterns {
-            pattern.put(&mut bits);
-        }
-        bits.fill();
-        bits.put(8, 0);
-        bits.octets()
-    }
-
-    /// All that is written ahead of the patterns.
-    fn bits_ahead(&self) -> BitWriter {
         let mut bits = BitWriter::new();
         self.put_front(&mut bits);
         if self.song == BASIC {
             self.put_title(&mut bits);
         }
         bits.put(8, self.patterns.len() as u32);
-        bits
+        for pattern in &self.patterns {
+            pattern.put(&mut bits);
+        }
+        bits.fill();
+        bits.put(8, 0);
+        bits.octets()
     }
 
     fn put_front(&self, bits: &mut BitWriter) {
@@ -191,11 +172,6 @@ impl Tone {
 impl Pattern {
     pub fn is_recall(&self) -> bool {
         self.body.is_empty()
-    }
-
-    /// The entry of its header.
-    fn entry(&self) -> u32 {
-        self.part * 4096 + self.repeats * 256 + self.body.len() as u32
     }
 
     fn put(&self, bits: &mut BitWriter) {

@@ -142,39 +142,6 @@ static void check_edits(void)
     CHECK(done.refusal == OHAKELM_ONLY_ONE && done.place == 0 && done.length == 0);
 }
 
-/* The part A with C, the part B with D, and a recall of A. Its headers begin at 34, 63
- * and 92. Scale 0, which has five bits, goes in ahead of C, then takes the place of D,
- * which has twelve, and goes out again. */
-static void check_places(void)
-{
-    static const uint8_t msg[15] = {0x02, 0x4A, 0x3A, 0x80, 0xC0, 0x00, 0x24, 0x50,
-                                    0x10, 0x01, 0x26, 0x80, 0x00, 0x00, 0x00};
-    uint8_t buf[16] = {0};
-    uint32_t list[9] = {0}, places[7] = {9, 9, 9, 9, 9, 9, 9};
-    memcpy(buf, msg, 15);
-    struct ohakelm_placed made = ohakelm_places(buf, 14, places, 7);
-    CHECK(made.refusal == OHAKELM_CUT_SHORT && made.place == 112 && made.headers == 0);
-    made = ohakelm_places(buf, 15, places, 5);
-    CHECK(made.refusal == OHAKELM_NO_ROOM && made.place == 0 && places[0] == 9);
-    made = ohakelm_places(buf, 15, places, 7);
-    CHECK(made.refusal == OHAKELM_ACCEPTED && made.place == 0 && made.headers == 3);
-    CHECK(places[0] == 34 && places[1] == OHAKELM_HEADER(0, 0, 1));
-    CHECK(places[2] == 63 && places[3] == OHAKELM_HEADER(1, 0, 1));
-    CHECK(places[4] == 92 && places[5] == OHAKELM_HEADER(0, 0, 0) && places[6] == 9);
-    struct ohakelm_edited done =
-        ohakelm_insert_with_places(buf, 16, 15, 0, 0, OHAKELM_SCALE(0), list, 9, places, 7);
-    CHECK(done.refusal == OHAKELM_ACCEPTED && done.length == 16 && done.change == 1);
-    CHECK(places[0] == 34 && places[1] == 2 && places[2] == 68 && places[4] == 97);
-    done = ohakelm_replace_with_places(buf, 16, 16, 1, 0, OHAKELM_SCALE(0), list, 9, places, 7);
-    CHECK(done.refusal == OHAKELM_ACCEPTED && done.length == 15 && done.entries == 2);
-    CHECK(places[2] == 68 && places[3] == 4097 && places[4] == 90 && places[5] == 0);
-    done = ohakelm_delete_with_places(buf, 16, 15, 0, 0, list, 9, places, 7);
-    CHECK(done.refusal == OHAKELM_ACCEPTED && done.length == 14 && done.change == -1);
-    CHECK(places[1] == 1 && places[2] == 63 && places[4] == 85 && places[6] == 9);
-    done = ohakelm_delete_with_places(buf, 16, 14, 0, 0, list, 9, places + 1, 6);
-    CHECK(done.refusal == OHAKELM_PLACE_TABLE && done.place == 0 && done.length == 0);
-}
-
 /* The sample and the same without its tempo, and the pack of nothing. */
 static void check_packs(void)
 {
@@ -290,7 +257,6 @@ int main(void)
     check_endless();
     check_label();
     check_edits();
-    check_places();
     check_packs();
     check_wrong_packs();
     check_salvage();

@@ -27,7 +27,6 @@ SAME(listed_volume, OHAKELM_LISTED_VOLUME(10503), 7);
 SAME(listed_header, OHAKELM_LISTED_HEADER(65277), 254);
 SAME(listed_position, OHAKELM_LISTED_POSITION(65277), 253);
 SAME(entry_cells, OHAKELM_ENTRY_CELLS, 3);
-SAME(place_cells, OHAKELM_PLACE_CELLS, 2);
 SAME(no_mark, OHAKELM_NO_MARK, 4294967295u);
 
 SAME(basic, OHAKELM_BASIC, 1);
@@ -59,14 +58,9 @@ SAME(largest_pack, OHAKELM_LARGEST_PACK, 15 * 4096 + 4027 + 16 * 4 + 4);
 /* A message has eight octets at least, and a row four. */
 SAME(largest_report, OHAKELM_LARGEST_REPORT, 3 * ((OHAKELM_LARGEST_PACK - 4) / (8 + 4)) + 1);
 
-/* A pattern count of eight bits is 255 at most, and a header has two numbers. */
-SAME(largest_places, OHAKELM_LARGEST_PLACES, OHAKELM_PLACE_CELLS * 255);
-
 /* An edit does what listing a tone does and more, and a bitmap has no list. */
 SAME(stack_of_edits, OHAKELM_STACK_EDITS > OHAKELM_STACK_TONES, true);
 SAME(stack_of_others, OHAKELM_STACK_TONES > OHAKELM_STACK_OTHERS, true);
-/* The rows of a place table wait until the whole message is judged. */
-SAME(stack_of_places, OHAKELM_STACK_PLACES > OHAKELM_STACK_TONES, true);
 /* To get messages out of a broken pack takes a row for each that may be kept. */
 SAME(stack_of_salvage, OHAKELM_STACK_SALVAGE > OHAKELM_STACK_PACKS, true);
 

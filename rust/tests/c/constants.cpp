@@ -32,7 +32,6 @@ static_assert(OHAKELM_KIND_HEADER == 0 && OHAKELM_KIND_NOTE == 1, "kinds");
 static_assert(OHAKELM_KIND_SCALE == 2 && OHAKELM_KIND_STYLE == 3, "kinds");
 static_assert(OHAKELM_KIND_TEMPO == 4 && OHAKELM_KIND_VOLUME == 5, "kinds");
 static_assert(OHAKELM_LARGEST_ROWS * OHAKELM_ENTRY_CELLS == OHAKELM_LARGEST_LIST, "a list");
-static_assert(OHAKELM_LARGEST_PLACES == OHAKELM_PLACE_CELLS * 255, "a place table");
 static_assert(OHAKELM_LARGEST_PACK == 65535, "as large as two octets can say");
 static_assert(OHAKELM_STACK_OTHERS < OHAKELM_STACK_TONES, "the stack of bitmaps");
 static_assert(OHAKELM_STACK_TONES < OHAKELM_STACK_EDITS, "the stack of tones");

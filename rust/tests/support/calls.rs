@@ -5,7 +5,7 @@
 
 use ohakelm::raw;
 use ohakelm_answers::{Bitmap, Edited, Entry, Label, Listed, Logo};
-use ohakelm_answers::{Pack, Placed, Salvage, Stretch, Tone, Written};
+use ohakelm_answers::{Pack, Salvage, Stretch, Tone, Written};
 
 use super::codecs::{Edit, Spot};
 use super::lent::Lent;
@@ -18,8 +18,6 @@ pub enum Call {
     List,
     Rows,
     Edit(Spot, Edit),
-    Places,
-    EditWithPlaces(Spot, Edit),
     PackRead,
     PackMessage { n: u32 },
     PackWrite,
@@ -33,15 +31,13 @@ pub enum Call {
 }
 
 /// The exports and how many buffers each has.
-pub const BUFFERS: [(&str, usize); 22] = [
+pub const BUFFERS: [(&str, usize); 18] = [
     ("bitmap_read", 1),
     ("bitmap_write", 2),
     ("delete", 2),
-    ("delete_with_places", 3),
     ("icon_read", 1),
     ("icon_write", 2),
     ("insert", 2),
-    ("insert_with_places", 3),
     ("label", 2),
     ("list", 2),
     ("logo_read", 1),
@@ -50,10 +46,8 @@ pub const BUFFERS: [(&str, usize); 22] = [
     ("pack_read", 1),
     ("pack_salvage", 3),
     ("pack_write", 3),
-    ("places", 2),
     ("read", 3),
     ("replace", 2),
-    ("replace_with_places", 3),
     ("rows", 3),
     ("write", 3),
 ];
@@ -67,8 +61,6 @@ impl Call {
             Call::List => "list",
             Call::Rows => "rows",
             Call::Edit(_, edit) => super::compare::edit_name(edit),
-            Call::Places => "places",
-            Call::EditWithPlaces(_, edit) => super::placing::edit_name(edit),
             Call::PackRead => "pack_read",
             Call::PackMessage { .. } => "pack_message",
             Call::PackWrite => "pack_write",
@@ -107,7 +99,6 @@ pub enum Answer {
     Label(Label),
     Listed(Listed),
     Edited(Edited),
-    Placed(Placed),
     Pack(Pack),
     Stretch(Stretch),
     Salvage(Salvage),
@@ -124,7 +115,6 @@ impl Answer {
             Answer::Label(_) => 0,
             Answer::Listed(answer) => answer.refusal,
             Answer::Edited(answer) => answer.refusal,
-            Answer::Placed(answer) => answer.refusal,
             Answer::Pack(answer) => answer.refusal,
             Answer::Stretch(answer) => answer.refusal,
             Answer::Salvage(answer) => answer.refusal,
@@ -188,20 +178,6 @@ impl Nulls {
     }
 }
 
-/// An edit with places that takes an entry.
-type WithEntry = unsafe extern "C" fn(
-    *mut u8,
-    usize,
-    usize,
-    usize,
-    usize,
-    u32,
-    *mut u32,
-    usize,
-    *mut u32,
-    usize,
-) -> Edited;
-
 /// A pointer and a number for each buffer.
 struct Passed {
     inputs: Vec<(*const u8, usize)>,
@@ -245,8 +221,6 @@ impl Passed {
     unsafe fn put(&self, call: Call) -> Answer {
         match call {
             Call::Edit(spot, edit) => Answer::Edited(self.edit(spot, edit)),
-            Call::Places => Answer::Placed(self.places()),
-            Call::EditWithPlaces(spot, edit) => Answer::Edited(self.edit_with_places(spot, edit)),
             Call::Read | Call::Write { .. } | Call::Label { .. } => self.put_tone(call),
             Call::List | Call::Rows => Answer::Listed(self.list(call)),
             Call::PackRead | Call::PackMessage { .. } | Call::PackWrite => self.put_pack(call),
@@ -325,50 +299,6 @@ impl Passed {
                 raw::ohakelm_delete(buf, buf_len, used, pattern, instruction, list, list_len)
             }
         }
-    }
-
-    unsafe fn places(&self) -> Placed {
-        let ((msg, msg_len), (places, places_len)) = (self.inputs[0], self.words[0]);
-        raw::ohakelm_places(msg, msg_len, places, places_len)
-    }
-
-    unsafe fn edit_with_places(&self, spot: Spot, edit: Edit) -> Edited {
-        let (buf, buf_len) = self.octets[0];
-        let ((list, list_len), (places, places_len)) = (self.words[0], self.words[1]);
-        let Spot {
-            used,
-            pattern,
-            instruction,
-        } = spot;
-        let (call, entry) = match edit {
-            Edit::Replace(entry) => (raw::ohakelm_replace_with_places as WithEntry, entry),
-            Edit::Insert(entry) => (raw::ohakelm_insert_with_places as WithEntry, entry),
-            Edit::Delete => {
-                return raw::ohakelm_delete_with_places(
-                    buf,
-                    buf_len,
-                    used,
-                    pattern,
-                    instruction,
-                    list,
-                    list_len,
-                    places,
-                    places_len,
-                )
-            }
-        };
-        call(
-            buf,
-            buf_len,
-            used,
-            pattern,
-            instruction,
-            entry,
-            list,
-            list_len,
-            places,
-            places_len,
-        )
     }
 
     unsafe fn put_pack(&self, call: Call) -> Answer {

@@ -8,7 +8,6 @@ use super::inputs;
 use super::lent::{lent_message, lent_octets, lent_rows, lent_words, Lent};
 use super::logos;
 use super::packs::{self, Parts};
-use super::placing;
 use super::rng::Rng;
 use super::salvages;
 use super::tones;
@@ -25,10 +24,6 @@ pub fn of_each(rng: &mut Rng) -> Vec<Case> {
         edit(rng, Edit::Replace(entry)),
         edit(rng, Edit::Insert(entry)),
         edit(rng, Edit::Delete),
-        places(rng),
-        edit_with_places(rng, Edit::Replace(entry)),
-        edit_with_places(rng, Edit::Insert(entry)),
-        edit_with_places(rng, Edit::Delete),
         read_alone(rng, Call::PackRead, packs::pack),
         pack_message(rng),
         pack_write(rng),
@@ -149,38 +144,6 @@ fn edit(rng: &mut Rng, edit: Edit) -> Case {
             rows: vec![],
         },
     }
-}
-
-fn places(rng: &mut Rng) -> Case {
-    let message = message(rng);
-    let room = rng.pick(&[0, 0, 1, 2, 7, 40, 510]);
-    Case {
-        call: Call::Places,
-        inputs: vec![input(rng, &message)],
-        table: vec![],
-        room: Room {
-            words: vec![lent_words(rng, room)],
-            ..Room::default()
-        },
-    }
-}
-
-/// An edit with the message's own table, or with none.
-fn edit_with_places(rng: &mut Rng, change: Edit) -> Case {
-    let mut case = edit(rng, change);
-    let Call::Edit(spot, _) = case.call else {
-        unreachable!("an edit");
-    };
-    case.call = Call::EditWithPlaces(spot, change);
-    let message = case.room.octets[0].cells().get(..spot.used);
-    let mut own = placing::table_of(message.unwrap_or_default());
-    if rng.one_in(3) {
-        own.clear();
-    }
-    let mut lent = lent_words(rng, own.len());
-    lent.lend().copy_from_slice(&own);
-    case.room.words.push(lent);
-    case
 }
 
 fn pack_message(rng: &mut Rng) -> Case {

@@ -2,7 +2,7 @@
 
 use ohakelm::numbers;
 use ohakelm_answers::{Bitmap, Edited, Entry, Label, Listed, Logo};
-use ohakelm_answers::{Pack, Placed, Salvage, Stretch, Tone, Written};
+use ohakelm_answers::{Pack, Salvage, Stretch, Tone, Written};
 
 #[derive(Clone, Copy, Debug, PartialEq, Eq)]
 pub enum Edit {
@@ -45,15 +45,6 @@ pub trait Codec {
     fn list(&self, message: &[u8], list: &mut [u32]) -> Listed;
     fn rows(&self, message: &[u8], list: &mut [u32], rows: &mut [Entry]) -> Listed;
     fn edit(&self, buffer: &mut [u8], spot: Spot, edit: Edit, list: &mut [u32]) -> Edited;
-    fn places(&self, message: &[u8], places: &mut [u32]) -> Placed;
-    fn edit_with_places(
-        &self,
-        buffer: &mut [u8],
-        spot: Spot,
-        edit: Edit,
-        list: &mut [u32],
-        places: &mut [u32],
-    ) -> Edited;
     fn pack_read(&self, pack: &[u8]) -> Pack;
     fn pack_message(&self, pack: &[u8], n: u32) -> Stretch;
     fn pack_write(&self, messages: &[u8], lengths: &[u32], out: &mut [u8]) -> Written;
@@ -129,39 +120,6 @@ macro_rules! codec {
                     }
                     Edit::Delete => {
                         $implementation::delete(buffer, used, pattern, instruction, list)
-                    }
-                }
-            }
-
-            fn places(&self, message: &[u8], places: &mut [u32]) -> Placed {
-                $implementation::places(message, places)
-            }
-
-            fn edit_with_places(
-                &self,
-                buffer: &mut [u8],
-                spot: Spot,
-                edit: Edit,
-                list: &mut [u32],
-                places: &mut [u32],
-            ) -> Edited {
-                use $implementation::{
-                    delete_with_places, insert_with_places, replace_with_places,
-                };
-                let Spot {
-                    used,
-                    pattern,
-                    instruction,
-                } = spot;
-                match edit {
-                    Edit::Replace(entry) => {
-                        replace_with_places(buffer, used, pattern, instruction, entry, list, places)
-                    }
-                    Edit::Insert(entry) => {
-                        insert_with_places(buffer, used, pattern, instruction, entry, list, places)
-                    }
-                    Edit::Delete => {
-                        delete_with_places(buffer, used, pattern, instruction, list, places)
                     }
                 }
             }

@@ -240,7 +240,7 @@ impl Comparison {
     }
 
     fn random_case(&mut self) {
-        match self.rng.below(124) {
+        match self.rng.below(110) {
             0..=5 => self.read_sound_tone(),
             6..=19 => self.read_any(),
             20..=25 => self.list_any(),
@@ -261,11 +261,7 @@ impl Comparison {
             86..=94 => self.pack_read_any(),
             95..=102 => self.pack_write_any(),
             103 => self.pack_salvage_sound(),
-            104..=109 => self.pack_salvage_any(),
-            110..=113 => self.places_sound(),
-            114..=117 => self.places_any(),
-            118..=122 => self.edit_with_places_any(),
-            _ => self.edit_with_places_chain(),
+            _ => self.pack_salvage_any(),
         }
     }
 
@@ -372,17 +368,13 @@ impl Comparison {
     /// One edit of a message that need not be sound.
     fn edit_any(&mut self) {
         let message = inputs::message(&mut self.rng);
-        let spot = self.any_spot(&message);
-        let edit = self.random_edit();
-        self.edit_with_some_room(&message, spot, edit);
-    }
-
-    pub(super) fn any_spot(&mut self, message: &[u8]) -> Spot {
-        Spot {
+        let spot = Spot {
             used: message.len(),
             pattern: self.rng.pick(&[0, 0, 0, 1, 2, 5, 254, 255, usize::MAX]),
             instruction: self.rng.pick(&[0, 0, 0, 1, 2, 3, 255, 256, usize::MAX]),
-        }
+        };
+        let edit = self.random_edit();
+        self.edit_with_some_room(&message, spot, edit);
     }
 
     /// Edits one after the other, each on what the one before has left.
@@ -459,12 +451,6 @@ impl Comparison {
         spot: Spot,
         edit: Edit,
     ) -> (Edited, Vec<u8>, Vec<u32>) {
-        let (buffer_room, list_room) = self.some_room(message, spot, edit);
-        self.edit(message, buffer_room, spot, edit, list_room)
-    }
-
-    /// About as much room as an edit takes, for the buffer and for the list.
-    pub(super) fn some_room(&mut self, message: &[u8], spot: Spot, edit: Edit) -> (usize, usize) {
         let needed = self.edited_size(message, spot, edit);
         let longer = needed.length.max(message.len());
         let buffer_room = match self.rng.below(8) {
@@ -475,7 +461,8 @@ impl Comparison {
             3 => longer + self.rng.below(4200),
             _ => longer + self.rng.below(20),
         };
-        (buffer_room, self.room(ENTRY_CELLS * needed.entries))
+        let list_room = self.room(ENTRY_CELLS * needed.entries);
+        self.edit(message, buffer_room, spot, edit, list_room)
     }
 
     fn label_any(&mut self) {
@@ -503,13 +490,13 @@ impl Comparison {
 
     // ---- Inputs of the random cases.
 
-    pub(super) fn tone(&mut self) -> Made {
+    fn tone(&mut self) -> Made {
         let bounds = Bounds::random(&mut self.rng);
         tones::tone(&mut self.rng, bounds)
     }
 
     /// Tones with full bodies or hardly any room to grow come up more often.
-    pub(super) fn tone_to_edit(&mut self) -> Made {
+    fn tone_to_edit(&mut self) -> Made {
         let bounds = match self.rng.below(30) {
             0 => Bounds {
                 octets: tones::LARGEST_TONE,
@@ -541,7 +528,7 @@ impl Comparison {
     }
 
     /// A position that is mostly there.
-    pub(super) fn spot_in(&mut self, message: &[u8], counts: &[usize]) -> Spot {
+    fn spot_in(&mut self, message: &[u8], counts: &[usize]) -> Spot {
         let mut pattern = self.rng.below(counts.len());
         if self.rng.one_in(20) {
             pattern = counts.len();
@@ -562,7 +549,7 @@ impl Comparison {
         }
     }
 
-    pub(super) fn random_edit(&mut self) -> Edit {
+    fn random_edit(&mut self) -> Edit {
         let entry = if self.rng.one_in(12) {
             inputs::odd_entry(&mut self.rng)
         } else {
@@ -596,7 +583,7 @@ impl Comparison {
         ohakelm_fast::write(song, unicode, title, table, &mut out).octets
     }
 
-    pub(super) fn edited_size(&mut self, message: &[u8], spot: Spot, edit: Edit) -> Edited {
+    fn edited_size(&mut self, message: &[u8], spot: Spot, edit: Edit) -> Edited {
         let mut buffer = message.to_vec();
         buffer.resize(message.len() + 2, 0);
         let optimised = super::codecs::Optimised;
@@ -734,22 +721,5 @@ where
 
     fn cells_differ(&self, other: &Self) -> String {
         self.1.difference(&other.1) + &self.2.difference(&other.2)
-    }
-}
-
-impl<A, T, U, V> Outcome for (A, Lent<T>, Lent<U>, Lent<V>)
-where
-    A: PartialEq + Debug,
-    T: Clone + PartialEq + Debug,
-    U: Clone + PartialEq + Debug,
-    V: Clone + PartialEq + Debug,
-{
-    fn answer(&self) -> String {
-        format!("{:?}", self.0)
-    }
-
-    fn cells_differ(&self, other: &Self) -> String {
-        let first = self.1.difference(&other.1) + &self.2.difference(&other.2);
-        first + &self.3.difference(&other.3)
     }
 }

@@ -7,11 +7,10 @@ use std::mem::size_of;
 
 use ohakelm::raw;
 use ohakelm_answers::{Bitmap, Edited, Entry, Label, Listed, Logo};
-use ohakelm_answers::{Pack, Placed, Salvage, Stretch, Tone, Written};
+use ohakelm_answers::{Pack, Salvage, Stretch, Tone, Written};
 
 use super::codecs::{Codec, Edit, LogoParts, Spot};
 use super::compare::edit_name;
-use super::placing;
 
 /// The octets of that stack: several times what any call takes.
 const SIZE: usize = 1 << 17;
@@ -130,35 +129,6 @@ impl Codec for Measured {
         };
         let words: [&[usize]; 4] = [&lent(buffer), &spot, entry.as_slice(), &lent(list)];
         self.call(edit_name(edit), call, &words)
-    }
-
-    fn places(&self, message: &[u8], places: &mut [u32]) -> Placed {
-        let words: [&[usize]; 2] = [&input(message), &lent(places)];
-        self.call("places", raw::ohakelm_places as *const (), &words)
-    }
-
-    fn edit_with_places(
-        &self,
-        buffer: &mut [u8],
-        spot: Spot,
-        edit: Edit,
-        list: &mut [u32],
-        places: &mut [u32],
-    ) -> Edited {
-        let spot = [spot.used, spot.pattern, spot.instruction];
-        let (replace, insert, delete) = (
-            raw::ohakelm_replace_with_places as *const (),
-            raw::ohakelm_insert_with_places as *const (),
-            raw::ohakelm_delete_with_places as *const (),
-        );
-        let (call, entry) = match edit {
-            Edit::Replace(entry) => (replace, Some(entry as usize)),
-            Edit::Insert(entry) => (insert, Some(entry as usize)),
-            Edit::Delete => (delete, None),
-        };
-        let (list, places) = (lent(list), lent(places));
-        let words: [&[usize]; 5] = [&lent(buffer), &spot, entry.as_slice(), &list, &places];
-        self.call(placing::edit_name(edit), call, &words)
     }
 
     fn pack_read(&self, pack: &[u8]) -> Pack {

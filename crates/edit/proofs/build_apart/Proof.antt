@@ -1,10 +1,10 @@
 -- `edit::build_apart` meets its contract.
-use borrow.Author.Rules.{rules}
-use Rattle.edit.proofs.build_apart.Statement.{statement}
-use Rattle.edit.proofs.build_apart.Tie as tie
 use native.Mathlib.Omega.{arith}
 use mathlib.Core.Path.{refl, sym}
 use lib.ListN.{take}
+use borrow.Author.Rules.{rules}
+use Rattle.edit.proofs.build_apart.Statement.{statement}
+use Rattle.edit.proofs.build_apart.Tie as tie
 use Rattle.edit.proofs.Finishing.{apart_size, apart_written, apart_done, carry_short}
 
 slice-reshare-prefix-build : tie.Need-slice-reshare-prefix-build
@@ -27,8 +27,8 @@ finish-requires c κs =
     let b = c.before.before.before.before.before in
     let s = b.before.before.before.before.before.before.before.before.before.before in
     let a = s.args in
-    let z = apart_size (take a.used.0 a.buf.now) a.layout a.buf.now a.list.now a.used.0 a.fits refl s.requires.1.0 b.build.ensures s.requires.0.2 in
-    ((s.requires.0.0, s.requires.0.1, (omega (arith, z, s.requires.1.0), omega (arith, z, s.requires.1.1), omega (arith, z, s.requires.1.2, b.build.auto.1.1.1.1.1.0))), apart_written (take a.used.0 a.buf.now) a.layout a.buf.now a.list.now a.used.0 a.fits refl s.requires.1.0 b.build.ensures s.requires.0.2)
+    let z = apart_size (take a.used.0 a.buf.now) a.layout a.buf.now a.list.now a.used.0 refl s.requires.1.0 b.build.ensures s.requires.0.2 in
+    ((s.requires.0.0, s.requires.0.1, (omega (arith, z, s.requires.1.0), omega (arith, z, s.requires.1.1), omega (arith, z, s.requires.1.2, b.build.auto.1.1.1.1.1.0))), apart_written (take a.used.0 a.buf.now) a.layout a.buf.now a.list.now a.used.0 refl s.requires.1.0 b.build.ensures s.requires.0.2)
 
 same_length : tie.Need-same-length
 same_length c = search rules
@@ -45,7 +45,7 @@ returns c =
     let b = f.before.before.before.before.before.before in
     let s = b.before.before.before.before.before.before.before.before.before.before in
     let a = s.args in
-    apart_done (take a.used.0 a.buf.now) a.layout a.buf.now a.list.now a.used.0 a.fits refl s.requires.1.0 b.build.ensures refl f.finish.ensures
+    apart_done (take a.used.0 a.buf.now) a.layout a.buf.now a.list.now a.used.0 refl s.requires.1.0 b.build.ensures refl f.finish.ensures
 
 pub build-apart-spec : {M : Type 1} → statement M
 build-apart-spec =

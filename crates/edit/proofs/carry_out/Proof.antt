@@ -1,9 +1,9 @@
 -- `edit::carry_out` meets its contract.
+use native.Mathlib.Omega.{arith}
+use lib.ListN.{take}
 use borrow.Author.Rules.{rules}
 use Rattle.edit.proofs.carry_out.Statement.{statement}
 use Rattle.edit.proofs.carry_out.Tie as tie
-use native.Mathlib.Omega.{arith}
-use lib.ListN.{take}
 use Rattle.edit.proofs.Finishing.{carry_at, carry_end, carry_long, carry_room, carry_done}
 
 cast-end : tie.Need-overflow-cast-end
@@ -36,7 +36,7 @@ halted-requires c κs = search (carry_long, carry_room, carry_done, rules)
 returns : tie.Need-returns
 returns c =
     let a = c.before.before.before.before.before.before.before.before.before.before.before.args in
-    rw c.halted.ensures (carry_long (take a.used.0 a.buf.now) a.layout a.buf.now a.list.now a.used.0 a.fits c.before.before.before.octets-to.ensures c.before.if1.true)
+    rw c.halted.ensures (carry_long (take a.used.0 a.buf.now) a.layout a.buf.now a.list.now a.used.0 c.before.before.before.octets-to.ensures c.before.if1.true)
 
 halted-requires-2 : tie.Need-halted-requires-2
 halted-requires-2 c κs = search (carry_long, carry_room, carry_done, rules)
@@ -44,7 +44,7 @@ halted-requires-2 c κs = search (carry_long, carry_room, carry_done, rules)
 returns-2 : tie.Need-returns-2
 returns-2 c =
     let a = c.before.before.before.before.before.before.before.before.before.before.before.before.args in
-    rw c.halted2.ensures (carry_room (take a.used.0 a.buf.now) a.layout a.buf.now a.list.now a.used.0 a.fits c.before.before.before.before.octets-to.ensures c.before.before.if1.false c.before.if2.true)
+    rw c.halted2.ensures (carry_room (take a.used.0 a.buf.now) a.layout a.buf.now a.list.now a.used.0 c.before.before.before.before.octets-to.ensures c.before.before.if1.false c.before.if2.true)
 
 slice-aggregate-build-apart : tie.Need-slice-aggregate-build-apart
 slice-aggregate-build-apart c = search (carry_long, carry_room, carry_done, rules)

@@ -1,9 +1,9 @@
 -- `edit::edit_message` meets its contract.
+use mathlib.Core.Path.{sym}
+use lib.Seq.{length-take-le}
 use borrow.Author.Rules.{rules}
 use Rattle.edit.proofs.edit_message.Statement.{statement}
 use Rattle.edit.proofs.edit_message.Tie as tie
-use mathlib.Core.Path.{sym}
-use lib.Seq.{length-take-le}
 use Rattle.edit.proofs.Finishing.{edit_beyond, edit_laid, edits}
 
 halted-requires : tie.Need-halted-requires
@@ -22,9 +22,6 @@ slice-aggregate-plan-edit c =
     let a = c.before.before.before.before.args in
     sym (length-take-le a.used.0 a.buf.now c.before.if1.false)
 
-slice-aggregate-plan-edit-2 : tie.Need-slice-aggregate-plan-edit-2
-slice-aggregate-plan-edit-2 c = search rules
-
 plan-edit-requires : tie.Need-plan-edit-requires
 plan-edit-requires c κs = search (edits, rules)
 
@@ -36,7 +33,7 @@ enum-known-layout c = search (edits, rules)
 
 carry-out-requires : tie.Need-carry-out-requires
 carry-out-requires c κs =
-    let e = c.before.before.before.before.before.before.before.before in
+    let e = c.before.before.before.before.before.before.before in
     let a = e.before.before.before.args in
     edit_laid a.buf.now a.list.now a.used.0 a.edit a.pattern a.instruction e.if1.false c.before.before.before.before.before.plan-edit.ensures c.before.before.before.layout.given.1
 
@@ -63,7 +60,6 @@ edit-message-spec =
     returns
     slice-reshare-prefix-plan-edit
     slice-aggregate-plan-edit
-    slice-aggregate-plan-edit-2
     plan-edit-requires
     enum-known-number
     enum-known-layout

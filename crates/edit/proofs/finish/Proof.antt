@@ -1,49 +1,37 @@
 -- `edit::finish` meets its contract.
-use borrow.Author.Rules.{rules}
-use Rattle.edit.proofs.finish.Statement.{statement}
-use Rattle.edit.proofs.finish.Tie as tie
 use native.Mathlib.Omega.{arith}
 use mathlib.Core.Path.{sym}
 use lib.ListN.{take}
 use lib.Seq.{length-take-le}
-use Rattle.edit.proofs.Finishing.{finish_short, finish_cramped, finish_patterns, finish_few, finish_room, finish_made}
+use borrow.Author.Rules.{rules}
+use Rattle.edit.proofs.Finishing.{finish_short, finish_patterns, finish_few, finish_room, finish_made}
 use Rattle.edit.proofs.Changes.{change_kept}
+use Rattle.edit.proofs.finish.Statement.{statement}
+use Rattle.edit.proofs.finish.Tie as tie
 
 cast-if1 : tie.Need-overflow-cast-if1
 cast-if1 c = search rules
 
-halted-requires : tie.Need-halted-requires
-halted-requires c κs = search rules
-
 returns : tie.Need-returns
 returns c =
-    let s = c.before.before.before.before.before.before in
+    let s = c.before.before.before.before.before in
     let a = s.args in
-    rw c.halted.ensures (finish_short (take a.n.0 a.scratch.now) a.buf.now a.list.now a.used.0 s.requires.1 a.fits c.before.if1.true)
-
-halted-requires-2 : tie.Need-halted-requires-2
-halted-requires-2 c κs = search rules
-
-returns-2 : tie.Need-returns-2
-returns-2 c =
-    let s = c.before.before.before.before.before.before.before in
-    let a = s.args in
-    rw c.halted2.ensures (finish_cramped (take a.n.0 a.scratch.now) a.buf.now a.list.now a.used.0 s.requires.1 c.before.before.if1.false a.fits c.before.if2.true)
+    finish_short (take a.n.0 a.scratch.now) a.buf.now a.list.now a.used.0 s.requires.1 c.if1.true
 
 slice-reshare-prefix-fill-list : tie.Need-slice-reshare-prefix-fill-list
 slice-reshare-prefix-fill-list c = search rules
 
 slice-aggregate-fill-list : tie.Need-slice-aggregate-fill-list
 slice-aggregate-fill-list c =
-    let r = c.before.before.before.before.before.before.before.requires.0.2 in
+    let r = c.before.before.before.before.before.before.requires.0.2 in
     sym (length-take-le _ _ (omega (arith, r.1, r.2)))
 
 fill-list-requires : tie.Need-fill-list-requires
 fill-list-requires c κs =
-    let s = c.before.before.before.before.before.before.before.before in
+    let s = c.before.before.before.before.before.before.before in
     let a = s.args in
     let new = take a.n.0 a.scratch.now in
-    let left = c.before.before.before.if1.false in
+    let left = c.before.before.if1.false in
     let here = finish_patterns new a.buf.now a.list.now a.used.0 s.requires.1 left in
     ((here, finish_few new a.buf.now a.list.now a.used.0 s.requires.1 left), finish_room new a.buf.now a.list.now a.used.0 s.requires.1 left)
 
@@ -65,23 +53,21 @@ same-length-2 c = search rules
 same-length-3 : tie.Need-same-length-3
 same-length-3 c = search rules
 
-returns-3 : tie.Need-returns-3
-returns-3 c =
+returns-2 : tie.Need-returns-2
+returns-2 c =
     let f = c.before.before.before.before.before.before.before.before.before.before.before.before in
-    let s = f.before.before.before.before.before.before.before.before.before in
+    let left = f.before.before.before.if1.false in
+    let s = f.before.before.before.before.before.before.before.before in
     let a = s.args in
     let r = s.requires.0.2 in
-    finish_made (take a.n.0 a.scratch.now) a.buf.now a.list.now a.used.0 s.requires.1 f.before.before.before.before.if1.false a.fits f.before.before.before.if2.false (length-take-le a.n.0 a.scratch.now r.2) f.fill-list.ensures r.1 c.before.before.before.before.before.before.before.copy-octets.ensures c.before.before.before.clear.ensures (change_kept _ a.used.0 r.0 s.requires.0.1 c.change.ensures)
+    finish_made (take a.n.0 a.scratch.now) a.buf.now a.list.now a.used.0 s.requires.1 left (length-take-le a.n.0 a.scratch.now r.2) f.fill-list.ensures r.1 c.before.before.before.before.before.before.before.copy-octets.ensures c.before.before.before.clear.ensures (change_kept _ a.used.0 r.0 s.requires.0.1 c.change.ensures)
 
 pub finish_spec : {M : Type 1} → statement M
 finish_spec =
     tie.close
     (tie.spec
     cast-if1
-    halted-requires
     returns
-    halted-requires-2
-    returns-2
     slice-reshare-prefix-fill-list
     slice-aggregate-fill-list
     fill-list-requires
@@ -91,4 +77,4 @@ finish_spec =
     same_length
     same-length-2
     same-length-3
-    returns-3)
+    returns-2)

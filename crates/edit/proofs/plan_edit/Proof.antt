@@ -13,26 +13,23 @@ enum-known-number c = search (plans, rules)
 enum-known-first : tie.Need-enum-known-first
 enum-known-first c = search (plans, rules)
 
-returns : tie.Need-returns
-returns c = search (plans, rules)
-
 ground-requires : tie.Need-ground-requires
 ground-requires c κs = search (plans, rules)
 
-returns-2 : tie.Need-returns-2
-returns-2 c = search (plans, rules)
+returns : tie.Need-returns
+returns c = search (plans, rules)
 
 added-requires : tie.Need-added-requires
 added-requires c κs = search (plans, rules)
 
-add-t23 : tie.Need-overflow-add-t23
-add-t23 c = search (plans, rules)
+add-t21 : tie.Need-overflow-add-t21
+add-t21 c = search (plans, rules)
 
 removed-requires : tie.Need-removed-requires
 removed-requires c κs = search (plans, rules)
 
-sub-t25 : tie.Need-overflow-sub-t25
-sub-t25 c = search (plans, rules)
+sub-t23 : tie.Need-overflow-sub-t23
+sub-t23 c = search (plans, rules)
 
 carried-piece-requires : tie.Need-carried-piece-requires
 carried-piece-requires c κs = search (plans, rules)
@@ -40,11 +37,11 @@ carried-piece-requires c κs = search (plans, rules)
 outlined-requires : tie.Need-outlined-requires
 outlined-requires c κs = search (plans, rules)
 
+returns-2 : tie.Need-returns-2
+returns-2 c = search (plans, rules)
+
 returns-3 : tie.Need-returns-3
 returns-3 c = search (plans, rules)
-
-returns-4 : tie.Need-returns-4
-returns-4 c = search (plans, rules)
 
 pub plan-edit-spec : {M : Type 1} → statement M
 plan-edit-spec =
@@ -53,14 +50,13 @@ plan-edit-spec =
     judge-for-requires
     enum-known-number
     enum-known-first
-    returns
     ground-requires
-    returns-2
+    returns
     added-requires
-    add-t23
+    add-t21
     removed-requires
-    sub-t25
+    sub-t23
     carried-piece-requires
     outlined-requires
-    returns-3
-    returns-4)
+    returns-2
+    returns-3)

@@ -288,7 +288,7 @@ module _ {M : Type 1} {𝓤 : Ura M} (𝓛 : Logic 𝓤) (mem : Memory → SProp
               assigns ! (of_opd ! (load ! (from ! (vrt ! refl (fld ! refl (stop !)))) (look_in ! 50 (in_variant ! 1 1 refl refl (whole !))))) (from ! (stop !)) (init ! 32 refl ((LL.lawful P.the_type P'.the_laws 𝓛).typed k _ h.1.0).0) $
               assigns_last ! (agg ! (and_then ! (lit ! tt) (and_then ! (load ! (from ! (stop !)) (look ! 32 refl)) (and_then ! (load ! (from ! (stop !)) (look ! 30 refl)) (no_more !))))) (from ! (stop !)) (init ! 56 refl ((EL.lawful Wh.the_type Wh'.the_laws 𝓛 tt).typed (Broken k x) _ made).0) $
               exec ! C Λ En inward q₂ $ assigns_last ! (of_opd ! (load ! (from ! (stop !)) (look ! 56 refl))) (from ! (stop !)) (init ! 48 refl ((EL.lawful Wh.the_type Wh'.the_laws 𝓛 tt).typed (Broken k x) _ made).0) $ exec ! C Λ En outward q₁ $ assigns_last ! (of_opd ! (load ! (from ! (stop !)) (look ! 48 refl))) (from ! (stop !)) (init ! 40 refl ((EL.lawful Wh.the_type Wh'.the_laws 𝓛 tt).typed (Broken k x) _ made).0) $
-              exec ! C Λ En body.t-4 (at_ret En Post) $ leaves (Broken k x) made (whole_bad (total_of w) m at within e e₃ e₄) (held mach) (held wish) room room (held (vint w32 s)) (held (P'.lowered f)) (held (Oc'.lowered c)) (held (vint w32 n)) (held (vbool b)) room room (held (P'.lowered g)) (held (To'.lowered v)) (held (vint w32 x)) (held (P'.lowered k)) room (held (EL.val Op.the_type Op'.the_laws (Opened s f c n b))) (held mach) (held (EL.val Ta.the_type Ta'.the_laws (Counted g v)) ∷ held u₁ ∷ held mach ∷ held (EL.val Wh.the_type Wh'.the_laws (Broken k x)) ∷ held (EL.val St.the_type St'.the_laws (Bad x k)) ∷ held u₂ ∷ held mach ∷ held (EL.val Wh.the_type Wh'.the_laws (Broken k x)) ∷ [])
+              exec ! C Λ En body.t-4 (at_ret En Post) $ leaves (Broken k x) made (whole_bad w m at within e e₃ e₄) (held mach) (held wish) room room (held (vint w32 s)) (held (P'.lowered f)) (held (Oc'.lowered c)) (held (vint w32 n)) (held (vbool b)) room room (held (P'.lowered g)) (held (To'.lowered v)) (held (vint w32 x)) (held (P'.lowered k)) room (held (EL.val Op.the_type Op'.the_laws (Opened s f c n b))) (held mach) (held (EL.val Ta.the_type Ta'.the_laws (Counted g v)) ∷ held u₁ ∷ held mach ∷ held (EL.val Wh.the_type Wh'.the_laws (Broken k x)) ∷ held (EL.val St.the_type St'.the_laws (Bad x k)) ∷ held u₂ ∷ held mach ∷ held (EL.val Wh.the_type Wh'.the_laws (Broken k x)) ∷ [])
           ended (Good x k) u₄ is₄ e₄ =
               let h = EL.owed Op.the_type Op'.the_laws (Opened s f c n b) (u ∷ []) is in
               let h₃ = EL.owed Ta.the_type Ta'.the_laws (Counted g v) (u₃ ∷ []) is₃ in
@@ -298,7 +298,7 @@ module _ {M : Type 1} {𝓤 : Ura M} (𝓛 : Logic 𝓤) (mem : Memory → SProp
               assigns ! (of_opd ! (load ! (from ! (vrt ! refl (fld ! refl (stop !)))) (look_in ! 50 (in_variant ! 0 1 refl refl (whole !))))) (from ! (stop !)) (init ! 34 refl ((LL.lawful P.the_type P'.the_laws 𝓛).typed k _ h₄.1.0).0) $
               assigns_last ! (agg ! (and_then ! (lit ! tt) (and_then ! (load ! (from ! (stop !)) (look ! 34 refl)) (and_then ! (load ! (from ! (stop !)) (look ! 12 refl)) (and_then ! (load ! (from ! (stop !)) (look ! 14 refl)) (and_then ! (load ! (from ! (stop !)) (look ! 16 refl)) (and_then ! (load ! (from ! (stop !)) (look ! 18 refl)) (and_then ! (load ! (from ! (stop !)) (look ! 28 refl)) (and_then ! (load ! (from ! (stop !)) (look ! 20 refl)) (no_more !)))))))))) (from ! (stop !)) (init ! 56 refl ((EL.lawful Wh.the_type Wh'.the_laws 𝓛 tt).typed (Ended k s f c n v b) _ made).0) $
               exec ! C Λ En inward q₂ $ assigns_last ! (of_opd ! (load ! (from ! (stop !)) (look ! 56 refl))) (from ! (stop !)) (init ! 48 refl ((EL.lawful Wh.the_type Wh'.the_laws 𝓛 tt).typed (Ended k s f c n v b) _ made).0) $ exec ! C Λ En outward q₁ $ assigns_last ! (of_opd ! (load ! (from ! (stop !)) (look ! 48 refl))) (from ! (stop !)) (init ! 40 refl ((EL.lawful Wh.the_type Wh'.the_laws 𝓛 tt).typed (Ended k s f c n v b) _ made).0) $
-              exec ! C Λ En body.t-4 (at_ret En Post) $ leaves (Ended k s f c n v b) made (whole_good (total_of w) m at within e e₃ e₄) (held mach) (held wish) room room (held (vint w32 s)) (held (P'.lowered f)) (held (Oc'.lowered c)) (held (vint w32 n)) (held (vbool b)) room room (held (P'.lowered g)) (held (To'.lowered v)) room room (held (P'.lowered k)) (held (EL.val Op.the_type Op'.the_laws (Opened s f c n b))) (held mach) (held (EL.val Ta.the_type Ta'.the_laws (Counted g v)) ∷ held u₁ ∷ held mach ∷ held (EL.val Wh.the_type Wh'.the_laws (Ended k s f c n v b)) ∷ held (EL.val St.the_type St'.the_laws (Good x k)) ∷ held u₂ ∷ held mach ∷ held (EL.val Wh.the_type Wh'.the_laws (Ended k s f c n v b)) ∷ [])
+              exec ! C Λ En body.t-4 (at_ret En Post) $ leaves (Ended k s f c n v b) made (whole_good w m at within e e₃ e₄) (held mach) (held wish) room room (held (vint w32 s)) (held (P'.lowered f)) (held (Oc'.lowered c)) (held (vint w32 n)) (held (vbool b)) room room (held (P'.lowered g)) (held (To'.lowered v)) room room (held (P'.lowered k)) (held (EL.val Op.the_type Op'.the_laws (Opened s f c n b))) (held mach) (held (EL.val Ta.the_type Ta'.the_laws (Counted g v)) ∷ held u₁ ∷ held mach ∷ held (EL.val Wh.the_type Wh'.the_laws (Ended k s f c n v b)) ∷ held (EL.val St.the_type St'.the_laws (Good x k)) ∷ held u₂ ∷ held mach ∷ held (EL.val Wh.the_type Wh'.the_laws (Ended k s f c n v b)) ∷ [])
 
         -- the patterns are told
         tallied : (t : Tally) (u₃ : Val) → Is Ta.the_row t (u₃ ∷ []) → Tallied n t m f.0 → Sq 𝓛 ((‵ (flft κ q) ⊛ ‵ ftrue) ∷ ‵ Own ∷ stand 𝓛 En (room ∷ held mach ∷ held wish ∷ room ∷ room ∷ held (vint w32 s) ∷ held (P'.lowered f) ∷ held (Oc'.lowered c) ∷ held (vint w32 n) ∷ held (vbool b) ∷ room ∷ room ∷ room ∷ room ∷ room ∷ room ∷ room ∷ held (EL.val Op.the_type Op'.the_laws (Opened s f c n b)) ∷ held mach ∷ room ∷ held (EL.val Ta.the_type Ta'.the_laws t) ∷ held u₁ ∷ held mach ∷ [])) (runs C Λ En (switch (copy (place 20 (variant 0 ∷ field 0 ∷ []))) rowed) q₂)
@@ -310,7 +310,7 @@ module _ {M : Type 1} {𝓤 : Ura M} (𝓛 : Logic 𝓤) (mem : Memory → SProp
             assigns ! (of_opd ! (load ! (from ! (vrt ! refl (fld ! refl (stop !)))) (look_in ! 42 (in_variant ! 1 1 refl refl (whole !))))) (from ! (stop !)) (init ! 24 refl ((uint_Lawful 𝓛 w32).typed x _ h.1.0).0) $
             assigns_last ! (agg ! (and_then ! (lit ! tt) (and_then ! (load ! (from ! (stop !)) (look ! 22 refl)) (and_then ! (load ! (from ! (stop !)) (look ! 24 refl)) (no_more !))))) (from ! (stop !)) (init ! 48 refl ((EL.lawful Wh.the_type Wh'.the_laws 𝓛 tt).typed (Broken g x) _ made).0) $
             exec ! C Λ En outward q₁ $ assigns_last ! (of_opd ! (load ! (from ! (stop !)) (look ! 48 refl))) (from ! (stop !)) (init ! 40 refl ((EL.lawful Wh.the_type Wh'.the_laws 𝓛 tt).typed (Broken g x) _ made).0) $
-            exec ! C Λ En body.t-4 (at_ret En Post) $ leaves (Broken g x) made (whole_stopped (total_of w) m at within e e₃) (held mach) (held wish) room room (held (vint w32 s)) (held (P'.lowered f)) (held (Oc'.lowered c)) (held (vint w32 n)) (held (vbool b)) (held (P'.lowered g)) (held (vint w32 x)) room room room room room (held (EL.val Op.the_type Op'.the_laws (Opened s f c n b))) (held mach) (held (EL.val Ta.the_type Ta'.the_laws (Stopped g x)) ∷ held u₁ ∷ held mach ∷ held (EL.val Wh.the_type Wh'.the_laws (Broken g x)) ∷ [])
+            exec ! C Λ En body.t-4 (at_ret En Post) $ leaves (Broken g x) made (whole_stopped w m at within e e₃) (held mach) (held wish) room room (held (vint w32 s)) (held (P'.lowered f)) (held (Oc'.lowered c)) (held (vint w32 n)) (held (vbool b)) (held (P'.lowered g)) (held (vint w32 x)) room room room room room (held (EL.val Op.the_type Op'.the_laws (Opened s f c n b))) (held mach) (held (EL.val Ta.the_type Ta'.the_laws (Stopped g x)) ∷ held u₁ ∷ held mach ∷ held (EL.val Wh.the_type Wh'.the_laws (Broken g x)) ∷ [])
         tallied (Counted g v) u₃ is₃ e₃ =
             let h = EL.owed Ta.the_type Ta'.the_laws (Counted g v) (u₃ ∷ []) is₃ in
             switches_on ! (load ! (from ! (vrt ! refl (fld ! refl (stop !)))) (look_tag ! 42 (whole !))) $ exec ! C Λ En (second_arm rowed) q₂ $
@@ -324,7 +324,7 @@ module _ {M : Type 1} {𝓤 : Ura M} (𝓛 : Logic 𝓤) (mem : Memory → SProp
             -- [what the reader owns; the token; what r owns; the locals]
             peeks ! (B (κ, tt)) (Is (B (κ, tt))) (shows 𝓛 (B (κ, tt))) r (u₂ ∷ []) (λ is₂.
             land ! (from ! (stop !)) (init ! 53 refl ((LL.lawful (T.the_type αᵉ) (T'.the_laws αᵉ) 𝓛).typed r _ is₂).0) $
-            use2 𝓛 (raw ((Ending 𝓛 mem run).pre (to-ending r u₂))) (goes-ending r u₂ (there Within e₂ (whole_last (total_of w) m at within e e₃))) $
+            use2 𝓛 (raw ((Ending 𝓛 mem run).pre (to-ending r u₂))) (goes-ending r u₂ (there Within e₂ (whole_last w m at within e e₃))) $
             calls_at ! fm (Ending 𝓛 mem run) known-ending (to-ending r u₂) (and_then ! (load ! (from ! (stop !)) (look ! 52 refl)) (no_more !)) (λ u₄.
             use1 𝓛 (later (some (λ (s' : Step). ((‵ (flft κ q) ⊛ ‵ ftrue) ⊛ ‵ ((St.the_row).own_val s' (u₄ ∷ []))) ⊛ raw (ensured 𝓛 ending.ended (ending.clauses 𝓛 mem run) (κ, tt) (r, tt) tt s')))) (id⊢ 𝓤 _) $ await ! tt $ pick ! (λ s'.
             split ! $ move ! (1 ∷ []) $ use1 𝓛 (raw (fact 𝓤 (Stepped s' r.msg.now r.at.0))) (ending-said r s') $ heard ! (Stepped s' r.msg.now r.at.0) (λ e₄. split ! $ move ! (1 ∷ []) $
@@ -340,7 +340,7 @@ module _ {M : Type 1} {𝓤 : Ura M} (𝓛 : Logic 𝓤) (mem : Memory → SProp
           assigns ! (of_opd ! (load ! (from ! (vrt ! refl (fld ! refl (stop !)))) (look_in ! 36 (in_variant ! 1 0 refl refl (whole !))))) (from ! (stop !)) (init ! 8 refl ((uint_Lawful 𝓛 w32).typed x _ h.0).0) $
           assigns ! (of_opd ! (load ! (from ! (vrt ! refl (fld ! refl (stop !)))) (look_in ! 36 (in_variant ! 1 1 refl refl (whole !))))) (from ! (stop !)) (init ! 10 refl ((LL.lawful P.the_type P'.the_laws 𝓛).typed k _ h.1.0).0) $
           assigns_last ! (agg ! (and_then ! (lit ! tt) (and_then ! (load ! (from ! (stop !)) (look ! 10 refl)) (and_then ! (load ! (from ! (stop !)) (look ! 8 refl)) (no_more !))))) (from ! (stop !)) (init ! 40 refl ((EL.lawful Wh.the_type Wh'.the_laws 𝓛 tt).typed (Broken k x) _ made).0) $
-          exec ! C Λ En body.t-4 (at_ret En Post) $ leaves (Broken k x) made (whole_closed (total_of w) m at within e) (held mach) (held wish) (held (vint w32 x)) (held (P'.lowered k)) room room room room room room room room room room room room (held (EL.val Op.the_type Op'.the_laws (Closed x k))) (held mach) ([])
+          exec ! C Λ En body.t-4 (at_ret En Post) $ leaves (Broken k x) made (whole_closed w m at within e) (held mach) (held wish) (held (vint w32 x)) (held (P'.lowered k)) room room room room room room room room room room room room (held (EL.val Op.the_type Op'.the_laws (Closed x k))) (held mach) ([])
       matched (Opened s f c n b) u is e =
           let h = EL.owed Op.the_type Op'.the_laws (Opened s f c n b) (u ∷ []) is in
           switches_on ! (load ! (from ! (vrt ! refl (fld ! refl (stop !)))) (look_tag ! 36 (whole !))) $ exec ! C Λ En (second_arm fronted) q₁ $
@@ -357,7 +357,7 @@ module _ {M : Type 1} {𝓤 : Ura M} (𝓛 : Logic 𝓤) (mem : Memory → SProp
           -- [what the reader owns; the token; what r owns; the locals]
           peeks ! (B (κ, tt)) (Is (B (κ, tt))) (shows 𝓛 (B (κ, tt))) r (u₁ ∷ []) (λ is₁.
           land ! (from ! (stop !)) (init ! 45 refl ((LL.lawful (T.the_type αᵉ) (T'.the_laws αᵉ) 𝓛).typed r _ is₁).0) $
-          use2 𝓛 (raw ((Patterns 𝓛 mem run).pre (to-patterns r u₁ n))) (goes-patterns r u₁ n h.1.1.1.0 (there Within e₁ (whole_within (total_of w) m at within e), whole_count (total_of w) m at within e)) $
+          use2 𝓛 (raw ((Patterns 𝓛 mem run).pre (to-patterns r u₁ n))) (goes-patterns r u₁ n h.1.1.1.0 (there Within e₁ (whole_within w m at within e), whole_count w m at within e)) $
           calls_at ! fm (Patterns 𝓛 mem run) known-patterns (to-patterns r u₁ n) (and_then ! (load ! (from ! (stop !)) (look ! 44 refl)) (and_then ! (load ! (from ! (stop !)) (look ! 18 refl)) (and_then ! (load ! (from ! (stop !)) (look ! 6 refl)) (no_more !)))) (λ u₃.
           use1 𝓛 (later (some (λ (t : Tally). ((‵ (flft κ q) ⊛ ‵ ftrue) ⊛ ‵ ((Ta.the_row).own_val t (u₃ ∷ []))) ⊛ raw (ensured 𝓛 patterns-at.ended (patterns-at.clauses 𝓛 mem run) (κ, tt) (r, (n, (w, tt))) tt t)))) (id⊢ 𝓤 _) $ await ! tt $ pick ! (λ t.
           split ! $ move ! (1 ∷ []) $ use1 𝓛 (raw (fact 𝓤 (Tallied n t r.msg.now r.at.0))) (patterns-said r n t) $ heard ! (Tallied n t r.msg.now r.at.0) (λ e₃. split ! $ move ! (1 ∷ []) $

@@ -7,8 +7,8 @@ use Rattle.tone_judge.proofs.Judgements.{judgements}
 returns : tie.Need-returns
 returns c = search (judgements, rules)
 
-whole-beside-requires : tie.Need-whole-beside-requires
-whole-beside-requires c κs = search (judgements, rules)
+judge-start-requires : tie.Need-judge-start-requires
+judge-start-requires c κs = search (judgements, rules)
 
 enum-known-fault : tie.Need-enum-known-fault
 enum-known-fault c = search (judgements, rules)
@@ -33,7 +33,7 @@ judge-for-spec =
     tie.close
     (tie.spec
     returns
-    whole-beside-requires
+    judge-start-requires
     enum-known-fault
     enum-known-next
     place-after-requires

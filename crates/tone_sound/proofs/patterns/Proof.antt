@@ -2,13 +2,13 @@
 use borrow.Author.Rules.{rules}
 use Rattle.tone_sound.proofs.patterns.Statement.{statement}
 use Rattle.tone_sound.proofs.patterns.Tie as tie
-use Rattle.tone_sound.proofs.Rows.{Row, header_within, rows}
+use Rattle.tone_sound.proofs.Rows.{Row, row_inside, header_within, rows}
 
 abbrev invariant-loop : tie.invariant-loop
-invariant-loop whole n marks rows₀ known₀ place₀ left₀ behind₀ rows known place left behind = Row whole place₀.0 n rows₀ known place.0 left rows behind
+invariant-loop whole n marks known₀ place₀ left₀ known place left = Row whole place₀.0 n known place.0 left
 
 abbrev decreases-loop : tie.decreases-loop
-decreases-loop whole n marks rows₀ known₀ place₀ left₀ behind₀ rows known place left behind = left
+decreases-loop whole n marks known₀ place₀ left₀ known place left = left
 
 loop-holds : tie.Need-loop-init invariant-loop decreases-loop
 loop-holds c = search (rows, rules)
@@ -22,9 +22,6 @@ enum_told c = search (rows, rules)
 lost-requires : tie.Need-lost-requires invariant-loop decreases-loop
 lost-requires c κs = search (rows, rules)
 
-same_length : tie.Need-same-length invariant-loop decreases-loop
-same_length c = search (rows, rules)
-
 returns : tie.Need-returns invariant-loop decreases-loop
 returns c = search (rows, rules)
 
@@ -37,26 +34,17 @@ may-stand-requires c κs = search (rows, rules)
 lost-requires-2 : tie.Need-lost-requires-2 invariant-loop decreases-loop
 lost-requires-2 c κs = search (rows, rules)
 
-same-length-2 : tie.Need-same-length-2 invariant-loop decreases-loop
-same-length-2 c = search (rows, rules)
-
 returns-2 : tie.Need-returns-2 invariant-loop decreases-loop
 returns-2 c = search (rows, rules)
 
 body-requires : tie.Need-body-requires invariant-loop decreases-loop
-body-requires c κs = (search rules, (search (header_within, rules), search rules))
+body-requires c κs = (search rules, (search (row_inside, header_within, rules), search rules))
 
 lost-requires-3 : tie.Need-lost-requires-3 invariant-loop decreases-loop
 lost-requires-3 c κs = search (rows, rules)
 
-same-length-3 : tie.Need-same-length-3 invariant-loop decreases-loop
-same-length-3 c = search (rows, rules)
-
 returns-3 : tie.Need-returns-3 invariant-loop decreases-loop
 returns-3 c = search (rows, rules)
-
-keep-row-requires : tie.Need-keep-row-requires invariant-loop decreases-loop
-keep-row-requires c κs = search (rows, rules)
 
 cast-known : tie.Need-overflow-cast-known invariant-loop decreases-loop
 cast-known c = search (rows, rules)
@@ -67,17 +55,11 @@ array-write-known c = search (rows, rules)
 sub-left : tie.Need-overflow-sub-left invariant-loop decreases-loop
 sub-left c = search (rows, rules)
 
-add-behind : tie.Need-overflow-add-behind invariant-loop decreases-loop
-add-behind c = search (rows, rules)
-
 loop-less : tie.Need-loop-smaller invariant-loop decreases-loop
 loop-less c = search (rows, rules)
 
 loop-again : tie.Need-loop-preserved invariant-loop decreases-loop
 loop-again c = search (rows, rules)
-
-same-length-4 : tie.Need-same-length-4 invariant-loop decreases-loop
-same-length-4 c = search (rows, rules)
 
 returns-4 : tie.Need-returns-4 invariant-loop decreases-loop
 returns-4 c = search (rows, rules)
@@ -92,23 +74,17 @@ patterns-spec =
     header-requires
     enum_told
     lost-requires
-    same_length
     returns
     enum-known-value
     may-stand-requires
     lost-requires-2
-    same-length-2
     returns-2
     body-requires
     lost-requires-3
-    same-length-3
     returns-3
-    keep-row-requires
     cast-known
     array-write-known
     sub-left
-    add-behind
     loop-less
     loop-again
-    same-length-4
     returns-4)

@@ -10,14 +10,14 @@ place-after-requires c κs = search rules
 front-requires : tie.Need-front-requires
 front-requires c κs = search rules
 
+lost-requires : tie.Need-lost-requires
+lost-requires c κs = search rules
+
 returns : tie.Need-returns
 returns c = search (songs, rules)
 
 patterns-requires : tie.Need-patterns-requires
 patterns-requires c κs = search (songs, rules)
-
-same_length : tie.Need-same-length
-same_length c = search rules
 
 returns-2 : tie.Need-returns-2
 returns-2 c = search (songs, rules)
@@ -25,4 +25,10 @@ returns-2 c = search (songs, rules)
 pub song-spec : {M : Type 1} → statement M
 song-spec =
     tie.close
-    (tie.spec place-after-requires front-requires returns patterns-requires same_length returns-2)
+    (tie.spec
+    place-after-requires
+    front-requires
+    lost-requires
+    returns
+    patterns-requires
+    returns-2)

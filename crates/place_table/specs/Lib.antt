@@ -1,4 +1,0 @@
-pub mod Making
-pub mod Promise
-pub mod Answers
-pub mod Samples
