@@ -1,3 +1,5 @@
+#![tactic(auto)]
+
 ghost use Rattle.std.specs.Prelude.{◌≡◌, ◌++◌, ◌+◌, ◌-◌, ◌%◌, ◌≤◌, ◌<◌, length, take, drop};
 ghost use Rattle.std.specs.Int.Count.{ones};
 ghost use Rattle.bitmap.specs.Image.{sizes_taken, image_octets, ones_of};
@@ -7,14 +9,14 @@ ghost use Rattle.bitmap.specs.Promises.{ReadPromise, ImagePromise, WritePromise}
 use bits::{BitPlace, OctetCount};
 
 // What reading a message answers: the sizes and the black pixels, or the refusal's number and place.
-#[derive(Drop)]
+#[derive(Clone, Copy)]
 pub enum Reading {
     Read { width: u32, height: u32, black: u32 },
     Refused(u32, BitPlace),
 }
 
 // What writing a bitmap answers: the octets written, or the refusal's number and place.
-#[derive(Drop)]
+#[derive(Clone, Copy)]
 pub enum Writing {
     Wrote(OctetCount),
     Refused(u32, BitPlace),

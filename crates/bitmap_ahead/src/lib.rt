@@ -1,3 +1,5 @@
+#![tactic(auto)]
+
 // What stands ahead of a bitmap: nothing ahead of a plain one, a version ahead of a CLI icon; version, network codes, date
 // and line feed ahead of an operator logo.
 ghost use Rattle.std.specs.Prelude.{◌≡◌, ◌∷◌, ◌++◌, ◌+◌, ◌≤◌, length, take, drop, true};
@@ -10,7 +12,7 @@ ghost use Rattle.bitmap_ahead.specs.declared.Kind.TheVariants.{Logo};
 use bits::OctetCount;
 
 // The kinds of bitmaps.
-#[derive(Drop)]
+#[derive(Clone, Copy)]
 pub enum Kind {
     Plain,
     Icon,

@@ -1,3 +1,5 @@
+#![tactic(auto)]
+
 // What reading a bitmap of a kind answers across the C border: numbers alone, each stretch by where it begins and its octets.
 ghost use Rattle.bitmap_answers.specs.Promise.{IconReadExport, LogoReadExport};
 
@@ -6,7 +8,7 @@ use bitmap_kinds::Reading;
 
 // A bitmap or an icon: with the sizes and the black pixels the stretch of the message that is the image.
 #[repr(C)]
-#[derive(Drop)]
+#[derive(Clone, Copy)]
 pub struct BitmapAnswer {
     pub refusal: u32,
     pub place: usize,
@@ -19,7 +21,7 @@ pub struct BitmapAnswer {
 
 // A logo: the same, and the stretches that are the two codes and the date.
 #[repr(C)]
-#[derive(Drop)]
+#[derive(Clone, Copy)]
 pub struct LogoAnswer {
     pub refusal: u32,
     pub place: usize,

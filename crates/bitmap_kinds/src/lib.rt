@@ -1,3 +1,5 @@
+#![tactic(auto)]
+
 // Bitmaps of the three kinds: plain bitmaps, CLI icons and operator logos. The caller names the kind.
 ghost use Rattle.std.specs.Prelude.{◌≡◌, ◌+◌, ◌≤◌, length};
 ghost use Rattle.bitmap.specs.Bitmap.{refusal_of};
@@ -11,7 +13,7 @@ use bitmap_ahead::Kind;
 use bits::{BitPlace, OctetCount};
 
 // The fields of a message: a logo's two codes and its date, and the image of each kind.
-#[derive(Drop)]
+#[derive(Clone, Copy)]
 pub enum Field {
     Mcc,
     Mnc,
@@ -20,14 +22,14 @@ pub enum Field {
 }
 
 // A stretch of a message: where it begins, and its octets.
-#[derive(Drop)]
+#[derive(Clone, Copy)]
 pub struct Stretch {
     pub start: OctetCount,
     pub length: OctetCount,
 }
 
 // Where the fields of a message stand.
-#[derive(Drop)]
+#[derive(Clone, Copy)]
 pub struct Fields {
     pub mcc: Stretch,
     pub mnc: Stretch,
@@ -36,7 +38,7 @@ pub struct Fields {
 }
 
 // What reading a message answers: the sizes, the black pixels and the fields, or the refusal's number and place.
-#[derive(Drop)]
+#[derive(Clone, Copy)]
 pub enum Reading {
     Read {
         fields: Fields,

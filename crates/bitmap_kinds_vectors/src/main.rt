@@ -1,3 +1,5 @@
+#![tactic(auto)]
+
 // Runs the cases of bitmaps of the three kinds and prints what the calls answer, a line for each case. What it must print
 // was worked out from the rules by other means.
 //
@@ -32,7 +34,7 @@ use bitmap_ahead::Kind;
 use bitmap_kinds::{Field, Fields, Reading, Stretch};
 
 // How many octets of a message, of the two codes and of a date are in hand.
-#[derive(Drop)]
+#[derive(Clone, Copy)]
 struct InHand {
     octets: usize,
     mcc: usize,

@@ -1,3 +1,5 @@
+#![tactic(auto)]
+
 // Runs the cases of bitmaps and prints what the calls answer, a line for each case.
 use bitmap::{Reading, Writing};
 

@@ -1,5 +1,5 @@
 -- Places and counts of octets.
-use Prim.Native.Nat.{ℕ, ◌+◌, ◌-◌, ◌<◌}
+use Prim.Native.Nat.{ℕ, ◌+◌, ◌<◌}
 use native.Mathlib.Omega.{arith}
 use mathlib.Core.Path.{◌≡◌}
 use Rattle.bits.specs.Bits.{place_after, octets_to, filler_to}

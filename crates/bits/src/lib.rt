@@ -1,14 +1,16 @@
+#![tactic(auto)]
+
 ghost use Rattle.std.specs.Prelude.{◌≡◌, [], ◌∷◌, ◌+◌, ◌-◌, ◌*◌, ◌/◌, ◌%◌, ◌^◌, ◌≤◌, ◌<◌, length, get_or, drop};
 ghost use Rattle.bits.specs.Bits.{bits_n, bits_of, num, field, place_after, octets_before, octets_to, filler_to};
 ghost use Rattle.bits.specs.Window.{four, eight, Look, Sight, Sights};
 ghost use Rattle.bits.specs.Sink.{written, InHand, Stored, Put, Sealed};
 
 // A place in a message: how many bits stand ahead of it.
-#[derive(Drop)]
+#[derive(Clone, Copy)]
 pub struct BitPlace(pub usize);
 
 // A number of whole octets.
-#[derive(Drop)]
+#[derive(Clone, Copy)]
 pub struct OctetCount(pub usize);
 
 // The place where so many octets end.
@@ -142,7 +144,7 @@ pub fn full_sight(s: &[u8], at: BitPlace) -> u64
 }
 
 // The 121 bits at a place, in two numbers: the first 64, and the others on top of the second.
-#[derive(Drop)]
+#[derive(Clone, Copy)]
 pub struct TwoSights {
     pub first: u64,
     pub second: u64,
@@ -201,7 +203,7 @@ pub fn part(x: u32, o: u32, w: u32) -> u32
 }
 
 // Where a row of bits that is being written has come to: whole octets, and `n` bits in hand that spell `acc`.
-#[derive(Drop)]
+#[derive(Clone, Copy)]
 pub struct Sink {
     pub octets: OctetCount,
     pub n: u32,

@@ -1,3 +1,5 @@
+#![tactic(auto)]
+
 // Octets copied from one slice to the front of another.
 //
 // Two slices might overlap for all that the compiler knows, so it makes no block copy of a plain loop.

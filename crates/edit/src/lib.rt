@@ -1,3 +1,5 @@
+#![tactic(auto)]
+
 ghost use Rattle.std.specs.Prelude.{◌≡◌, ◌+◌, ◌≤◌, length, take, pos, ◌-ℤ◌};
 ghost use Rattle.bits.specs.Bits.{octets_to};
 ghost use Rattle.bits.specs.Outcome.{and_then};
@@ -15,7 +17,7 @@ use edit_change::Edit;
 use tone_judge::{Judged, Total, Wish};
 
 // What an edit answers: the new length, the entries of the new list, its return mark and the change in octets; or the refusal.
-#[derive(Drop)]
+#[derive(Clone, Copy)]
 pub enum Answer {
     Edited {
         length: OctetCount,
@@ -33,7 +35,7 @@ pub enum Answer {
 
 // What is known of a changed message before it is built: the place of its first pattern, how many there are, and the
 // entries of their list and its return mark.
-#[derive(Drop)]
+#[derive(Clone, Copy)]
 pub struct Outline {
     pub first: BitPlace,
     pub patterns: u32,
@@ -55,7 +57,7 @@ fn outlined(first: BitPlace, patterns: u32, total: Total) -> Outline
 
 // How a changed message is laid out: where the header stands and what it is then, where the old bits are cut, what is put
 // there, and the outline.
-#[derive(Drop)]
+#[derive(Clone, Copy)]
 pub struct Layout {
     pub header: BitPlace,
     pub cell: u32,
@@ -65,7 +67,7 @@ pub struct Layout {
 }
 
 // Why an edit is refused, and where; or how the changed message is laid out.
-#[derive(Drop)]
+#[derive(Clone, Copy)]
 pub enum Plan {
     Halt(u32, BitPlace),
     Go(Layout),

@@ -1,3 +1,5 @@
+#![tactic(auto)]
+
 ghost use Rattle.std.specs.Prelude.{◌≡◌, ◌+◌, ◌-◌, ◌^◌, ◌≤◌, ◌<◌, length, take, drop};
 ghost use Rattle.bits.specs.Bits.{bits_of, place_after, octets_to};
 ghost use Rattle.bits.specs.Lent.{over};
@@ -80,7 +82,7 @@ fn put_ahead(msg: &[u8], head: BitPlace, cell: u32, at: BitPlace, out: &mut [u8]
 }
 
 // Bits to put: how many, and the number that they spell.
-#[derive(Drop)]
+#[derive(Clone, Copy)]
 pub struct Piece {
     pub width: u32,
     pub value: u32,
@@ -104,7 +106,7 @@ fn put_piece(
 }
 
 // Where an instruction stands, where what is left behind it does, and where the patterns end.
-#[derive(Drop)]
+#[derive(Clone, Copy)]
 pub struct Spot {
     pub at: BitPlace,
     pub behind: BitPlace,

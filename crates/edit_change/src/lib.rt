@@ -1,3 +1,5 @@
+#![tactic(auto)]
+
 ghost use Rattle.std.specs.Prelude.{◌≡◌, true, [], ◌∷◌, ◌≤◌, length};
 ghost use Rattle.tone_elements.specs.Answers.{notes as notes_of};
 ghost use Rattle.edit_change.specs.Change.{is_new as isNewOf, carries_new, carried, removed as removedOf, in_body};
@@ -6,7 +8,7 @@ ghost use Rattle.edit_change.specs.Answers.{Puts, overdone_of, ground_of};
 use edit_build::Piece;
 
 // What an edit does at an instruction: replace it, insert before it, or delete it. The new instruction is one table entry.
-#[derive(Drop)]
+#[derive(Clone, Copy)]
 pub enum Edit {
     Replace(u32),
     Insert(u32),

@@ -1,3 +1,5 @@
+#![tactic(auto)]
+
 // Runs the cases of edits, and prints a line for each call. What it must print was worked out from the rules by other
 // means.
 //
@@ -28,7 +30,7 @@ use edit_change::Edit;
 use list::Listed;
 
 // The used length, and how many octets of the buffer and cells of each list are lent.
-#[derive(Drop)]
+#[derive(Clone, Copy)]
 struct InHand {
     used: usize,
     octets: usize,
@@ -36,7 +38,7 @@ struct InHand {
 }
 
 // An edit and its position, and where the next word of the line starts.
-#[derive(Drop)]
+#[derive(Clone, Copy)]
 struct Wanted {
     edit: Edit,
     pattern: usize,

@@ -1,3 +1,5 @@
+#![tactic(auto)]
+
 // What lies inside something larger: numbers of two octets, and a tone message in its place.
 ghost use Rattle.std.specs.Prelude.{◌≡◌, ◌+◌, ◌-◌, ◌≤◌, ◌<◌, length, take, drop};
 ghost use Rattle.std.proofs.lemmas.List.Edits.{sets};
@@ -11,7 +13,7 @@ use bits::{BitPlace, OctetCount};
 use tone_judge::Judged;
 
 // What judging a tone message inside something larger answers: nothing is wrong with it, or the refusal's number and place.
-#[derive(Drop)]
+#[derive(Clone, Copy)]
 pub enum Inside {
     Fine,
     Fault { number: u32, at: BitPlace },

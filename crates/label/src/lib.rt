@@ -1,3 +1,5 @@
+#![tactic(auto)]
+
 ghost use Rattle.std.specs.Prelude.{◌≡◌, false, ◌+◌, ◌≤◌, length};
 ghost use Rattle.tone.specs.Tone.{per_character};
 ghost use Rattle.label.specs.Label.{character as characterAt, left_octets, odd as oddOf};
@@ -6,7 +8,7 @@ ghost use Rattle.label.specs.Promises.{SuppliedPromise, LabelPromise};
 use bits::OctetCount;
 
 // The buffer that supplied a label, and the label's octets.
-#[derive(Drop)]
+#[derive(Clone, Copy)]
 pub enum Supplier {
     Title(OctetCount),
     StandIn(OctetCount),

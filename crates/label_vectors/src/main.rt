@@ -1,3 +1,5 @@
+#![tactic(auto)]
+
 // Runs the cases of labels and prints what the calls answer, two lines for each case. What it must print was worked out
 // from the rules by other means.
 //
@@ -19,7 +21,7 @@ ghost use Rattle.std.specs.Prelude.{◌≤◌, length};
 use label::Supplier;
 
 // How many octets of a title and of a stand-in are in hand.
-#[derive(Drop)]
+#[derive(Clone, Copy)]
 struct InHand {
     title: usize,
     stand_in: usize,

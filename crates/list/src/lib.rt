@@ -1,3 +1,5 @@
+#![tactic(auto)]
+
 ghost use Rattle.std.specs.Prelude.{◌≡◌, ◌++◌, ◌*◌, ◌≤◌, length, drop};
 ghost use Rattle.list_rules.specs.Sounding.{entry_cells, entries_of};
 ghost use Rattle.list_rules.specs.Listing.{fits_numbers, fits_both};
@@ -8,7 +10,7 @@ use list_rules::Entry;
 use tone_judge::Judged;
 
 // What making a list answers: its entries and its return mark, or the refusal.
-#[derive(Drop)]
+#[derive(Clone, Copy)]
 pub enum Listed {
     Made { entries: u32, mark: u32 },
     Refused { number: u32, place: BitPlace },

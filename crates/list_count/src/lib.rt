@@ -1,3 +1,5 @@
+#![tactic(auto)]
+
 ghost use Rattle.std.specs.Prelude.{◌≡◌, ◌≤◌};
 ghost use Rattle.list_count.specs.Bodies.{passes_of};
 ghost use Rattle.list_count.specs.Counting.{mark_of, no_count, counted as countedOf};
@@ -5,7 +7,7 @@ ghost use Rattle.list_count.specs.Parts.{sounding_part};
 ghost use Rattle.list_count.specs.declared.Part.TheVariants.{Known};
 
 // What is counted so far of a playing list: the entries, the return mark, and whether a loop 15 has ended the list.
-#[derive(Drop)]
+#[derive(Clone, Copy)]
 pub struct Count {
     pub entries: u32,
     pub mark: u32,
@@ -13,7 +15,7 @@ pub struct Count {
 }
 
 // A part's body, as it is counted: not yet defined, or the number of its notes.
-#[derive(Drop)]
+#[derive(Clone, Copy)]
 pub enum Part {
     Unknown,
     Known { notes: u32 },

@@ -1,3 +1,5 @@
+#![tactic(auto)]
+
 ghost use Rattle.std.specs.Prelude.{◌≡◌, ◌+◌, ◌*◌, ◌^◌, ◌≤◌, ◌<◌, [], ◌∷◌, length};
 ghost use Rattle.std.proofs.lemmas.List.Edits.{sets};
 ghost use Rattle.bits.specs.Lent.{over};
@@ -15,7 +17,7 @@ use bits::BitPlace;
 use list_rules::Settings;
 
 // A part's body: not yet defined, or the place and the number of its instructions.
-#[derive(Drop)]
+#[derive(Clone, Copy)]
 pub enum Part {
     Unknown,
     Known { at: BitPlace, count: u32 },
@@ -24,7 +26,7 @@ pub enum Part {
 // How far filling has come: the settings, the fraction left over, the positions of the header that sounds and of the next
 // instruction in its body, what the settings put in an entry's first number, the beats of their tempo and one over these,
 // the place in the message, and the cells filled.
-#[derive(Drop)]
+#[derive(Clone, Copy)]
 pub struct Walk {
     pub settings: Settings,
     pub fraction: u32,

@@ -1,3 +1,5 @@
+#![tactic(auto)]
+
 ghost use Rattle.std.specs.Prelude.{◌≡◌, ◌+◌, ◌*◌, ◌≤◌, ◌<◌, length};
 ghost use Rattle.list_rules.specs.Duration.{beats as beatsOf, units as units_of, microseconds as microsecondsOf, left_over};
 ghost use Rattle.list_rules.specs.Sounding.{defaults, applied as appliedTo, entry_cells, unpacked, entry_at};
@@ -5,7 +7,7 @@ ghost use Rattle.list_rules.specs.Ranges.{InRange};
 ghost use Rattle.list_rules.specs.Tempo.{inverse_of, Timed, base_of};
 
 // The four settings, as codes.
-#[derive(Drop)]
+#[derive(Clone, Copy)]
 pub struct Settings {
     pub scale: u32,
     pub style: u32,
@@ -15,7 +17,7 @@ pub struct Settings {
 
 // An entry of the playing list, as the mixer receives it.
 #[repr(C)]
-#[derive(Drop)]
+#[derive(Clone, Copy)]
 pub struct Entry {
     pub note: u32,
     pub scale: u32,
@@ -172,7 +174,7 @@ pub fn inverse(beats: u32) -> u64
 }
 
 // How long a note lasts, and the fraction that it leaves over, in beats-ths of a microsecond.
-#[derive(Drop)]
+#[derive(Clone, Copy)]
 pub struct Lasted {
     pub microseconds: u32,
     pub fraction: u32,

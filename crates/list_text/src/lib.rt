@@ -1,3 +1,5 @@
+#![tactic(auto)]
+
 // The text of a playing list, as the program prints it: an answer, and the list that came with it, put into a buffer.
 ghost use Rattle.std.specs.Prelude.{◌≡◌, ◌+◌, ◌*◌, ◌%◌, ◌≤◌, length};
 ghost use Rattle.list_rules.specs.Sounding.{entry_cells};

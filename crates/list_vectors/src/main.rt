@@ -1,3 +1,5 @@
+#![tactic(auto)]
+
 // Runs the cases of playing lists, and prints a line for each call. What it must print was worked out from the rules by
 // other means.
 //

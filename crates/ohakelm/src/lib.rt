@@ -1,3 +1,5 @@
+#![tactic(auto)]
+
 ghost use Rattle.std.specs.Prelude.{◌≡◌, length};
 ghost use Rattle.list.specs.Promise.{numbers_of as listedNumbers};
 ghost use Rattle.edit.specs.Promise.{numbers_of as edit_numbers};
@@ -26,7 +28,7 @@ use written::WrittenAnswer;
 
 // What reading a tone answers.
 #[repr(C)]
-#[derive(Drop)]
+#[derive(Clone, Copy)]
 pub struct ToneAnswer {
     pub refusal: u32,
     pub place: usize,
@@ -39,7 +41,7 @@ pub struct ToneAnswer {
 
 // Which buffer supplies a label, and which stretch of it.
 #[repr(C)]
-#[derive(Drop)]
+#[derive(Clone, Copy)]
 pub struct LabelAnswer {
     pub stand_in: bool,
     pub start: usize,
@@ -48,7 +50,7 @@ pub struct LabelAnswer {
 
 // What making a list answers.
 #[repr(C)]
-#[derive(Drop)]
+#[derive(Clone, Copy)]
 pub struct ListAnswer {
     pub refusal: u32,
     pub place: usize,
@@ -58,7 +60,7 @@ pub struct ListAnswer {
 
 // What an edit answers.
 #[repr(C)]
-#[derive(Drop)]
+#[derive(Clone, Copy)]
 pub struct EditAnswer {
     pub refusal: u32,
     pub place: usize,

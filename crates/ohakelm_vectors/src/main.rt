@@ -1,3 +1,5 @@
+#![tactic(auto)]
+
 // Runs cases of every export and prints what each answers, a line for each call: all fields of the answer in the order in
 // which the header include/ohakelm.h has them, and what was lent. What it must print was worked out from the rules and the
 // header alone, by a program of another language that shares nothing with the library; of packs by hand.
@@ -43,7 +45,7 @@ use pack_answers::{PackAnswer, SalvageAnswer, StretchAnswer};
 use written::WrittenAnswer;
 
 // How many octets of each kind and how many cells are in hand.
-#[derive(Drop)]
+#[derive(Clone, Copy)]
 struct InHand {
     octets: usize,
     first: usize,

@@ -1,3 +1,5 @@
+#![tactic(auto)]
+
 // Tone packs: messages back to back, a row for each, how many there are, and where the rows begin.
 ghost use Rattle.std.specs.Prelude.{◌≡◌, true, ◌++◌, ◌+◌, ◌*◌, ◌≤◌, ◌<◌, length, drop};
 ghost use Rattle.std.proofs.lemmas.List.Edits.{sets};
@@ -11,14 +13,14 @@ use inside::Inside;
 use written::Writing;
 
 // What reading a pack answers: how many messages it has, or the refusal's number and place.
-#[derive(Drop)]
+#[derive(Clone, Copy)]
 pub enum Reading {
     Read { messages: u32 },
     Refused { number: u32, place: BitPlace },
 }
 
 // What finding a message answers: the stretch of the pack that it is, or the refusal's number and place.
-#[derive(Drop)]
+#[derive(Clone, Copy)]
 pub enum Finding {
     Found {
         start: OctetCount,
@@ -31,7 +33,7 @@ pub enum Finding {
 }
 
 // A pack that was judged: how many messages it has, and where its rows begin; or the refusal.
-#[derive(Drop)]
+#[derive(Clone, Copy)]
 enum Judged {
     Sound { messages: usize, rows: OctetCount },
     Faulty { number: u32, at: BitPlace },

@@ -1,3 +1,5 @@
+#![tactic(auto)]
+
 // What the calls on packs answer across the C border: numbers alone, a message by where it begins and its octets.
 ghost use Rattle.std.specs.Prelude.{◌≡◌};
 ghost use Rattle.salvage.specs.declared.Salvaging.TheVariants.{Refused};
@@ -11,7 +13,7 @@ use written::WrittenAnswer;
 
 // A pack: how many messages it has.
 #[repr(C)]
-#[derive(Drop)]
+#[derive(Clone, Copy)]
 pub struct PackAnswer {
     pub refusal: u32,
     pub place: usize,
@@ -20,7 +22,7 @@ pub struct PackAnswer {
 
 // A message: the stretch of the pack that it is.
 #[repr(C)]
-#[derive(Drop)]
+#[derive(Clone, Copy)]
 pub struct StretchAnswer {
     pub refusal: u32,
     pub place: usize,
@@ -30,7 +32,7 @@ pub struct StretchAnswer {
 
 // Tones that were got out of a broken pack: messages kept, octets of the new pack, octets skipped.
 #[repr(C)]
-#[derive(Drop)]
+#[derive(Clone, Copy)]
 pub struct SalvageAnswer {
     pub refusal: u32,
     pub place: usize,

@@ -1,3 +1,5 @@
+#![tactic(auto)]
+
 // Runs the cases of tone packs, and prints a line for each call. What it must print was worked out from the rules by other
 // means.
 //
@@ -41,14 +43,14 @@ use vectors::Changes;
 use written::Writing;
 
 // How many octets and lengths are in hand.
-#[derive(Drop)]
+#[derive(Clone, Copy)]
 struct InHand {
     octets: usize,
     lengths: usize,
 }
 
 // The numbers of a reading.
-#[derive(Drop)]
+#[derive(Clone, Copy)]
 struct Answer {
     number: u32,
     place: usize,

@@ -1,3 +1,5 @@
+#![tactic(auto)]
+
 // Reads one tone message from standard input and prints its playing list.
 //
 // All that matters is in the library, and `list_text` makes the text. Here the message is read to its end, and the text is
@@ -9,7 +11,7 @@ use bits::OctetCount;
 use libc::{STDERR_FILENO, STDIN_FILENO, STDOUT_FILENO};
 
 // What one read of standard input gave: some octets, its end, or that it cannot be read.
-#[derive(Drop)]
+#[derive(Clone, Copy)]
 enum Piece {
     Some(OctetCount),
     End,
@@ -17,7 +19,7 @@ enum Piece {
 }
 
 // What standard input gave as a whole: so many octets, or that it cannot be read.
-#[derive(Drop)]
+#[derive(Clone, Copy)]
 enum Input {
     Octets(OctetCount),
     Unreadable,

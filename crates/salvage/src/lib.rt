@@ -1,3 +1,5 @@
+#![tactic(auto)]
+
 // Getting tones out of a broken pack: whole messages are kept, and what is no message is skipped octet by octet.
 ghost use Rattle.std.specs.Prelude.{◌≡◌, ◌+◌, ◌*◌, ◌≤◌, length};
 ghost use Rattle.std.proofs.lemmas.List.Edits.{sets};
@@ -12,7 +14,7 @@ ghost use Rattle.salvage.specs.Promises.{SalvagePromise};
 use bits::{BitPlace, OctetCount};
 
 // What getting tones out answers: messages kept, octets of the new pack, octets skipped; or the refusal's number and place.
-#[derive(Drop)]
+#[derive(Clone, Copy)]
 pub enum Salvaging {
     Done {
         messages: usize,
@@ -26,7 +28,7 @@ pub enum Salvaging {
 }
 
 // What going through an input comes to: how many messages are kept, and their octets; or their pack is too long.
-#[derive(Drop)]
+#[derive(Clone, Copy)]
 enum Walked {
     Kept { messages: usize, octets: OctetCount },
     TooLong,

@@ -1,3 +1,5 @@
+#![tactic(auto)]
+
 // Runs the cases of getting tones out of broken packs, and prints a line for each call. What it must print was made by a
 // model in another language, written from the text of the rule alone.
 //
@@ -33,7 +35,7 @@ use salvage::Salvaging;
 use vectors::Changes;
 
 // How many octets are in hand, and how many octets and numbers are lent.
-#[derive(Drop)]
+#[derive(Clone, Copy)]
 struct InHand {
     octets: usize,
     room: usize,
@@ -41,7 +43,7 @@ struct InHand {
 }
 
 // The numbers of an answer.
-#[derive(Drop)]
+#[derive(Clone, Copy)]
 struct Answer {
     number: u32,
     place: usize,

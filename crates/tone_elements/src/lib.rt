@@ -1,3 +1,5 @@
+#![tactic(auto)]
+
 ghost use Rattle.std.specs.Prelude.{◌≡◌, ℕ, ◌+◌, ◌-◌, ◌*◌, ◌/◌, ◌%◌, ◌^◌, ◌≤◌, ◌<◌, length, drop, eqb, Bool, List};
 ghost use Rattle.std.specs.Int.Bits.{bit_and, bit_xor};
 ghost use Rattle.bits.specs.Bits.{bits_of, place_after};
@@ -12,21 +14,21 @@ ghost use Rattle.tone_elements.specs.Answers.{Sure, Complete, BothAllowed, Allow
 use bits::{BitPlace, OctetCount};
 
 // An element that was due: its number and the place behind it, or the refusal's number and place.
-#[derive(Drop)]
+#[derive(Clone, Copy)]
 pub enum Step {
     Good { value: u32, next: BitPlace },
     Bad { number: u32, at: BitPlace },
 }
 
 // A message's command: UNICODE or not, and the place behind it; or the refusal.
-#[derive(Drop)]
+#[derive(Clone, Copy)]
 pub enum Command {
     Announced { unicode: bool, next: BitPlace },
     Withheld { number: u32, at: BitPlace },
 }
 
 // The characters of a title: the place behind them and how many octets they are; or the refusal.
-#[derive(Drop)]
+#[derive(Clone, Copy)]
 pub enum Characters {
     Present { next: BitPlace, octets: OctetCount },
     Faulty { at: BitPlace, number: u32 },
@@ -34,7 +36,7 @@ pub enum Characters {
 
 // The front of a message: song type, the place behind it, the title's octets, the pattern count, UNICODE or not; or the
 // refusal. The first fields of the cases are alike, so that an answer is copied whole.
-#[derive(Drop)]
+#[derive(Clone, Copy)]
 pub enum Opening {
     Opened {
         song: u32,
@@ -50,7 +52,7 @@ pub enum Opening {
 }
 
 // An entry that stands at a place, and the place behind it.
-#[derive(Drop)]
+#[derive(Clone, Copy)]
 pub struct Cell {
     pub cell: u32,
     pub next: BitPlace,

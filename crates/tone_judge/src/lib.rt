@@ -1,3 +1,5 @@
+#![tactic(auto)]
+
 ghost use Rattle.std.specs.Prelude.{◌≡◌, ◌+◌, ◌%◌, ◌≤◌};
 ghost use Rattle.bits.specs.Bits.{bits_of};
 ghost use Rattle.tone.specs.Tone.{none_known};
@@ -13,14 +15,14 @@ use list_count::{Count, Part};
 use tone_elements::{Opening, Step};
 
 // A message and the place reached in it.
-#[derive(Drop)]
+#[derive(Clone, Copy)]
 pub struct Reader<'a> {
     pub msg: &'a [u8],
     pub at: BitPlace,
 }
 
 // An edit that a judgement has in mind, at an instruction of a pattern, both told by their positions.
-#[derive(Drop)]
+#[derive(Clone, Copy)]
 pub struct Wish {
     pub edit: Edit,
     pub pattern: usize,
@@ -29,7 +31,7 @@ pub struct Wish {
 
 // Where a wish cuts a message: the place of the part's header, that of the instruction, that of what is left behind it, and
 // the header itself.
-#[derive(Drop)]
+#[derive(Clone, Copy)]
 pub struct Cut {
     pub header: BitPlace,
     pub at: BitPlace,
@@ -39,7 +41,7 @@ pub struct Cut {
 
 // What patterns come to: their entries in the tone table, those of their list and its return mark, as wished, where they
 // end, and where the wish cuts them.
-#[derive(Drop)]
+#[derive(Clone, Copy)]
 pub struct Total {
     pub table: u32,
     pub list: u32,
@@ -50,7 +52,7 @@ pub struct Total {
 
 // A pattern that was judged by itself: its header, the place behind it, and the notes of its own instructions; or the
 // refusal.
-#[derive(Drop)]
+#[derive(Clone, Copy)]
 pub enum Single {
     Fine { cell: u32, next: BitPlace, own: u32 },
     Fault { number: u32, at: BitPlace },
@@ -58,7 +60,7 @@ pub enum Single {
 
 // Patterns that were judged: the place behind what was read, and what they come to; or the refusal. Here and below the
 // cases of an answer have their first fields alike, so that it is copied whole.
-#[derive(Drop)]
+#[derive(Clone, Copy)]
 pub enum Tally {
     Counted { next: BitPlace, total: Total },
     Stopped { at: BitPlace, number: u32 },
@@ -66,7 +68,7 @@ pub enum Tally {
 
 // A message that was judged: song type, the place of the first pattern, the title's octets, the patterns, what they come
 // to, UNICODE or not; or the refusal.
-#[derive(Drop)]
+#[derive(Clone, Copy)]
 pub enum Judged {
     Sound {
         song: u32,
@@ -84,7 +86,7 @@ pub enum Judged {
 
 // A tone that was judged where it stands, through its own end octet: the place behind it, and what a message that was judged
 // has; or the refusal.
-#[derive(Drop)]
+#[derive(Clone, Copy)]
 pub enum Whole {
     Ended {
         next: BitPlace,
@@ -118,7 +120,7 @@ impl Cut {
 }
 
 // Instructions that were gone over: the place behind them, and how many of them are notes or pauses.
-#[derive(Drop)]
+#[derive(Clone, Copy)]
 pub struct Gone {
     pub at: BitPlace,
     pub notes: u32,
@@ -142,7 +144,7 @@ fn go_over(msg: &[u8], at: BitPlace, n: u32) -> Gone
 }
 
 // A part's own notes, as wished, and where the wish has cut so far.
-#[derive(Drop)]
+#[derive(Clone, Copy)]
 pub struct Own {
     pub notes: u32,
     pub cut: Cut,

@@ -1,3 +1,5 @@
+#![tactic(auto)]
+
 ghost use Rattle.std.specs.Prelude.{◌≡◌, ◌+◌, ◌^◌, ◌≤◌, ◌<◌, length};
 ghost use Rattle.bits.specs.Bits.{place_after};
 ghost use Rattle.bits.specs.Lent.{over};
@@ -9,7 +11,7 @@ use bits::{BitPlace, OctetCount};
 use tone_judge::Judged;
 
 // What reading a message answers.
-#[derive(Drop)]
+#[derive(Clone, Copy)]
 pub enum Reading {
     Read {
         song: u32,

@@ -1,3 +1,5 @@
+#![tactic(auto)]
+
 // Whether a tone is well formed that lies among other octets, told as fast as can be and with no word on what is wrong with it.
 // The kinds of instructions come in an order that the processor cannot foresee, so none is told by a branch: the bits are turned
 // round, so that the kind of the next one stands where a shift wants it, and faults are looked up.
@@ -18,7 +20,7 @@ use tone_elements::Step;
 
 // Instructions that were told: the bits, turned so that the next one's kind is in place; widths, added up in the lowest octet; and
 // the marks that were met, put together.
-#[derive(Drop)]
+#[derive(Clone, Copy)]
 struct Told {
     bits: u64,
     widths: u64,
@@ -114,7 +116,7 @@ fn few(x: u64, n: u32, met: u8, marks: &[u8; 512]) -> Told
 // ---- a body
 
 // What instructions take up: their bits, and whether each is one of the table.
-#[derive(Drop)]
+#[derive(Clone, Copy)]
 struct Span {
     bits: usize,
     sure: bool,
@@ -142,7 +144,7 @@ fn some(whole: &[u8], at: BitPlace, n: u32, marks: &[u8; 512]) -> Span
 }
 
 // Where one has come to among instructions: the place, how many are left, and whether all up to there are surely of the table.
-#[derive(Drop)]
+#[derive(Clone, Copy)]
 struct Way {
     at: BitPlace,
     left: u32,
@@ -248,7 +250,7 @@ fn body(whole: &[u8], at: BitPlace, n: u32, marks: &[u8; 512]) -> Way
 // ---- the front
 
 // Where the patterns of a tone begin, and how many there are; none where no front stands.
-#[derive(Drop)]
+#[derive(Clone, Copy)]
 struct Start {
     at: BitPlace,
     count: u32,
@@ -262,7 +264,7 @@ fn no_start(at: BitPlace) -> Start
 }
 
 // A command: UNICODE or not, how many bits it has, and whether it is surely one.
-#[derive(Drop)]
+#[derive(Clone, Copy)]
 struct Command {
     unicode: bool,
     bits: u32,

@@ -1,17 +1,19 @@
+#![tactic(auto)]
+
 ghost use Rattle.std.specs.Prelude.{◌≡◌, ◌+◌, ◌^◌, ◌≤◌, length, drop, ltb};
 ghost use Rattle.bits.specs.Choice.{pick};
 ghost use Rattle.tone_table.specs.Judging.{entry_fine, judge_table};
 ghost use Rattle.tone_table.specs.Answers.{entry_length, header_length, instruction_length, body_length, weighed_of, judged_of, at_most};
 
 // Entries that were judged: how many bits they take, or the refusal's number.
-#[derive(Drop)]
+#[derive(Clone, Copy)]
 pub enum Weighed {
     Bits { bits: u32 },
     Fault { number: u32 },
 }
 
 // A table that was judged: how many patterns it has and how many bits it takes, or the refusal's number.
-#[derive(Drop)]
+#[derive(Clone, Copy)]
 pub enum Judged {
     Sound { patterns: u32, bits: usize },
     Faulty { number: u32 },

@@ -1,3 +1,5 @@
+#![tactic(auto)]
+
 // Instructions told without a branch. In new messages the processor cannot foresee which kind comes next, and each time that
 // it is wrong costs more than telling four of them. So widths and faults are looked up in packed numbers by the kind.
 ghost use Rattle.std.specs.Prelude.{◌≡◌, ◌+◌, ◌≤◌, get_or};
@@ -5,7 +7,7 @@ ghost use Rattle.tone_tell.specs.Telling.{bits_on, note_on, fault_on, fault_rows
 ghost use Rattle.tone_tell.specs.Answers.{ToldOf, NotesAlone, Sure};
 
 // What was told: what is left on top, and the bits, the notes and the faults of the instructions that were taken away.
-#[derive(Drop)]
+#[derive(Clone, Copy)]
 pub struct Told {
     pub rest: u64,
     pub bits: u32,

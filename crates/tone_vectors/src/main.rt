@@ -1,3 +1,5 @@
+#![tactic(auto)]
+
 // Runs the cases of reading and writing a tone, and prints a line for each call. What it must print was worked out from
 // the rules by other means.
 //
@@ -23,7 +25,7 @@ use tone_read::Reading;
 use tone_write::Writing;
 
 // How many octets and cells are in hand.
-#[derive(Drop)]
+#[derive(Clone, Copy)]
 struct InHand {
     octets: usize,
     cells: usize,

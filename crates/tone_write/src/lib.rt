@@ -1,3 +1,5 @@
+#![tactic(auto)]
+
 ghost use Rattle.std.specs.Prelude.{◌≡◌, true, ◌++◌, ◌+◌, ◌*◌, ◌^◌, ◌≤◌, ◌<◌, length};
 ghost use Rattle.bits.specs.Choice.{pick};
 ghost use Rattle.bits.specs.Bits.{bits_n, bits_of, place_after};
@@ -18,7 +20,7 @@ use tone_elements::Characters;
 use tone_table::Judged;
 
 // What writing a tone answers.
-#[derive(Drop)]
+#[derive(Clone, Copy)]
 pub enum Writing {
     Written { octets: OctetCount },
     Refused { number: u32, place: BitPlace },

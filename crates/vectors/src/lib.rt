@@ -1,10 +1,12 @@
+#![tactic(auto)]
+
 // What the programs of vectors share: printing numbers, octets and cells, and taking apart the lines of text that give the
 // cases of most.
 ghost use Rattle.std.specs.Prelude.{◌<◌, ◌≤◌, length};
 ghost use Rattle.io.specs.Counts.{IsPrefixLen};
 
 // A number of the text, and where the next word starts.
-#[derive(Drop)]
+#[derive(Clone, Copy)]
 pub struct Parsed {
     pub value: u64,
     pub next: usize,
@@ -12,7 +14,7 @@ pub struct Parsed {
 
 // Which octets are changed in turn: so many from a place on. What they are changed by, and where the name of the case starts
 // in its line.
-#[derive(Drop)]
+#[derive(Clone, Copy)]
 pub struct Changes {
     pub from: usize,
     pub octets: usize,

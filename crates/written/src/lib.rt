@@ -1,3 +1,5 @@
+#![tactic(auto)]
+
 // What a call that fills a lent buffer with octets answers, in Rattle and across the C border.
 ghost use Rattle.std.specs.Prelude.{◌≡◌};
 ghost use Rattle.written.specs.Written.{numbers, answer_as};
@@ -5,7 +7,7 @@ ghost use Rattle.written.specs.Written.{numbers, answer_as};
 use bits::{BitPlace, OctetCount};
 
 // The octets written, or the refusal's number and place.
-#[derive(Drop)]
+#[derive(Clone, Copy)]
 pub enum Writing {
     Written { octets: OctetCount },
     Refused { number: u32, place: BitPlace },
@@ -13,7 +15,7 @@ pub enum Writing {
 
 // The same by numbers alone.
 #[repr(C)]
-#[derive(Drop)]
+#[derive(Clone, Copy)]
 pub struct WrittenAnswer {
     pub refusal: u32,
     pub place: usize,
