@@ -1,5 +1,3 @@
-pub mod ByHand
-pub mod Thin
 pub mod Overs
 pub mod Cuts
 pub mod Wishing

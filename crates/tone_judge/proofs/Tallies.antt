@@ -3,7 +3,7 @@ use Prim.Native.Nat.{ℕ, suc, ◌+◌, ◌-◌, ◌*◌, ◌≤◌, ◌<◌}
 use native.Mathlib.Omega.{arith}
 use native.Mathlib.Nat.{add-zero, zero-add, add_assoc, le_trans}
 use mathlib.Core.Path.{◌≡◌, refl, sym, ap, ap₂, subst, ◌∙◌}
-use mathlib.Core.Logic.{◌⊎◌, ⊎_elim}
+use mathlib.Core.Logic.{◌⊎◌, ⊎_elim, inl, inr}
 use mathlib.Core.Bool.{Bool, true, false}
 use mathlib.Core.List.{List, [], ◌∷◌}
 use lib.ListN.{length, get_or, set, replicate, length-append}
@@ -410,8 +410,11 @@ module _ {w : Wish} {named : ℕ} {m : List ℕ} {n at : ℕ} {parts : List Part
                     ∙ ap₂ (λ (x : Count) (z : List Bool). tally_as (summed w named (left - 1) f'.0 o.cut (t + (1 + specifier v)) x after) (patterns_due (left - 1) z (bits_of m) f'.0)) (sym j') l;
               }
 
--- one fact beside another, as each way out of a test has them
-pub beside : {A B : Type 0} → A → B → A × B
-beside a b = (a, b)
+-- a part that is no recall is kept, and a recall's stays, as each way out of the test has it
+pub kept_part : {parts : List Part} (v : ℕ) (part : Part) {now : List Part} → (specifier v ≡ 0 → ⊥) → now ≡ set parts (part_of v) part → Kept parts v part now
+kept_part v part n e = inl (n, e)
+
+pub kept_recall : {parts : List Part} (v : ℕ) (part : Part) {now : List Part} → specifier v ≡ 0 → now ≡ parts → Kept parts v part now
+kept_recall v part z e = inr (z, e)
 
 pub ruleset tallies = (tally_begins, tally_done, tally_within, tally_counts, tally_fits, tally_bad, tally_part, tally_unknown, tally_notes, tally_on)
