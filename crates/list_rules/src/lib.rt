@@ -73,6 +73,7 @@ impl Settings {
 
 // The beats a minute of a tempo code, table 3.7-11 of 000. It is a `match`, since the compiler makes read-only data of one; a
 // constant array is laid out on the stack at each use.
+#[tactic(auto, unfolding(crate::specs::Duration::beats))]
 pub fn beats(tempo: u32) -> u32
     requires { tempo ≤ 31 }
     ensures { result ≡ beatsOf tempo }
@@ -116,6 +117,7 @@ pub fn beats(tempo: u32) -> u32
 
 // The units of a note, a sheet of 24: for each note length of 000 (3.7-7), plain, dotted, double dotted and 2/3 (3.7-8). An
 // entry's number is the duration code times 4, plus the specifier: the last five bits of a note. It is a `match`, as `beats` is.
+#[tactic(auto, using(crate::proofs::Durations::on_sheet), unfolding(crate::specs::Duration::units))]
 pub fn units(duration: u32, specifier: u32) -> u32
     requires { (duration ≤ 5) × (specifier ≤ 3) }
     ensures { result ≡ units_of duration specifier }

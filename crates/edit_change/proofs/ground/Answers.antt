@@ -3,7 +3,6 @@ use borrow.Author.Rules.{rules}
 use Rattle.edit_change.proofs.Grounds.{grounds}
 use Rattle.edit_change.proofs.ground.Goals as goal
 
--- `edit_change::ground` meets its contract.
 pub returns-then-n-lt1 : goal.returns-then-n-lt1
 returns-then-n-lt1 c = search (grounds, rules)
 

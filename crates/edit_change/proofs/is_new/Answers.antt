@@ -3,7 +3,6 @@ use borrow.Author.Rules.{rules}
 use Rattle.edit_change.proofs.Pieces.{news}
 use Rattle.edit_change.proofs.is_new.Goals as goal
 
--- `edit_change::is_new` meets its contract.
 pub returns-then-kind-lt1 : goal.returns-then-kind-lt1
 returns-then-kind-lt1 c = search (news, rules)
 

@@ -3,7 +3,6 @@ use borrow.Author.Rules.{rules}
 use Rattle.edit_change.proofs.Pieces.{pieces}
 use Rattle.edit_change.proofs.piece_of.Goals as goal
 
--- `edit_change::piece_of` meets its contract.
 pub width-w-requires : goal.width-w-requires
 width-w-requires c = search (pieces, rules)
 

@@ -3,7 +3,6 @@ use borrow.Author.Rules.{rules}
 use Rattle.bits.proofs.Choice.{tests}
 use Rattle.list_count.proofs.part_after.Goals as goal
 
--- `list_count::part_after` meets its contract.
 pub returns-then-header-eq0 : goal.returns-then-header-eq0
 returns-then-header-eq0 c = search (tests, rules)
 

@@ -3,7 +3,6 @@ use borrow.Author.Rules.{rules}
 use Rattle.list_rules.specs.Sounding.{unpacked}
 use Rattle.list_rules.proofs.entry_of.Goals as goal
 
--- `list_rules::entry_of` meets its contract.
 pub returns : goal.returns
 unfolding unpacked
 returns c = search rules

@@ -3,7 +3,6 @@ use borrow.Author.Rules.{rules}
 use Rattle.tone_elements.proofs.Titles.{alls}
 use Rattle.tone_elements.proofs.all_allowed.Goals as goal
 
--- `tone_elements::all_allowed` meets its contract.
 pub returns-then-n-eq0 : goal.returns-then-n-eq0
 returns-then-n-eq0 c = search (alls, rules)
 

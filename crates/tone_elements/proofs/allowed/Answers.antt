@@ -3,7 +3,6 @@ use Rattle.bits.proofs.Choice.{tests}
 use Rattle.tone.specs.Table.{allowed}
 use Rattle.tone_elements.proofs.allowed.Goals as goal
 
--- `tone_elements::allowed` meets its contract.
 pub returns-then-payload-le12 : goal.returns-then-payload-le12
 unfolding allowed
 returns-then-payload-le12 c = search tests

@@ -3,7 +3,6 @@ use borrow.Author.Rules.{rules}
 use Rattle.tone_elements.proofs.Titles.{characters}
 use Rattle.tone_elements.proofs.allowed_character.Goals as goal
 
--- `tone_elements::allowed_character` meets its contract.
 pub returns-then-c-le31 : goal.returns-then-c-le31
 returns-then-c-le31 c = search (characters, rules)
 

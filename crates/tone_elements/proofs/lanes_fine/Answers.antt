@@ -3,7 +3,6 @@ use borrow.Author.Rules.{rules}
 use Rattle.tone_elements.proofs.Titles.{holding}
 use Rattle.tone_elements.proofs.lanes_fine.Goals as goal
 
--- `tone_elements::lanes_fine` meets its contract.
 pub overflow_add-result : goal.overflow_add-result
 overflow_add-result c = search (holding, rules)
 

@@ -3,7 +3,6 @@ use borrow.Author.Rules.{rules}
 use Rattle.bits.proofs.Choice.{tests}
 use Rattle.tone_elements.proofs.note_in.Goals as goal
 
--- `tone_elements::note_in` meets its contract.
 pub returns-then-cell-eq1 : goal.returns-then-cell-eq1
 returns-then-cell-eq1 c = search (tests, rules)
 

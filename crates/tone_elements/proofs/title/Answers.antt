@@ -3,7 +3,6 @@ use borrow.Author.Rules.{rules}
 use Rattle.tone_elements.proofs.Openings.{titles}
 use Rattle.tone_elements.proofs.title.Goals as goal
 
--- `tone_elements::title` meets its contract.
 pub returns-then-song-ne1 : goal.returns-then-song-ne1
 returns-then-song-ne1 c = search (titles, rules)
 

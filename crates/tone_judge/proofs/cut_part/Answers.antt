@@ -4,7 +4,6 @@ use native.Mathlib.Omega.{arith}
 use Rattle.tone_judge.proofs.Cuts.{cut_position, cut_ahead, cut_taken, cut_most, cut_least, cut_done, cuts}
 use Rattle.tone_judge.proofs.cut_part.Goals as goal
 
--- `tone_judge::cut_part` meets its contract.
 pub overflow_cast-cell : goal.overflow_cast-cell
 overflow_cast-cell c = search (cuts, rules)
 

@@ -3,7 +3,6 @@ use borrow.Author.Rules.{rules}
 use Rattle.tone_judge.proofs.Judgements.{judgements}
 use Rattle.tone_judge.proofs.judge_for.Goals as goal
 
--- `tone_judge::judge_for` meets its contract.
 pub returns-then-msg-gt4096 : goal.returns-then-msg-gt4096
 returns-then-msg-gt4096 c = search (judgements, rules)
 

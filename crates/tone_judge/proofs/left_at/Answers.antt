@@ -3,7 +3,6 @@ use borrow.Author.Rules.{rules}
 use Rattle.bits.proofs.Choice.{tests}
 use Rattle.tone_judge.proofs.left_at.Goals as goal
 
--- `tone_judge::left_at` meets its contract.
 pub overflow_cast-result : goal.overflow_cast-result
 overflow_cast-result c = search (tests, rules)
 

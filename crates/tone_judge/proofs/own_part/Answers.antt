@@ -3,7 +3,6 @@ use borrow.Author.Rules.{rules}
 use Rattle.tone_judge.proofs.Cuts.{owns}
 use Rattle.tone_judge.proofs.own_part.Goals as goal
 
--- `tone_judge::own_part` meets its contract.
 pub cut_part-requires : goal.cut_part-requires
 cut_part-requires c = search (owns, rules)
 

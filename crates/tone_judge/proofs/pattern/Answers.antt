@@ -3,7 +3,6 @@ use borrow.Author.Rules.{rules}
 use Rattle.tone_judge.proofs.Tallies.{singles}
 use Rattle.tone_judge.proofs.pattern.Goals as goal
 
--- `tone_judge::pattern` meets its contract.
 pub header-requires : goal.header-requires
 header-requires c = search (singles, rules)
 

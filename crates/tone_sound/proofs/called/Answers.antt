@@ -3,7 +3,6 @@ use borrow.Author.Rules.{rules}
 use Rattle.tone_sound.proofs.Fronting.{fronting}
 use Rattle.tone_sound.proofs.called.Goals as goal
 
--- `tone_sound::called` meets its contract.
 pub returns-then-x-eq75037 : goal.returns-then-x-eq75037
 returns-then-x-eq75037 c = search (fronting, rules)
 

@@ -4,7 +4,6 @@ use Rattle.tone_sound.specs.Turning.{mark_of}
 use Rattle.tone_sound.proofs.Marking.{marks_are}
 use Rattle.tone_sound.proofs.marks.Goals as goal
 
--- `tone_sound::marks` meets its contract: the row is tested as a whole.
 pub returns : goal.returns
 unfolding mark_of
 returns c = marks_are refl

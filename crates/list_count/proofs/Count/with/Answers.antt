@@ -4,7 +4,6 @@ use Rattle.list_count.proofs.Counts.{notes_times, counts}
 use native.Mathlib.Omega.{arith}
 use Rattle.list_count.proofs.Count.with.Goals as goal
 
--- `Count::with` meets its contract.
 pub returns-then-self : goal.returns-then-self
 returns-then-self c = search (counts, rules)
 

@@ -3,7 +3,6 @@ use Rattle.bits.proofs.Choice.{tests}
 use Rattle.list_rules.specs.Sounding.{applied}
 use Rattle.list_rules.proofs.Settings.applied.Goals as goal
 
--- `Settings::applied` meets its contract: the tests of the code are those of the rule.
 pub returns-then-kind-eq2 : goal.returns-then-kind-eq2
 unfolding applied
 returns-then-kind-eq2 c = search tests

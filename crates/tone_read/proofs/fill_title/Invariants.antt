@@ -1,0 +1,11 @@
+-- `tone_read::fill_title` meets its contract.
+use Prim.Native.Nat.{◌-◌}
+use Rattle.tone_read.specs.Judging.{title_of}
+use Rattle.tone_read.proofs.Filling.{TitleFill}
+use Rattle.tone_read.proofs.fill_title.Given as goal
+
+abbrev pub invariant-loop-i : goal.invariant-loop-i
+invariant-loop-i l = TitleFill l.msg (title_of l.msg) l.n l.initial.title l.title l.place.0 l.i
+
+abbrev pub decreases-loop-i : goal.decreases-loop-i
+decreases-loop-i l = l.n - l.i
