@@ -8,7 +8,11 @@ ghost use Rattle.std.specs.Prelude.{◌≡◌, ◌≤◌, length};
 ghost use Rattle.play.specs.Coming.{Grows, Inside};
 
 use bits::OctetCount;
-use libc::{STDERR_FILENO, STDIN_FILENO, STDOUT_FILENO};
+use std::io::Read;
+
+const STDOUT: i32 = 1;
+
+const STDERR: i32 = 2;
 
 // What one read of standard input gave: some octets, its end, or that it cannot be read.
 #[derive(Clone, Copy)]
@@ -26,29 +30,25 @@ enum Input {
 }
 
 // Reads a piece behind the octets that came before.
-fn read_piece(buf: &mut [u8], at: OctetCount) -> Piece
+fn read_piece(input: &mut impl Read, buf: &mut [u8], at: OctetCount) -> Piece
     requires { at.0 ≤ length buf.old }
     ensures { (length buf.new ≡ length buf.old) × Grows result at.0 (length buf.old) }
 {
     let i = at.0;
-    let got = libc::read(STDIN_FILENO, &mut buf[i..]);
-    if got < 0 {
-        return Piece::Failed;
+    match input.read(&mut buf[i..]) {
+        Ok(0) => Piece::End,
+        Ok(n) => Piece::Some(OctetCount(n)),
+        Err(_) => Piece::Failed,
     }
-    let n = io::count(got, &buf[i..]);
-    if n == 0 {
-        return Piece::End;
-    }
-    Piece::Some(OctetCount(n))
 }
 
 // Reads to the end of the input or of the buffer, in as many pieces as come.
-fn read_input(buf: &mut [u8]) -> Input
+fn read_input(input: &mut impl Read, buf: &mut [u8]) -> Input
     ensures { (length buf.new ≡ length buf.old) × Inside result (length buf.old) }
 {
     let mut at = 0;
     while at < buf.len() {
-        match read_piece(buf, OctetCount(at)) {
+        match read_piece(input, buf, OctetCount(at)) {
             Piece::Some(n) => at += n.0,
             Piece::End => return Input::Octets(OctetCount(at)),
             Piece::Failed => return Input::Unreadable,
@@ -61,9 +61,9 @@ fn read_input(buf: &mut [u8]) -> Input
 fn write_text(text: &[u8], n: OctetCount)
     requires { n.0 ≤ length text.now }
 {
-    let all = io::write_all(STDOUT_FILENO, &text[..n.0]);
+    let all = io::write_all(STDOUT, &text[..n.0]);
     if !all {
-        io::write_all(STDERR_FILENO, b"play: standard output cannot be written\n");
+        io::write_all(STDERR, b"play: standard output cannot be written\n");
     }
 }
 
@@ -79,12 +79,12 @@ fn show(buf: &[u8], n: OctetCount)
 }
 
 // One octet more than a message may have is enough to refuse it.
-fn main() {
+fn main(rt: HostRuntime) {
     let mut msg = [0u8; 4097];
-    match read_input(&mut msg) {
+    match read_input(&mut rt.stdin(), &mut msg) {
         Input::Octets(n) => show(&msg, n),
         Input::Unreadable => {
-            io::write_all(STDERR_FILENO, b"play: standard input cannot be read\n");
+            io::write_all(STDERR, b"play: standard input cannot be read\n");
         }
     }
 }
