@@ -82,15 +82,15 @@ pub ruleset reads = (octet_fits, read_long, read_inside, read_small, read_refuse
 
 -- ---- `image`
 
-pub image_accepted : (m : Bor (List ℕ)) (γ : ℕ) {n : ℕ} → n ≡ refusal_of (reading m.now) → n ≡ 0
-    → ImagePromise m (record { ref_ptr = (m.ref_ptr.0, 4 + m.ref_ptr.1); ghost_name = γ; now = take (length m.now - 4) (drop 4 m.now) })
-image_accepted m γ e z =
+pub image_accepted : (m : Bor (List ℕ)) {n : ℕ} → n ≡ refusal_of (reading m.now) → n ≡ 0
+    → ImagePromise m (record { ref_ptr = (m.ref_ptr.0, 4 + m.ref_ptr.1); now = take (length m.now - 4) (drop 4 m.now) })
+image_accepted m e z =
     let q = (cleared m.now e z).reads in
     record { octets = rw q (rest 4 m.now); block = refl; start = rw q (add_comm 4 m.ref_ptr.1) }
 
-pub image_refused : (m : Bor (List ℕ)) (γ : ℕ) {n : ℕ} → n ≡ refusal_of (reading m.now) → (n ≡ 0 → ⊥)
-    → ImagePromise m (record { ref_ptr = (m.ref_ptr.0, 0 + m.ref_ptr.1); ghost_name = γ; now = take (0 - 0) (drop 0 m.now) })
-image_refused m γ e k =
+pub image_refused : (m : Bor (List ℕ)) {n : ℕ} → n ≡ refusal_of (reading m.now) → (n ≡ 0 → ⊥)
+    → ImagePromise m (record { ref_ptr = (m.ref_ptr.0, 0 + m.ref_ptr.1); now = take (0 - 0) (drop 0 m.now) })
+image_refused m e k =
     let q = refused_reading m.now e k in
     record { octets = rw q refl; block = refl; start = rw q (add_comm 0 m.ref_ptr.1) }
 

@@ -194,9 +194,9 @@ module _ (kind : Kind) (f : Field) (m : List ℕ) {n start : ℕ} {s : Stretch} 
 pub field_header : (kind : Kind) (m : List ℕ) {n start : ℕ} → n ≡ refusal_of (reading kind m) → n ≡ 0 → start ≡ start_of kind m → start + 4 ≤ length m
 field_header kind m e z h = let a = (by_case kind m (reading_is kind m) (sym e ∙ z)).1 in omega (arith, h, a.long)
 
-handed_back : (kind : Kind) (f : Field) (m : Bor (List ℕ)) (γ : ℕ) (g : Graphic) (s : Stretch) → Accepted kind m.now g → s ≡ stretch_of kind f g
-    → FieldPromise kind f m (record { ref_ptr = (m.ref_ptr.0, s.start.0 + m.ref_ptr.1); ghost_name = γ; now = take (s.start.0 + s.length.0 - s.start.0) (drop s.start.0 m.now) })
-handed_back kind f m γ g s a t =
+handed_back : (kind : Kind) (f : Field) (m : Bor (List ℕ)) (g : Graphic) (s : Stretch) → Accepted kind m.now g → s ≡ stretch_of kind f g
+    → FieldPromise kind f m (record { ref_ptr = (m.ref_ptr.0, s.start.0 + m.ref_ptr.1); now = take (s.start.0 + s.length.0 - s.start.0) (drop s.start.0 m.now) })
+handed_back kind f m g s a t =
     let q = is_accepted kind m.now g a in
     let i : s.start.0 + s.length.0 - s.start.0 ≡ s.length.0 = omega arith in
     record {
@@ -205,18 +205,18 @@ handed_back kind f m γ g s a t =
       start = rw (q, t) (add_comm (field_start kind f g) m.ref_ptr.1);
     }
 
-pub field_accepted : (kind : Kind) (f : Field) (m : Bor (List ℕ)) (γ : ℕ) {n start : ℕ} {s : Stretch} {fs : Fields} → n ≡ refusal_of (reading kind m.now) → n ≡ 0
+pub field_accepted : (kind : Kind) (f : Field) (m : Bor (List ℕ)) {n start : ℕ} {s : Stretch} {fs : Fields} → n ≡ refusal_of (reading kind m.now) → n ≡ 0
     → start ≡ start_of kind m.now → fs ≡ fields_at kind start (length m.now) → s ≡ one_of f fs
-    → FieldPromise kind f m (record { ref_ptr = (m.ref_ptr.0, s.start.0 + m.ref_ptr.1); ghost_name = γ; now = take (s.start.0 + s.length.0 - s.start.0) (drop s.start.0 m.now) })
-field_accepted kind f m γ {s = s} e z h k l =
+    → FieldPromise kind f m (record { ref_ptr = (m.ref_ptr.0, s.start.0 + m.ref_ptr.1); now = take (s.start.0 + s.length.0 - s.start.0) (drop s.start.0 m.now) })
+field_accepted kind f m {s = s} e z h k l =
     let x = found kind f m.now e z h k l in
-    handed_back kind f m γ x.0 s x.1 (told kind f m.now e z h k l)
+    handed_back kind f m x.0 s x.1 (told kind f m.now e z h k l)
 
-pub field_refused : (kind : Kind) (f : Field) (m : Bor (List ℕ)) (γ : ℕ) {n : ℕ} → n ≡ refusal_of (reading kind m.now) → (n ≡ 0 → ⊥)
-    → FieldPromise kind f m (record { ref_ptr = (m.ref_ptr.0, 0 + m.ref_ptr.1); ghost_name = γ; now = take (0 - 0) (drop 0 m.now) })
-field_refused kind f m γ e k = go (reading kind m.now) refl
+pub field_refused : (kind : Kind) (f : Field) (m : Bor (List ℕ)) {n : ℕ} → n ≡ refusal_of (reading kind m.now) → (n ≡ 0 → ⊥)
+    → FieldPromise kind f m (record { ref_ptr = (m.ref_ptr.0, 0 + m.ref_ptr.1); now = take (0 - 0) (drop 0 m.now) })
+field_refused kind f m e k = go (reading kind m.now) refl
   where
-    go : (o : Outcome Graphic) → reading kind m.now ≡ o → FieldPromise kind f m (record { ref_ptr = (m.ref_ptr.0, 0 + m.ref_ptr.1); ghost_name = γ; now = take (0 - 0) (drop 0 m.now) })
+    go : (o : Outcome Graphic) → reading kind m.now ≡ o → FieldPromise kind f m (record { ref_ptr = (m.ref_ptr.0, 0 + m.ref_ptr.1); now = take (0 - 0) (drop 0 m.now) })
     go (accepted g) q = absurd (k (e ∙ ap refusal_of q))
     go (refused i j) q = record { octets = rw q refl; block = refl; start = rw q (add_comm 0 m.ref_ptr.1) }
 

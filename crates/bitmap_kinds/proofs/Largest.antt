@@ -1,5 +1,5 @@
 -- How large the largest bitmap of each kind is.
-use Prim.Native.Nat.{ℕ, ◌+◌, ◌≤◌}
+use Prim.Native.Nat.{◌+◌, ◌≤◌}
 use native.Mathlib.Omega.{arith}
 use mathlib.Core.Path.{◌≡◌}
 use lib.ListN.{length, length-append}
@@ -11,12 +11,7 @@ use Rattle.bitmap_ahead.specs.declared.Kind.TheVariants.{Plain, Icon, Logo}
 use Rattle.bitmap_ahead.specs.Ahead.{Ahead, WellFormed as WellFormedAhead, ahead_octets}
 use Rattle.bitmap_ahead.proofs.Dates.{date_short}
 use Rattle.bitmap_kinds.specs.Kinds.{Graphic, WellFormed, writing}
-
--- the octets of the largest of a kind: a bitmap's 7,909, and ahead of them none, an icon's version, or a logo's 23 with a date of 16
-abbrev pub most_octets : Kind → ℕ
-most_octets Plain = 7909
-most_octets Icon = 7910
-most_octets Logo = 7932
+pub use Rattle.bitmap_kinds.proofs.MostOctets.{most_octets}
 
 -- the part ahead leaves room for the largest bitmap
 ahead_most : (kind : Kind) (a : Ahead) → WellFormedAhead kind a → length (ahead_octets kind a) + 7909 ≤ most_octets kind

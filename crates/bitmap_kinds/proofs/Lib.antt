@@ -1,4 +1,5 @@
 pub mod Rules
+pub mod MostOctets
 pub mod Largest
 pub mod Stretches
 pub mod Exits

@@ -87,7 +87,7 @@ module _ (title standIn : Bor (List ℕ)) {unicode : Bool} {s : Supplier} (p : S
       let h : n.0 ≤ length title.now = rw (supplies_title p e).1 (left_inside (per_character unicode) title.now) in
       sym (length-take-le n.0 title.now h)
 
-  pub label_title : {g : ℕ} → s ≡ Title n → LabelPromise title unicode standIn (record { ref_ptr = title.ref_ptr; ghost_name = g; now = take n.0 title.now })
+  pub label_title : s ≡ Title n → LabelPromise title unicode standIn (record { ref_ptr = title.ref_ptr; now = take n.0 title.now })
   unfolding label_of
   label_title e =
       let h = supplies_title p e in
