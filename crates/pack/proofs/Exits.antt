@@ -187,15 +187,15 @@ module _ (p : Bor (List ℕ)) (n : ℕ) {x : Finding} (q : FindPromise p.now n x
     pub message_fits : Fits w64 (s.0 + l.0)
     message_fits = record { fits = omega (arith, message_ends, row_short p.now n row_there) }
 
-    pub message_found : (γ : ℕ) → MessagePromise p n (record { ref_ptr = (p.ref_ptr.0, s.0 + p.ref_ptr.1); ghost_name = γ; now = take (s.0 + l.0 - s.0) (drop s.0 p.now) })
-    message_found γ =
+    pub message_found : MessagePromise p n (record { ref_ptr = (p.ref_ptr.0, s.0 + p.ref_ptr.1); now = take (s.0 + l.0 - s.0) (drop s.0 p.now) })
+    message_found =
         let i : s.0 + l.0 - s.0 ≡ l.0 = omega arith in
         record { octets = rw (row_there, i) refl; block = refl; start = rw row_there (add_comm s.0 p.ref_ptr.1) }
 
-  pub message_none : {k : ℕ} {f : BitPlace} → x ≡ Missing k f → (γ : ℕ) → MessagePromise p n (record { ref_ptr = (p.ref_ptr.0, 0 + p.ref_ptr.1); ghost_name = γ; now = take (0 - 0) (drop 0 p.now) })
-  message_none {k} {f} g γ = go (nth_row p.now n) refl (sym g ∙ q.answer)
+  pub message_none : {k : ℕ} {f : BitPlace} → x ≡ Missing k f → MessagePromise p n (record { ref_ptr = (p.ref_ptr.0, 0 + p.ref_ptr.1); now = take (0 - 0) (drop 0 p.now) })
+  message_none {k} {f} g = go (nth_row p.now n) refl (sym g ∙ q.answer)
     where
-      go : (o : Outcome Row) → nth_row p.now n ≡ o → Missing k f ≡ find_answer o → MessagePromise p n (record { ref_ptr = (p.ref_ptr.0, 0 + p.ref_ptr.1); ghost_name = γ; now = take (0 - 0) (drop 0 p.now) })
+      go : (o : Outcome Row) → nth_row p.now n ≡ o → Missing k f ≡ find_answer o → MessagePromise p n (record { ref_ptr = (p.ref_ptr.0, 0 + p.ref_ptr.1); now = take (0 - 0) (drop 0 p.now) })
       go (accepted r) y e = let z : ◌≡◌ {A = ℕ} 0 1 = cc in absurd (omega arith)
       go (refused k' f') y e = record { octets = rw y refl; block = refl; start = rw y (add_comm 0 p.ref_ptr.1) }
 

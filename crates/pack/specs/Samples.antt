@@ -1,5 +1,5 @@
 -- Samples of packs, as claims about the rules.
-use Rattle.std.specs.Prelude.{ℕ, ◌≡◌, List, [], ◌∷◌, ◌++◌, length, take}
+use Rattle.std.specs.Prelude.{ℕ, ◌≡◌, List, [], ◌∷◌, ◌++◌, take}
 use Rattle.bits.specs.Outcome.{accepted, refused}
 use Rattle.pack.specs.Pack.{most_pack, pack_octets, rows_from, read_pack, nth_row, write_pack}
 use Rattle.pack.specs.Promises.{read_numbers, find_numbers, stretch_of}

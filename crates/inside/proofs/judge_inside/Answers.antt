@@ -1,0 +1,16 @@
+-- `inside::judge_inside` meets its contract.
+use borrow.Author.Rules.{rules}
+use Rattle.inside.proofs.Moving.{insides}
+use Rattle.inside.proofs.judge_inside.Goals as goal
+
+pub returns-then-from-to : goal.returns-then-from-to
+returns-then-from-to c = search (insides, rules)
+
+pub moved-requires : goal.moved-requires
+moved-requires c = search (insides, rules)
+
+pub returns-in-Sound : goal.returns-in-Sound
+returns-in-Sound c = search (insides, rules)
+
+pub returns-in-Faulty : goal.returns-in-Faulty
+returns-in-Faulty c = search (insides, rules)
