@@ -2,7 +2,7 @@
 use Rattle.std.specs.Prelude.{ℕ, ◌≤◌, ◌<◌, ◌≡◌, List, [], ◌∷◌, ◌++◌, length, take}
 use Rattle.bits.specs.Outcome.{accepted, refused}
 use Rattle.tone.specs.Reading.{tone_at}
-use Rattle.pack.specs.Samples.{p1, p3, messages, pack}
+use Rattle.pack.specs.Samples.{p1, p3, pack}
 use Rattle.salvage.specs.Salvage.{counting, message_at, Salvaged, into_room, salvage}
 use Rattle.salvage.specs.Promises.{salvage_numbers}
 
