@@ -1,0 +1,10 @@
+-- `pack_vectors::read_fronts` meets its contract. The octets left fall.
+use Prim.Native.Nat.{◌-◌}
+use lib.ListN.{length}
+use Rattle.pack_vectors.proofs.read_fronts.Given as goal
+
+abbrev pub invariant-loop-n : goal.invariant-loop-n
+invariant-loop-n l = Unit {0}
+
+abbrev pub decreases-loop-n : goal.decreases-loop-n
+decreases-loop-n l = length l.pack - l.n
