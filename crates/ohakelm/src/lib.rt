@@ -73,8 +73,7 @@ pub struct EditAnswer {
 // ---- the version
 
 // The version of the library, 0.10.0.
-#[unsafe(no_mangle)]
-pub extern "C" fn ohakelm_version() -> u32
+pub fn ohakelm_version() -> u32
     ensures { VersionExport result }
 {
     1000
@@ -83,8 +82,7 @@ pub extern "C" fn ohakelm_version() -> u32
 // ---- tones
 
 // Reads a tone message into a lent table and a lent title.
-#[unsafe(no_mangle)]
-pub extern "C" fn ohakelm_read(msg: &[u8], table: &mut [u32], title: &mut [u8]) -> ToneAnswer
+pub fn ohakelm_read(msg: &[u8], table: &mut [u32], title: &mut [u8]) -> ToneAnswer
     ensures { ReadExport msg.now table.old title.old table.new title.new result }
 {
     match tone_read::read(msg, table, title) {
@@ -116,8 +114,7 @@ pub extern "C" fn ohakelm_read(msg: &[u8], table: &mut [u32], title: &mut [u8]) 
 }
 
 // Writes a tone message from a song type, a title and a table.
-#[unsafe(no_mangle)]
-pub extern "C" fn ohakelm_write(
+pub fn ohakelm_write(
     song: u32,
     unicode: bool,
     title: &[u8],
@@ -141,8 +138,7 @@ pub extern "C" fn ohakelm_write(
 }
 
 // Finds the label for the screen: which buffer supplies it, and which stretch of that buffer it is.
-#[unsafe(no_mangle)]
-pub extern "C" fn ohakelm_label(title: &[u8], unicode: bool, stand_in: &[u8]) -> LabelAnswer
+pub fn ohakelm_label(title: &[u8], unicode: bool, stand_in: &[u8]) -> LabelAnswer
     ensures { LabelExport title.now unicode stand_in.now result }
 {
     match label::supplied(title, unicode, stand_in) {
@@ -180,16 +176,14 @@ fn list_answer(listed: Listed) -> ListAnswer
 }
 
 // Makes the playing list of a tone message, three cells an entry.
-#[unsafe(no_mangle)]
-pub extern "C" fn ohakelm_list(msg: &[u8], list: &mut [u32]) -> ListAnswer
+pub fn ohakelm_list(msg: &[u8], list: &mut [u32]) -> ListAnswer
     ensures { ListExport msg.now list.old list.new result }
 {
     list_answer(list::list(msg, list))
 }
 
 // Makes the playing list in both forms: three cells an entry, and one record an entry.
-#[unsafe(no_mangle)]
-pub extern "C" fn ohakelm_rows(msg: &[u8], list: &mut [u32], rows: &mut [Entry]) -> ListAnswer
+pub fn ohakelm_rows(msg: &[u8], list: &mut [u32], rows: &mut [Entry]) -> ListAnswer
     ensures { RowsExport msg.now list.old rows.old list.new rows.new result }
 {
     list_answer(list::rows(msg, list, rows))
@@ -241,8 +235,7 @@ fn edited(
 }
 
 // Puts another instruction in an instruction's place.
-#[unsafe(no_mangle)]
-pub extern "C" fn ohakelm_replace(
+pub fn ohakelm_replace(
     buf: &mut [u8],
     used: usize,
     pattern: usize,
@@ -263,8 +256,7 @@ pub extern "C" fn ohakelm_replace(
 }
 
 // Inserts an instruction before another one, or behind the last.
-#[unsafe(no_mangle)]
-pub extern "C" fn ohakelm_insert(
+pub fn ohakelm_insert(
     buf: &mut [u8],
     used: usize,
     pattern: usize,
@@ -285,8 +277,7 @@ pub extern "C" fn ohakelm_insert(
 }
 
 // Deletes an instruction.
-#[unsafe(no_mangle)]
-pub extern "C" fn ohakelm_delete(
+pub fn ohakelm_delete(
     buf: &mut [u8],
     used: usize,
     pattern: usize,
@@ -308,8 +299,7 @@ pub extern "C" fn ohakelm_delete(
 // ---- bitmaps
 
 // Reads a bitmap: its sizes, its black pixels and the stretch of the message that is the image.
-#[unsafe(no_mangle)]
-pub extern "C" fn ohakelm_bitmap_read(msg: &[u8]) -> BitmapAnswer
+pub fn ohakelm_bitmap_read(msg: &[u8]) -> BitmapAnswer
     ensures { BitmapReadExport msg.now result }
 {
     match bitmap::read(msg) {
@@ -357,13 +347,7 @@ fn written_answer(answer: bitmap::Writing) -> WrittenAnswer
 }
 
 // Writes a bitmap from its sizes and its image.
-#[unsafe(no_mangle)]
-pub extern "C" fn ohakelm_bitmap_write(
-    width: u32,
-    height: u32,
-    image: &[u8],
-    out: &mut [u8],
-) -> WrittenAnswer
+pub fn ohakelm_bitmap_write(width: u32, height: u32, image: &[u8], out: &mut [u8]) -> WrittenAnswer
     ensures { BitmapWriteExport width height image.now out.old out.new result }
 {
     written_answer(bitmap::write(width, height, image, out))
@@ -372,21 +356,14 @@ pub extern "C" fn ohakelm_bitmap_write(
 // ---- icons and logos
 
 // Reads a CLI icon: its sizes, its black pixels and the stretch of the message that is the image.
-#[unsafe(no_mangle)]
-pub extern "C" fn ohakelm_icon_read(msg: &[u8]) -> BitmapAnswer
+pub fn ohakelm_icon_read(msg: &[u8]) -> BitmapAnswer
     ensures { IconReadExport msg.now result }
 {
     bitmap_answers::read_icon(msg)
 }
 
 // Writes a CLI icon from its sizes and its image. It says nothing ahead.
-#[unsafe(no_mangle)]
-pub extern "C" fn ohakelm_icon_write(
-    width: u32,
-    height: u32,
-    image: &[u8],
-    out: &mut [u8],
-) -> WrittenAnswer
+pub fn ohakelm_icon_write(width: u32, height: u32, image: &[u8], out: &mut [u8]) -> WrittenAnswer
     ensures { KindWriteExport Icon nothing width height image.now out.old out.new result }
 {
     let none = &image[0..0];
@@ -394,16 +371,14 @@ pub extern "C" fn ohakelm_icon_write(
 }
 
 // Reads an operator logo: as an icon, and the stretches that are its two network codes and its date.
-#[unsafe(no_mangle)]
-pub extern "C" fn ohakelm_logo_read(msg: &[u8]) -> LogoAnswer
+pub fn ohakelm_logo_read(msg: &[u8]) -> LogoAnswer
     ensures { LogoReadExport msg.now result }
 {
     bitmap_answers::read_logo(msg)
 }
 
 // Writes an operator logo from its codes, its date, its sizes and its image.
-#[unsafe(no_mangle)]
-pub extern "C" fn ohakelm_logo_write(
+pub fn ohakelm_logo_write(
     mcc: &[u8],
     mnc: &[u8],
     date: &[u8],
@@ -420,36 +395,28 @@ pub extern "C" fn ohakelm_logo_write(
 // ---- packs
 
 // Reads a pack: how many messages it has.
-#[unsafe(no_mangle)]
-pub extern "C" fn ohakelm_pack_read(pack: &[u8]) -> PackAnswer
+pub fn ohakelm_pack_read(pack: &[u8]) -> PackAnswer
     ensures { PackReadExport pack.now result }
 {
     pack_answers::read_pack(pack)
 }
 
 // Finds a message of a pack, counted from 0: the stretch of the pack that it is.
-#[unsafe(no_mangle)]
-pub extern "C" fn ohakelm_pack_message(pack: &[u8], n: u32) -> StretchAnswer
+pub fn ohakelm_pack_message(pack: &[u8], n: u32) -> StretchAnswer
     ensures { PackMessageExport pack.now n result }
 {
     pack_answers::find_message(pack, n)
 }
 
 // Writes a pack of messages that lie back to back, with a row of their lengths.
-#[unsafe(no_mangle)]
-pub extern "C" fn ohakelm_pack_write(msgs: &[u8], lengths: &[u32], out: &mut [u8]) -> WrittenAnswer
+pub fn ohakelm_pack_write(msgs: &[u8], lengths: &[u32], out: &mut [u8]) -> WrittenAnswer
     ensures { PackWriteExport msgs.now lengths.now out.old out.new result }
 {
     pack_answers::write_pack(msgs, lengths, out)
 }
 
 // Gets the tones out of a broken pack: a new pack of the messages that are kept, and a report.
-#[unsafe(no_mangle)]
-pub extern "C" fn ohakelm_pack_salvage(
-    pack: &[u8],
-    out: &mut [u8],
-    report: &mut [u32],
-) -> SalvageAnswer
+pub fn ohakelm_pack_salvage(pack: &[u8], out: &mut [u8], report: &mut [u32]) -> SalvageAnswer
     ensures { PackSalvageExport pack.now out.old report.old out.new report.new result }
 {
     pack_answers::salvage_pack(pack, out, report)
