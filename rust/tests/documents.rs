@@ -34,6 +34,7 @@ const OTHER_WORDS: [(&str, &[&str]); 6] = [
     (
         "the toolchain",
         &[
+            "rattle-kit-13f logic dac8208d650f15bf",
             "rattle-kit-5b-plain logic 097e4c862dff5811",
             "rattle-kit-5b logic 064da1ca440f63e7",
         ],
@@ -279,18 +280,16 @@ fn files_cited(files: Vec<String>) -> BTreeSet<String> {
 }
 
 /// The file of specs/ that a file has a name from, and its name there: `use
-/// Rattle·CRATE.specs.FILE.{NAME, NAME as NAME}`, in its own crate with `·specs`
-/// behind the crate. The types of the code are declared there too, and are no
-/// files.
+/// Rattle.CRATE.specs.FILE.{NAME, NAME as NAME}`. The types of the code are
+/// declared there too, and are no files.
 fn used_as(text: &str, name: &str) -> Option<(String, String)> {
     text.lines().find_map(|line| {
-        let (from, behind) = line.strip_prefix("use Rattle·")?.split_once(".specs.")?;
+        let (from, behind) = line.strip_prefix("use Rattle.")?.split_once(".specs.")?;
         let (path, names) = behind.trim_end_matches('}').split_once(".{")?;
         let mut pairs = names
             .split(", ")
             .map(|it| it.split_once(" as ").unwrap_or((it, it)));
         let (there, _) = pairs.find(|(_, here)| *here == name)?;
-        let from = from.trim_end_matches("·specs");
         let file = format!("crates/{from}/specs/{}.antt", path.replace('.', "/"));
         root(&file).exists().then(|| (file, there.to_string()))
     })

@@ -95,7 +95,7 @@ pub fn files_below(folder: &str) -> Vec<String> {
         .partition(|path| root(path).is_dir());
     for folder in folders
         .iter()
-        .filter(|folder| last_part(folder) != "target")
+        .filter(|folder| !["target", "out"].contains(&last_part(folder)))
     {
         files.extend(files_below(folder));
     }
@@ -233,7 +233,9 @@ pub fn signature(crate_name: &str, function: &str) -> Option<Signature> {
 
 /// The exports, as the crate has them.
 pub fn exports() -> BTreeSet<String> {
-    let source = text("crates/ohakelm/src/lib.rt");
-    let exports = source.split("#[no_mangle]\npub extern \"C\" fn ").skip(1);
+    let source = text("crates/ohakelm_c/src/lib.rt");
+    let exports = source
+        .split("#[unsafe(no_mangle)]\npub extern \"C\" fn ")
+        .skip(1);
     exports.map(front_of).collect()
 }
