@@ -2,7 +2,7 @@
 # Builds target/fuzz/ohakelm_fuzz, in the repository's root. It needs clang with
 # libFuzzer (Debian: clang, libclang-rt-dev), cargo, and the archive of this
 # machine's processor: target/aarch64 on 64-bit Arm, else target/staticlib. Both
-# are made by link/archives, the second also by `rt staticlib ohakelm`.
+# are made by link/archives.
 # OHAKELM_LIB_DIR names another folder for the archive.
 set -eu
 cd "$(dirname "$0")/.."

@@ -1,7 +1,7 @@
 //! Links the proved static library.
 //!
-//! `link/archives` and, for x86-64 alone, `rt staticlib ohakelm` write it below
-//! `../target`. The variable `OHAKELM_LIB_DIR` names another folder.
+//! `link/archives` writes it below `../target`. The variable `OHAKELM_LIB_DIR`
+//! names another folder.
 
 use std::env;
 use std::path::{Path, PathBuf};
@@ -14,9 +14,8 @@ fn main() {
     println!("cargo:rerun-if-changed={}", archive.display());
     if !archive.is_file() {
         eprintln!("There is no library at {}.", archive.display());
-        eprintln!("Make it with `link/archives` in the repository's root, on x86-64 also");
-        eprintln!("with `rt staticlib ohakelm`, or set OHAKELM_LIB_DIR to the folder");
-        eprintln!("that holds libohakelm.a.");
+        eprintln!("Make it with `link/archives` in the repository's root, or set");
+        eprintln!("OHAKELM_LIB_DIR to the folder that holds libohakelm.a.");
         exit(1);
     }
     println!("cargo:rustc-link-search=native={}", folder.display());
