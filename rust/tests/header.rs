@@ -39,16 +39,16 @@ fn number(digits: &str) -> usize {
 
 /// A room's name in the header and in the proof, and its number in the package.
 const ROOMS: [(&str, &str, usize); 10] = [
-    ("TITLE", "titleRoom", ohakelm::LARGEST_TITLE),
-    ("TABLE", "tableRoom", ohakelm::LARGEST_TABLE),
-    ("TONE", "toneRoom", ohakelm::LARGEST_TONE),
-    ("ROWS", "entriesRoom", ohakelm::LARGEST_ROWS),
-    ("LIST", "listRoom", ohakelm::LARGEST_LIST),
-    ("BITMAP", "bitmapRoom", ohakelm::LARGEST_BITMAP),
-    ("ICON", "iconRoom", ohakelm::LARGEST_ICON),
-    ("LOGO", "logoRoom", ohakelm::LARGEST_LOGO),
-    ("PACK", "packRoom", ohakelm::LARGEST_PACK),
-    ("REPORT", "reportRoom", ohakelm::LARGEST_REPORT),
+    ("TITLE", "title_room", ohakelm::LARGEST_TITLE),
+    ("TABLE", "table_room", ohakelm::LARGEST_TABLE),
+    ("TONE", "tone_room", ohakelm::LARGEST_TONE),
+    ("ROWS", "entries_room", ohakelm::LARGEST_ROWS),
+    ("LIST", "list_room", ohakelm::LARGEST_LIST),
+    ("BITMAP", "bitmap_room", ohakelm::LARGEST_BITMAP),
+    ("ICON", "icon_room", ohakelm::LARGEST_ICON),
+    ("LOGO", "logo_room", ohakelm::LARGEST_LOGO),
+    ("PACK", "pack_room", ohakelm::LARGEST_PACK),
+    ("REPORT", "report_room", ohakelm::LARGEST_REPORT),
 ];
 
 #[test]
@@ -94,7 +94,7 @@ fn product(words: &str, known: &[(String, usize)]) -> Option<usize> {
 #[test]
 fn the_rooms_are_those_of_the_proof() {
     let proved = proved();
-    let rooms = proved.iter().filter(|(name, _)| name.ends_with("Room"));
+    let rooms = proved.iter().filter(|(name, _)| name.ends_with("_room"));
     let rooms = rooms.map(|(name, room)| (&name[..], *room));
     let package = ROOMS.map(|(_, name, room)| (name, room));
     assert_eq!(rooms.collect::<Vec<_>>(), package);
@@ -104,7 +104,7 @@ fn the_rooms_are_those_of_the_proof() {
 fn an_entry_takes_three_cells() {
     assert_eq!(ohakelm::ENTRY_CELLS, 3, "package");
     assert_eq!(number(&value("OHAKELM_ENTRY_CELLS")), 3, "header");
-    let cells = proved().into_iter().find(|it| it.0 == "entryCells");
+    let cells = proved().into_iter().find(|it| it.0 == "entry_cells");
     assert_eq!(cells.map(|it| it.1), Some(3), "proof");
 }
 
