@@ -1,6 +1,6 @@
 -- No drift: counted from the last restart, the boundaries of entries are the exact sums rounded down, and each duration is the difference of
 -- two boundaries.
-use Prim.Native.Nat.{ℕ, ◌+◌, ◌-◌, ◌*◌, ◌/◌, ◌%◌, ◌≤◌, ◌<◌}
+use Prim.Native.Nat.{ℕ, ◌+◌, ◌-◌, ◌*◌, ◌/◌, ◌%◌, ◌<◌}
 use native.Mathlib.Omega.{arith}
 use native.Mathlib.Nat.{add-mul, add-mul-div_right, div-mul-le_self, div-lt_iff_lt-mul, div-add-mod'}
 use mathlib.Core.Path.{◌≡◌, refl, sym, ap, ap₂, ◌∙◌}
@@ -15,6 +15,8 @@ use Rattle.list_rules.specs.Sounding.{State, units_of, beats_at, following, soun
 use Rattle.list_rules.specs.Playing.{step, pass}
 use Rattle.list_rules.proofs.Restarts.{note_leaves, others_carry, applied_tempo}
 use Rattle.list_rules.proofs.Settling.{either}
+pub use Rattle.list_rules.proofs.OnTime.{OnTime}
+pub use Rattle.list_rules.proofs.Steady.{Steady}
 
 -- ---- a boundary
 
@@ -22,20 +24,10 @@ use Rattle.list_rules.proofs.Settling.{either}
 abbrev pub boundary : ℕ → ℕ → ℕ
 boundary b u = u * 625000 / b
 
--- a boundary of so many units is never late, and less than one microsecond early
-pub record OnTime (b at u : ℕ) : Type 0 where
-  pub never_late : at * b ≤ u * 625000
-  pub less_than_one_early : u * 625000 < (at + 1) * b
-
 pub boundary_on_time : (b u : ℕ) → 0 < b → OnTime b (boundary b u) u
 boundary_on_time b u h = record { never_late = div-mul-le_self (u * 625000) b; less_than_one_early = (div-lt_iff_lt-mul h).0 (omega arith) }
 
 -- ---- a span
-
--- no tempo instruction: nothing restarts in it
-abbrev pub Steady : List ℕ → Type 0
-Steady [] = Unit {0}
-Steady (e ∷ b) = (kind e ≡ 4 → ⊥) × Steady b
 
 -- the units of each note and pause in turn
 abbrev pub units_in : List ℕ → List ℕ

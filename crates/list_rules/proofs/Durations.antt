@@ -1,59 +1,18 @@
 -- No duration is longer than 16.8 seconds, and units are whole.
 use Prim.Native.Nat.{ℕ, ◌+◌, ◌-◌, ◌*◌, ◌/◌, ◌%◌, ◌^◌, ◌≤◌, ◌<◌}
 use native.Mathlib.Omega.{arith}
-use native.Mathlib.Nat.{eq-zero-or-pos, add-zero, add-mul, mul-add, mul_assoc, mul_comm, mul-le-mul, lt_of_le_of_lt, mod-lt, mod-eq-sub-div-mul, div-le_self, div-le_of_le-mul, div-mul-le_self, div-eq_of_lt, div-lt_iff_lt-mul, div-add-mod', mul-add-div, mul-div-mul_right, div-div-eq-div-mul}
+use native.Mathlib.Nat.{mul-le-mul, mod-lt, mod-eq-sub-div-mul, div-le_of_le-mul, div-mul-le_self}
 use mathlib.Core.Path.{◌≡◌, refl, sym, ap, ap₂, ◌∙◌}
-use mathlib.Core.Logic.{⊎_elim}
-use lib.ListN.{get_or-eq_default}
-use lib.Dec.{leb, eqb, lit<}
 use mir.Val.{Fits}
 use mir.Syntax.{w32, w64}
-use borrow.Author.Tests.{leb-true}
-use Rattle.bits.proofs.Choice.{pick_elim}
 use Rattle.tone.specs.Table.{duration_of, specifier_of}
-use Rattle.list_rules.specs.Duration.{tempos, beats, plain_units, units, microseconds, left_over}
+use Rattle.list_rules.specs.Duration.{beats, plain_units, units, microseconds, left_over}
 use Rattle.list_rules.specs.Tempo.{inverse_of, Timed}
-use Rattle.bits.proofs.Below.{at_each, same_each}
+use Rattle.bits.proofs.Below.{same_each}
+pub use Rattle.list_rules.proofs.LongestDuration.{slowest, fastest, plain_most, units_most, longest_duration}
+pub use Rattle.list_rules.proofs.InverseExact.{inverse_exact}
 
 -- ---- bounds
-
--- no tempo is slower than 25 beats a minute
-pub slowest : (tempo : ℕ) → tempo < 32 → 25 ≤ beats tempo
-unfolding beats
-slowest tempo h = leb-true 25 (beats tempo) (at_each (λ k. leb 25 (beats k)) 32 refl tempo h)
-
--- a number that has beats is a tempo code
-beats_known : (tempo : ℕ) → 0 < beats tempo → tempo < 32
-unfolding beats
-beats_known tempo h = ⊎_elim (λ e. absurd (omega (arith, h, get_or-eq_default tempos 0 {n = tempo} (omega (arith, e))))) (λ l. omega (arith, l)) (eq-zero-or-pos (32 - tempo))
-
--- no tempo is faster than 900
-pub fastest : (tempo : ℕ) → beats tempo ≤ 900
-unfolding beats
-fastest tempo = ⊎_elim (λ e. omega (arith, e)) (λ h. leb-true (beats tempo) 900 (at_each (λ k. leb (beats k) 900) 32 refl tempo (beats_known tempo h))) (eq-zero-or-pos (beats tempo))
-
--- a full note is the longest plain one
-pub plain_most : (d : ℕ) → plain_units d ≤ 384
-plain_most d = div-le_self 384 (2 ^ d)
-
--- no note has more units than a full one, double dotted
-pub units_most : (d s : ℕ) → units d s ≤ 672
-unfolding units
-units_most d s =
-    let h = plain_most d in
-    pick_elim (λ (n : ℕ). n ≤ 672) (eqb s 1) (λ _. omega arith) (λ _.
-    pick_elim (λ (n : ℕ). n ≤ 672) (eqb s 2) (λ _. omega arith) (λ _.
-    pick_elim (λ (n : ℕ). n ≤ 672) (eqb s 3) (λ _. omega arith) (λ _. omega arith)))
-
--- no duration exceeds 16,800,000 microseconds, whatever fraction below the beats is left over from before it
-pub longest_duration : (d s tempo fraction : ℕ) → fraction < beats tempo → microseconds fraction (units d s) (beats tempo) ≤ 16800000
-unfolding microseconds
-longest_duration d s tempo fraction h =
-    let some : 0 < beats tempo = omega arith in
-    let u = units_most d s in
-    let b = slowest tempo (beats_known tempo some) in
-    let l : (fraction + units d s * 625000) / beats tempo < 16800001 = (div-lt_iff_lt-mul some).1 (omega arith) in
-    omega arith
 
 -- so every duration fits 32 bits
 pub duration_fits : (d s tempo fraction : ℕ) → fraction < beats tempo → microseconds fraction (units d s) (beats tempo) < 2 ^ 32
@@ -121,24 +80,6 @@ module _ {b tempo : ℕ} (e : b ≡ beats tempo) (h : tempo ≤ 31) where
 -- one over the slowest beats is the most
 pub inverse_most : (b : ℕ) → 25 ≤ b → inverse_of b ≤ 21990232557
 inverse_most b h = let l : 549755813888 / b ≤ 21990232556 = div-le_of_le-mul b (omega arith) in omega arith
-
-rounded_up : (q k b n : ℕ) → q * b + k ≡ n → k < b → (q + 1) * b ≡ n + (b - k)
-rounded_up q k b n e h = add-mul q 1 b ∙ omega arith
-
--- the product with one over the beats is the quotient: what that is too large by does not add up to one
-pub inverse_exact : (n b : ℕ) → n ≤ 420000899 → 25 ≤ b → b ≤ 900 → n * inverse_of b / 2 ^ 39 ≡ n / b
-inverse_exact n b most low high =
-    let one : ℕ = 549755813888 in
-    let some : 0 < b = omega arith in
-    let r : ℕ = b - one % b in
-    let up : inverse_of b * b ≡ one + r = rounded_up (one / b) (one % b) b one (div-add-mod' one b) (mod-lt one some) in
-    let whole : n * inverse_of b * b ≡ one * n + n * r =
-    mul_assoc n (inverse_of b) b ∙ ap (λ (x : ℕ). n * x) up ∙ mul-add n one r ∙ ap (λ (x : ℕ). x + n * r) (mul_comm n one) in
-    let short : r ≤ 900 = omega arith in
-    let small : n * r < one = lt_of_le_of_lt (mul-le-mul most short) (lit< tt) in
-    sym (mul-div-mul_right (n * inverse_of b) one some) ∙ ap (λ (x : ℕ). x / (one * b)) whole
-    ∙ sym (div-div-eq-div-mul (one * n + n * r) one b)
-    ∙ ap (λ (x : ℕ). x / b) (mul-add-div (lit< tt) n (n * r) ∙ ap (λ (x : ℕ). n + x) (div-eq_of_lt small) ∙ add-zero n)
 
 pub inverse_fits : {b : ℕ} → 25 ≤ b → Fits w64 (549755813888 / b + 1)
 inverse_fits {b} h = let p = inverse_most b h in record { fits = omega arith }

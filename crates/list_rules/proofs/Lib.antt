@@ -1,3 +1,5 @@
+pub mod LongestDuration
+pub mod InverseExact
 pub mod Durations
 pub mod Restarts
 pub mod Joining
@@ -11,6 +13,8 @@ pub mod Bounds
 pub mod Order
 pub mod Packing
 pub mod Settling
+pub mod OnTime
+pub mod Steady
 pub mod Boundaries
 pub mod Endless
 pub mod Spans
