@@ -7,3 +7,4 @@ pub mod Lanes
 pub mod Looking
 pub mod Putting
 pub mod Filled
+pub mod Refusals

@@ -3,5 +3,6 @@ pub mod Choice
 pub mod Lent
 pub mod Outcome
 pub mod Places
+pub mod Refusals
 pub mod Sink
 pub mod Window

@@ -5,8 +5,12 @@ ghost use Rattle.bits.specs.Bits.{bits_n, bits_of, num, field, place_after, octe
 ghost use Rattle.bits.specs.Window.{four, eight, Look, Sight, Sights};
 ghost use Rattle.bits.specs.Sink.{written, InHand, Stored, Put, Sealed};
 
+mod refusal;
+
+pub use refusal::{Ground, Refusal};
+
 // A place in a message: how many bits stand ahead of it.
-#[derive(Clone, Copy)]
+#[derive(Clone, Copy, PartialEq, Eq)]
 pub struct BitPlace(pub usize);
 
 // A number of whole octets.
