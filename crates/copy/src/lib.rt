@@ -30,50 +30,26 @@ fn by_way(src: &[u8], row: &mut [u8], dst: &mut [u8])
     singly(row, dst);
 }
 
-// Copies the block of 2,048 octets behind so many to the same place.
-fn block(src: &[u8], dst: &mut [u8], at: OctetCount)
-    requires { (at.0 + 2048 ≤ length src.now) × (length src.now ≤ length dst.old) }
-    ensures { Copied src.now dst.old dst.new at.0 (at.0 + 2048) }
+// Copies the row of `N` octets behind so many to the same place.
+fn row<const N: usize>(src: &[u8], dst: &mut [u8], at: OctetCount)
+    requires { (at.0 + N ≤ length src.now) × (length src.now ≤ length dst.old) }
+    ensures { Copied src.now dst.old dst.new at.0 (at.0 + N) }
 {
-    let mut row = [0u8; 2048];
+    let mut row = [0u8; N];
     let i = at.0;
-    let end = i + 2048;
+    let end = i + N;
     by_way(&src[i..end], &mut row, &mut dst[i..]);
 }
 
-// Copies the row of 64 octets behind so many to the same place.
-fn short_row(src: &[u8], dst: &mut [u8], at: OctetCount)
-    requires { (at.0 + 64 ≤ length src.now) × (length src.now ≤ length dst.old) }
-    ensures { Copied src.now dst.old dst.new at.0 (at.0 + 64) }
-{
-    let mut row = [0u8; 64];
-    let i = at.0;
-    let end = i + 64;
-    by_way(&src[i..end], &mut row, &mut dst[i..]);
-}
-
-// Copies as many whole blocks as there are, and answers their octets.
-fn blocks(src: &[u8], dst: &mut [u8]) -> OctetCount
-    requires { length src.now ≤ length dst.old }
-    ensures { Copied src.now dst.old dst.new 0 result.0 }
-{
-    let mut i = 0;
-    while 2048 <= src.len() - i {
-        block(src, dst, OctetCount(i));
-        i += 2048;
-    }
-    OctetCount(i)
-}
-
-// Goes on by rows, and answers where they end: fewer than 64 octets are left.
-fn rows(src: &[u8], dst: &mut [u8], from: OctetCount) -> OctetCount
-    requires { (from.0 ≤ length src.now) × (length src.now ≤ length dst.old) }
-    ensures { Copied src.now dst.old dst.new from.0 result.0 × (length src.now < result.0 + 64) }
+// Goes on by rows of `N` octets, and answers where they end: fewer than `N` are left.
+fn rows<const N: usize>(src: &[u8], dst: &mut [u8], from: OctetCount) -> OctetCount
+    requires { (0 < N) × (from.0 ≤ length src.now) × (length src.now ≤ length dst.old) }
+    ensures { Copied src.now dst.old dst.new from.0 result.0 × (length src.now < result.0 + N) }
 {
     let mut i = from.0;
-    while 64 <= src.len() - i {
-        short_row(src, dst, OctetCount(i));
-        i += 64;
+    while N <= src.len() - i {
+        row::<N>(src, dst, OctetCount(i));
+        i += N;
     }
     OctetCount(i)
 }
@@ -87,8 +63,8 @@ pub fn copy(src: &[u8], dst: &mut [u8])
         singly(src, dst);
         return;
     }
-    let whole = blocks(src, dst);
-    rows(src, dst, whole);
+    let whole = rows::<2048>(src, dst, OctetCount(0));
+    rows::<64>(src, dst, whole);
     let last = src.len() - 64;
-    short_row(src, dst, OctetCount(last));
+    row::<64>(src, dst, OctetCount(last));
 }

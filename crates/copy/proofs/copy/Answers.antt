@@ -4,4 +4,4 @@ use Rattle.copy.proofs.copy.Goals as goal
 
 pub returns : goal.returns
 returns c =
-    all_copied c.args.src.now c.args.dst.now c.if-src-lt64.false c.requires c.blocks-whole.ensures c.rows.ensures c.short_row.ensures
+    all_copied c.args.src.now c.args.dst.now c.if-src-lt64.false c.requires c.rows-whole.ensures.0 c.rows.ensures c.row.ensures

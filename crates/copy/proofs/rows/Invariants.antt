@@ -5,7 +5,7 @@ use Rattle.copy.proofs.Copies.{Going}
 use Rattle.copy.proofs.rows.Given as goal
 
 abbrev pub invariant-loop-i : goal.invariant-loop-i
-invariant-loop-i l = Going l.src l.initial.dst l.dst l.initial.i l.i
+invariant-loop-i g l = Going l.src l.initial.dst l.dst l.initial.i l.i
 
 abbrev pub decreases-loop-i : goal.decreases-loop-i
-decreases-loop-i l = length l.src - l.i
+decreases-loop-i g l = length l.src - l.i

@@ -1,6 +1,5 @@
 -- `copy::singly` meets its contract. Each turn copies one octet more; the octets left fall.
 use borrow.Author.Rules.{rules}
-use Prim.Native.Nat.{◌-◌}
 use Rattle.copy.proofs.Copies.{copying}
 use Rattle.copy.proofs.singly.Goals as goal
 
