@@ -12,6 +12,7 @@ use lib.Dec.{eqb}
 use mir.Val.{Fits}
 use mir.Syntax.{w32}
 use borrow.Author.Tests.{eq-eqb, eqb-true}
+use Rattle.std.specs.Prelude.{Option, None, Some}
 use Rattle.bits.specs.Choice.{pick}
 use Rattle.bits.specs.Bits.{bits_of}
 use Rattle.bits.specs.declared.BitPlace.{BitPlace}
@@ -31,8 +32,6 @@ use Rattle.tone_elements.proofs.Steps.{step_there, step_good, step_bad}
 use Rattle.tone_elements.proofs.Walks.{stays, notes_most}
 use Rattle.edit_change.specs.Change.{with_body}
 use Rattle.list_count.specs.declared.Count.{Count}
-use Rattle.list_count.specs.declared.Part.{Part}
-use Rattle.list_count.specs.declared.Part.TheVariants.{Unknown, Known}
 use Rattle.tone_judge.specs.declared.Wish.{Wish}
 use Rattle.tone_judge.specs.declared.Cut.{Cut}
 use Rattle.tone_judge.specs.declared.Own.{Own}
@@ -224,18 +223,18 @@ pub ruleset singles = (pattern_unheaded, pattern_inside, pattern_bad, pattern_go
 -- ---- the four parts
 
 -- the part that sounds behind a header was put in its place by a definition; a recall has changed none
-abbrev Kept : List Part → ℕ → Part → List Part → Type 0
+abbrev Kept : List (Option ℕ) → ℕ → Option ℕ → List (Option ℕ) → Type 0
 Kept parts v part now = ((specifier v ≡ 0 → ⊥) × (now ≡ set parts (part_of v) part)) ⊎ ((specifier v ≡ 0) × (now ≡ parts))
 
 -- it stands there in either case
-kept_is : (parts : List Part) (v : ℕ) (own : Part) {part : Part} {now : List Part} → part ≡ sounding_part (get_or parts (part_of v) Unknown) v own → Kept parts v part now → now ≡ set parts (part_of v) part
+kept_is : (parts : List (Option ℕ)) (v : ℕ) (own : Option ℕ) {part : Option ℕ} {now : List (Option ℕ)} → part ≡ sounding_part (get_or parts (part_of v) None) v own → Kept parts v part now → now ≡ set parts (part_of v) part
 kept_is parts v own {part} {now} e told =
-    ⊎_elim (λ w. w.1) (λ w. w.1 ∙ sym (set-get_or parts (part_of v) Unknown) ∙ ap (set parts (part_of v)) (sym (e ∙ (rw (eq-eqb (specifier v) 0 w.0) refl)))) told
+    ⊎_elim (λ w. w.1) (λ w. w.1 ∙ sym (set-get_or parts (part_of v) None) ∙ ap (set parts (part_of v)) (sym (e ∙ (rw (eq-eqb (specifier v) 0 w.0) refl)))) told
 
 -- ---- the loop
 
 -- with `left` patterns to come at p, from the bodies that the parts stand for, the entries of the table, what is counted and where the wish has cut
-pub record TallyWalk (w : Wish) (named : ℕ) (m : List ℕ) (n at : ℕ) (parts : List Part) (p left t : ℕ) (c : Count) (k : Cut) : Type 0 where
+pub record TallyWalk (w : Wish) (named : ℕ) (m : List ℕ) (n at : ℕ) (parts : List (Option ℕ)) (p left t : ℕ) (c : Count) (k : Cut) : Type 0 where
   pub inside : Within m p
   pub few : n ≤ 255
   pub fewer : c.entries + 3825 * left ≤ 3825 * n
@@ -247,7 +246,7 @@ pub record TallyWalk (w : Wish) (named : ℕ) (m : List ℕ) (n at : ℕ) (parts
   pub noted : AllFor Noted parts bodies
   pub goes : tally_as (total_of w at) (patterns_due n none_known (bits_of m) at) ≡ tally_as (summed w named left p k t c bodies) (patterns_due left (known_of bodies) (bits_of m) p)
 
-pub tally_begins : (w : Wish) {named : ℕ} (m : List ℕ) (n at : ℕ) {c : Count} {k : Cut} → named ≡ left_at n w.pattern → Within m at → n ≤ 255 → c ≡ no_count → k ≡ no_cut → TallyWalk w named m n at (replicate 4 Unknown) at n 0 c k
+pub tally_begins : (w : Wish) {named : ℕ} (m : List ℕ) (n at : ℕ) {c : Count} {k : Cut} → named ≡ left_at n w.pattern → Within m at → n ≤ 255 → c ≡ no_count → k ≡ no_cut → TallyWalk w named m n at (replicate 4 None) at n 0 c k
 tally_begins w m n at q h few e f = record {
   inside = h;
   few = few;
@@ -261,14 +260,14 @@ tally_begins w m n at q h few e f = record {
   goes = rw (q, e, f) (sym (tally_cong (patterns_due n none_known (bits_of m) at) (λ ps p r. summed_all w at ps ((patterns_exact n none_known).sound (bits_of m) at (rw (length_bits_of m) h.inside) r).good.size)));
 }
 
-pub tally_done : {w : Wish} {named : ℕ} {m : List ℕ} {n at : ℕ} {parts : List Part} {left t : ℕ} {c : Count} {k : Cut} {q : BitPlace} {r : Total} → TallyWalk w named m n at parts q.0 left t c k → left ≤ 0 → r ≡ total_to q t c k
+pub tally_done : {w : Wish} {named : ℕ} {m : List ℕ} {n at : ℕ} {parts : List (Option ℕ)} {left t : ℕ} {c : Count} {k : Cut} {q : BitPlace} {r : Total} → TallyWalk w named m n at parts q.0 left t c k → left ≤ 0 → r ≡ total_to q t c k
     → Counted q r ≡ tally_as (total_of w at) (patterns_due n none_known (bits_of m) at)
 unfolding patterns_due
 tally_done {left = left} {t = t} {c = c} {k = k} {q = q} w h e₀ =
     let e : left ≡ 0 = omega arith in
     sym (w.goes ∙ (rw (e, e₀) (ap (Counted q) (resumed_none t c w.bodies (q.0 + 0) k w.unmarked ∙ ap (λ (x : ℕ). total_to (place x) t c k) (add-zero q.0)))))
 
-module _ {w : Wish} {named : ℕ} {m : List ℕ} {n at : ℕ} {parts : List Part} {p left t : ℕ} {c : Count} {k : Cut} (y : TallyWalk w named m n at parts p left t c k) where
+module _ {w : Wish} {named : ℕ} {m : List ℕ} {n at : ℕ} {parts : List (Option ℕ)} {p left t : ℕ} {c : Count} {k : Cut} (y : TallyWalk w named m n at parts p left t c k) where
   pub tally_within : Within m p
   tally_within = y.inside
 
@@ -327,7 +326,7 @@ module _ {w : Wish} {named : ℕ} {m : List ℕ} {n at : ℕ} {parts : List Part
         noted = single.noted ∙ (rw reads refl);
       }
 
-      module _ {o : Own} (u : Owned (eqb left named) w p v (body_in m (p + 17) (specifier v)) k o) {part : Part} (e : part ≡ sounding_part (get_or parts (part_of v) Unknown) v (Known o.notes)) where
+      module _ {o : Own} (u : Owned (eqb left named) w p v (body_in m (p + 17) (specifier v)) k o) {part : Option ℕ} (e : part ≡ sounding_part (get_or parts (part_of v) None) v (Some o.notes)) where
         wish : List ℕ
         wish = body_wished w named left b
 
@@ -349,26 +348,26 @@ module _ {w : Wish} {named : ℕ} {m : List ℕ} {n at : ℕ} {parts : List Part
         after : List Remembered
         after = remember y.bodies (pattern v wish)
 
-        part_is : part ≡ sounding_part (get_or parts (part_of v) Unknown) v (Known (notes wish))
-        part_is = e ∙ ap (λ (x : ℕ). sounding_part (get_or parts (part_of v) Unknown) v (Known x)) own_is.0
+        part_is : part ≡ sounding_part (get_or parts (part_of v) None) v (Some (notes wish))
+        part_is = e ∙ ap (λ (x : ℕ). sounding_part (get_or parts (part_of v) None) v (Some x)) own_is.0
 
         noted_after : AllFor Noted (set parts (part_of v) part) after
         unfolding after
-        noted_after = subst (λ (x : Part). AllFor Noted (set parts (part_of v) x) after) (sym part_is) (parts_kept Noted Unknown parts y.bodies v wish (Known (notes wish)) y.noted wish_length.0 refl)
+        noted_after = subst (λ (x : Option ℕ). AllFor Noted (set parts (part_of v) x) after) (sym part_is) (parts_kept Noted None parts y.bodies v wish (Some (notes wish)) y.noted wish_length.0 refl)
 
         sounding : Noted part (get_or after (part_of v) unknown)
         unfolding after
-        sounding = part_is ∙ part_sounds Noted Unknown parts y.bodies v wish (Known (notes wish)) y.noted wish_length.0 refl y.four
+        sounding = part_is ∙ part_sounds Noted None parts y.bodies v wish (Some (notes wish)) y.noted wish_length.0 refl y.four
 
         -- what sounds is known exactly where the header may recall it
         allowed : is_known (get_or after (part_of v) unknown) ≡ recallable (known_of y.bodies) v
         unfolding after
         allowed = known_sounding y.bodies v wish y.four wish_length.0
 
-        pub tally_unknown : part ≡ Unknown → Stopped (place (p + 3)) 7 ≡ tally_as (total_of w at) (patterns_due n none_known (bits_of m) at)
+        pub tally_unknown : part ≡ None → Stopped (place (p + 3)) 7 ≡ tally_as (total_of w at) (patterns_due n none_known (bits_of m) at)
         tally_unknown z = stopped (single_unknown (summed w named left p k t c y.bodies) (left - 1) (known_of y.bodies) (bits_of m) p single.header (sym allowed ∙ noted_unknown (get_or after (part_of v) unknown) sounding z))
 
-        module _ {heard : ℕ} (i : part ≡ Known heard) where
+        module _ {heard : ℕ} (i : part ≡ Some heard) where
           known_part : (is_known (get_or after (part_of v) unknown) ≡ true) × (heard ≡ notes (recalled (get_or after (part_of v) unknown)))
           known_part = noted_known (get_or after (part_of v) unknown) sounding i
 
@@ -385,7 +384,7 @@ module _ {w : Wish} {named : ℕ} {m : List ℕ} {n at : ℕ} {parts : List Part
               let z : header (pattern v b) ≡ v = header_pattern v b header_is.good.small size in
               omega (arith, ap (λ (x : ℕ). length (entry_bits x)) z, header_is.end, body_is.end)
 
-          pub tally_on : {c' : Count} {now : List Part} → c' ≡ counted c heard (loop_of v) → Kept parts v part now
+          pub tally_on : {c' : Count} {now : List (Option ℕ)} → c' ≡ counted c heard (loop_of v) → Kept parts v part now
               → TallyWalk w named m n at now f'.0 (left - 1) (t + (1 + specifier v)) c' o.cut
           unfolding after wish
           tally_on {c'} j told =
@@ -402,7 +401,7 @@ module _ {w : Wish} {named : ℕ} {m : List ℕ} {n at : ℕ} {parts : List Part
                 four = remember_length y.bodies (pattern v wish) ∙ y.four;
                 brief = each_kept Brief y.bodies y.brief (pattern v wish) wish_length.1;
                 unmarked = rw j (counted_unmarked c heard (loop_of v) y.unmarked);
-                noted = rw (kept_is parts v (Known o.notes) e told) noted_after;
+                noted = rw (kept_is parts v (Some o.notes) e told) noted_after;
                 goes = y.goes
                     ∙ tally_step w named p k t c y.bodies (known_of y.bodies) (bits_of m) one_less d single.reads
                     ∙ ap₂ (λ (x : ℕ) (z : Cut). tally_as (summed w named (left - 1) x z (t + (1 + length b)) (counted c (notes (body_of y.bodies (pattern v wish))) (loop_of v)) after) (patterns_due (left - 1) (learn (known_of y.bodies) v) (bits_of m) f'.0)) behind_part_lem (sym own_is.1)
@@ -411,10 +410,10 @@ module _ {w : Wish} {named : ℕ} {m : List ℕ} {n at : ℕ} {parts : List Part
               }
 
 -- a part that is no recall is kept, and a recall's stays, as each way out of the test has it
-pub kept_part : {parts : List Part} (v : ℕ) (part : Part) {now : List Part} → (specifier v ≡ 0 → ⊥) → now ≡ set parts (part_of v) part → Kept parts v part now
+pub kept_part : {parts : List (Option ℕ)} (v : ℕ) (part : Option ℕ) {now : List (Option ℕ)} → (specifier v ≡ 0 → ⊥) → now ≡ set parts (part_of v) part → Kept parts v part now
 kept_part v part n e = inl (n, e)
 
-pub kept_recall : {parts : List Part} (v : ℕ) (part : Part) {now : List Part} → specifier v ≡ 0 → now ≡ parts → Kept parts v part now
+pub kept_recall : {parts : List (Option ℕ)} (v : ℕ) (part : Option ℕ) {now : List (Option ℕ)} → specifier v ≡ 0 → now ≡ parts → Kept parts v part now
 kept_recall v part z e = inr (z, e)
 
 pub ruleset tallies = (tally_begins, tally_done, tally_within, tally_counts, tally_fits, tally_bad, tally_part, tally_unknown, tally_notes, tally_on)

@@ -11,7 +11,7 @@ ghost use Rattle.tone_judge.specs.Answers.{single_of, total_to, total_of, tally_
 
 use bits::{BitPlace, OctetCount};
 use edit_change::Edit;
-use list_count::{Count, Part};
+use list_count::Count;
 use tone_elements::{Opening, Step};
 
 // A message and the place reached in it.
@@ -255,7 +255,7 @@ fn patterns(msg: &[u8], at: BitPlace, n: u32, wish: Wish) -> Tally
     ensures { result ≡ tally_as (total_of wish at.0) (patterns_due n none_known (bits_of msg.now) at.0) }
 {
     let named = left_at(n, wish.pattern);
-    let mut parts = [Part::Unknown; 4];
+    let mut parts = [None; 4];
     let mut place = at;
     let mut left = n;
     let mut table: u32 = 0;
@@ -275,13 +275,13 @@ fn patterns(msg: &[u8], at: BitPlace, n: u32, wish: Wish) -> Tally
                     parts[id] = part;
                 }
                 match part {
-                    Part::Unknown => {
+                    None => {
                         return Tally::Stopped {
                             at: BitPlace(place.0 + 3),
                             number: 7,
                         };
                     }
-                    Part::Known { notes } => {
+                    Some(notes) => {
                         count = count.with(notes, cell / 256 % 16);
                     }
                 }

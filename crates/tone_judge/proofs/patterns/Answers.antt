@@ -55,11 +55,8 @@ enum_told-1 c = search (tallies, rules)
 pub overflow_add-result : goal.overflow_add-result
 overflow_add-result c = search (tallies, rules)
 
-pub returns-in-Unknown : goal.returns-in-Unknown
-returns-in-Unknown c = search (tallies, rules)
-
-pub enum_known-part : goal.enum_known-part
-enum_known-part c = search (tallies, rules)
+pub returns-in-None : goal.returns-in-None
+returns-in-None c = search (tallies, rules)
 
 pub with-count-requires : goal.with-count-requires
 with-count-requires c = (search (tally_counts, rules), search (tally_notes, rules), search rules)
