@@ -4,15 +4,20 @@ use native.Mathlib.Omega.{arith}
 use mathlib.Core.Path.{◌≡◌, refl, sym, ap, ◌∙◌}
 use mathlib.Core.List.{List}
 use lib.ListN.{length}
+use Rattle.std.specs.Prelude.{Ok, Err}
 use Rattle.bits.specs.Lent.{over}
 use Rattle.bits.specs.Outcome.{Outcome, accepted, refused}
-use Rattle.bits.specs.Places.{place, octet_count}
-use Rattle.bits.specs.declared.BitPlace.{BitPlace}
+use Rattle.bits.specs.Places.{octet_count}
+use Rattle.bits.specs.Refusals.{number_of, refusal}
+use Rattle.bits.proofs.Refusals.{grounded}
 use Rattle.bits.specs.declared.OctetCount.{OctetCount}
-use Rattle.written.specs.declared.Writing.{Writing}
-use Rattle.written.specs.declared.Writing.TheVariants.{Written, Refused}
+use Rattle.bits.specs.declared.refusal.Refusal.{Refusal}
 use Rattle.written.specs.declared.WrittenAnswer.{WrittenAnswer}
-use Rattle.written.specs.Written.{numbers, write_answer, octets_after, Fills, answer_as, FillsNumbers}
+use Rattle.written.specs.Written.{Writing, Numbers, numbers, write_answer, write_numbers, octets_after, Fills, answer_as, FillsNumbers}
+
+-- a refusal, by its number and its place
+pub by_number : (r : Refusal) → refusal (number_of r.why) r.place.0 ≡ r
+by_number r = rw (grounded r.why) refl
 
 module _ {o : Outcome (List ℕ)} {out : List ℕ} where
   -- two outcomes that satisfy it coincide
@@ -20,28 +25,28 @@ module _ {o : Outcome (List ℕ)} {out : List ℕ} where
   fills_decided p q = (p.answer ∙ sym q.answer, p.said ∙ sym q.said, p.leaves ∙ sym q.leaves)
 
   -- a refusal is the outcome's, and changes nothing lent
-  pub fills_refused : {out' : List ℕ} {n : ℕ} {p : BitPlace} → Fills o out out' (Refused n p) → (o ≡ refused n p.0) × (out' ≡ out)
-  fills_refused {out'} {n} {p} h = go o h.answer h.leaves
+  pub fills_refused : {out' : List ℕ} {r : Refusal} → Fills o out out' (Err r) → (o ≡ refused (number_of r.why) r.place.0) × (out' ≡ out)
+  fills_refused {out'} {r} h = go o h.answer h.said h.leaves
     where
-      go : (x : Outcome (List ℕ)) → Refused n p ≡ write_answer x → out' ≡ octets_after x out → (x ≡ refused n p.0) × (out' ≡ out)
-      go (accepted w) e l = let z : ◌≡◌ {A = ℕ} 0 1 = cc in absurd (omega arith)
-      go (refused k f) e l = let e₁ : n ≡ k = cc in let e₂ : p ≡ place f = cc in (rw (e₁, e₂) refl, l)
+      go : (x : Outcome (List ℕ)) → Err r ≡ write_answer x → numbers (Err r) ≡ write_numbers x → out' ≡ octets_after x out → (x ≡ refused (number_of r.why) r.place.0) × (out' ≡ out)
+      go (accepted w) e s l = let z : ◌≡◌ {A = ℕ} 0 1 = cc in absurd (omega arith)
+      go (refused k f) e s l = let e₁ : number_of r.why ≡ k = ap (λ (m : Numbers). m.refusal) s in let e₂ : r.place.0 ≡ f = ap (λ (m : Numbers). m.place) s in (rw (e₁, e₂) refl, l)
 
   -- what is written is the outcome's, and stands at the front of what was lent
-  pub fills_written : {out' : List ℕ} {n : OctetCount} → Fills o out out' (Written n) → (w : List ℕ) × (o ≡ accepted w) × (n.0 ≡ length w) × (out' ≡ over w out)
+  pub fills_written : {out' : List ℕ} {n : OctetCount} → Fills o out out' (Ok n) → (w : List ℕ) × (o ≡ accepted w) × (n.0 ≡ length w) × (out' ≡ over w out)
   fills_written {out'} {n} h = go o refl h.answer h.leaves
     where
-      go : (x : Outcome (List ℕ)) → o ≡ x → Written n ≡ write_answer x → out' ≡ octets_after x out → (w : List ℕ) × (o ≡ accepted w) × (n.0 ≡ length w) × (out' ≡ over w out)
+      go : (x : Outcome (List ℕ)) → o ≡ x → ◌≡◌ {A = Writing} (Ok n) (write_answer x) → out' ≡ octets_after x out → (w : List ℕ) × (o ≡ accepted w) × (n.0 ≡ length w) × (out' ≡ over w out)
       go (accepted w) y e l = let e₁ : n ≡ octet_count (length w) = cc in (w, y, ap (λ (c : OctetCount). c.0) e₁, l)
       go (refused k f) y e l = let z : ◌≡◌ {A = ℕ} 0 1 = cc in absurd (omega arith)
 
 -- ---- the two ways to keep the promise
 
-pub written : (o : Outcome (List ℕ)) (out out' w : List ℕ) {n : OctetCount} → o ≡ accepted w → n.0 ≡ length w → out' ≡ over w out → Fills o out out' (Written n)
-written o out out' w {n} e k l = record { answer = rw e (ap (λ (x : ℕ). Written (octet_count x)) k); said = rw e (ap (λ (x : ℕ). record { refusal = 0; place = 0; octets = x }) k); leaves = rw e l }
+pub written : (o : Outcome (List ℕ)) (out out' w : List ℕ) {n : OctetCount} → o ≡ accepted w → n.0 ≡ length w → out' ≡ over w out → Fills o out out' (Ok n)
+written o out out' w {n} e k l = record { answer = rw e (ap (λ (x : ℕ). Ok (octet_count x)) k); said = rw e (ap (λ (x : ℕ). record { refusal = 0; place = 0; octets = x }) k); leaves = rw e l }
 
-pub unwritten : (o : Outcome (List ℕ)) (out : List ℕ) {n : ℕ} {p : BitPlace} → o ≡ refused n p.0 → Fills o out out (Refused n p)
-unwritten o out e = record { answer = rw e refl; said = rw e refl; leaves = rw e refl }
+pub unwritten : (o : Outcome (List ℕ)) (out : List ℕ) {r : Refusal} → o ≡ refused (number_of r.why) r.place.0 → Fills o out out (Err r)
+unwritten o out {r} e = record { answer = rw e (ap Err (sym (by_number r))); said = rw e refl; leaves = rw e refl }
 
 -- ---- by the numbers of the C border
 
@@ -52,12 +57,3 @@ numbers_decided p q = (p.answer ∙ sym q.answer, p.leaves ∙ sym q.leaves)
 -- what a call promises, by the numbers of its answer
 pub by_numbers : {o : Outcome (List ℕ)} {out out' : List ℕ} {w : Writing} {r : WrittenAnswer} → Fills o out out' w → r ≡ answer_as (numbers w) → FillsNumbers o out out' r
 by_numbers p e = record { answer = e ∙ ap answer_as p.said; leaves = p.leaves }
-
--- the numbers of each case
-pub answer_refused : {x : Writing} {n : ℕ} {p : BitPlace} → x ≡ Refused n p → record { refusal = n; place = p.0; octets = 0 } ≡ answer_as (numbers x)
-answer_refused e = ap (λ (y : Writing). answer_as (numbers y)) (sym e)
-
-pub answer_written : {x : Writing} {n : OctetCount} → x ≡ Written n → record { refusal = 0; place = 0; octets = n.0 } ≡ answer_as (numbers x)
-answer_written e = ap (λ (y : Writing). answer_as (numbers y)) (sym e)
-
-pub ruleset answers = (answer_refused, answer_written)

@@ -1,10 +1,11 @@
 -- What a call that fills a lent buffer with octets answers and leaves.
-use Rattle.std.specs.Prelude.{ℕ, ◌≡◌, List, length}
+use Rattle.std.specs.Prelude.{ℕ, ◌≡◌, List, length, Result, Ok, Err}
 use Rattle.bits.specs.Lent.{over}
 use Rattle.bits.specs.Outcome.{Outcome, accepted, refused}
-use Rattle.bits.specs.Places.{place, octet_count}
-use Rattle.written.specs.declared.Writing.{Writing}
-use Rattle.written.specs.declared.Writing.TheVariants.{Written, Refused}
+use Rattle.bits.specs.Places.{octet_count}
+use Rattle.bits.specs.Refusals.{number_of, answered}
+use Rattle.bits.specs.declared.OctetCount.{OctetCount}
+use Rattle.bits.specs.declared.refusal.Refusal.{Refusal}
 use Rattle.written.specs.declared.WrittenAnswer.{WrittenAnswer}
 
 -- the numbers of document 01
@@ -13,10 +14,14 @@ pub record Numbers : Type 0 where
   pub place : ℕ
   pub octets : ℕ
 
--- each case's number and values: on a refusal all other numbers are 0
+-- an answer: the octets written, or the refusal
+abbrev pub Writing : Type 0
+Writing = Result OctetCount Refusal
+
+-- its numbers: on a refusal all others are 0
 abbrev pub numbers : Writing → Numbers
-numbers (Written n) = record { refusal = 0; place = 0; octets = n.0 }
-numbers (Refused n p) = record { refusal = n; place = p.0; octets = 0 }
+numbers (Ok n) = record { refusal = 0; place = 0; octets = n.0 }
+numbers (Err r) = record { refusal = number_of r.why; place = r.place.0; octets = 0 }
 
 -- the numbers that the rules ask for
 abbrev pub write_numbers : Outcome (List ℕ) → Numbers
@@ -25,8 +30,7 @@ write_numbers (refused n p) = record { refusal = n; place = p; octets = 0 }
 
 -- the answer to an outcome
 abbrev pub write_answer : Outcome (List ℕ) → Writing
-write_answer (accepted w) = Written (octet_count (length w))
-write_answer (refused n p) = Refused n (place p)
+write_answer o = answered (λ w. octet_count (length w)) o
 
 -- the lent octets after the call
 abbrev pub octets_after : Outcome (List ℕ) → List ℕ → List ℕ

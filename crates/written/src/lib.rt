@@ -4,14 +4,10 @@
 ghost use Rattle.std.specs.Prelude.{◌≡◌};
 ghost use Rattle.written.specs.Written.{numbers, answer_as};
 
-use bits::{BitPlace, OctetCount};
+use bits::{OctetCount, Refusal};
 
-// The octets written, or the refusal's number and place.
-#[derive(Clone, Copy)]
-pub enum Writing {
-    Written { octets: OctetCount },
-    Refused { number: u32, place: BitPlace },
-}
+// The octets written, or the refusal.
+pub type Writing = Result<OctetCount, Refusal>;
 
 // The same by numbers alone.
 #[repr(C)]
@@ -22,20 +18,21 @@ pub struct WrittenAnswer {
     pub octets: usize,
 }
 
-// The numbers of an answer.
-pub fn answer(writing: Writing) -> WrittenAnswer
-    ensures { result ≡ answer_as (numbers writing) }
-{
-    match writing {
-        Writing::Refused { number, place } => WrittenAnswer {
-            refusal: number,
-            place: place.0,
-            octets: 0,
-        },
-        Writing::Written { octets } => WrittenAnswer {
-            refusal: 0,
-            place: 0,
-            octets: octets.0,
-        },
+impl From<Writing> for WrittenAnswer {
+    ghost from_gives = { λ writing r. r ≡ answer_as (numbers writing) };
+
+    fn from(writing: Writing) -> WrittenAnswer {
+        match writing {
+            Err(refusal) => WrittenAnswer {
+                refusal: refusal.why.number(),
+                place: refusal.place.0,
+                octets: 0,
+            },
+            Ok(octets) => WrittenAnswer {
+                refusal: 0,
+                place: 0,
+                octets: octets.0,
+            },
+        }
     }
 }
