@@ -13,4 +13,4 @@ turn l rows n q z h = ap₂ (λ (ys : List Entry) (x : Entry). set ys n x) q z �
 
 pub loop-i-preserved : goal.loop-i-preserved
 loop-i-preserved c =
-    (omega arith, turn c.args.list.now c.args.rows.now c.loop-i.i c.loop-i.invariant.1 c.entry_at-e.ensures (omega arith))
+    (omega arith, turn c.args.list.now c.args.rows.now c.loop-i.i c.loop-i.invariant.1 c.entry_at.ensures (omega arith))
