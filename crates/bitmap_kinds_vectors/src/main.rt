@@ -29,9 +29,10 @@
 //   NAME: refusal refusal ..
 ghost use Rattle.std.specs.Prelude.{◌≤◌, ◌<◌, length};
 
-use bitmap::Writing;
 use bitmap_ahead::Kind;
 use bitmap_kinds::{Field, Fields, Reading, Stretch};
+use bits::Refusal;
+use written::Writing;
 
 // How many octets of a message, of the two codes and of a date are in hand.
 #[derive(Clone, Copy)]
@@ -59,23 +60,18 @@ fn show_fields(fields: Fields) {
 }
 
 // Prints the numbers of a reading.
-fn show_reading(answer: Reading) {
+fn show_reading(answer: Result<Reading, Refusal>) {
     match answer {
-        Reading::Read {
-            fields,
-            width,
-            height,
-            black,
-        } => {
+        Ok(seen) => {
             io::write_all(1, b" 0 0");
-            vectors::number(width as u64);
-            vectors::number(height as u64);
-            vectors::number(black as u64);
-            show_fields(fields);
+            vectors::number(seen.width as u64);
+            vectors::number(seen.height as u64);
+            vectors::number(seen.black as u64);
+            show_fields(seen.fields);
         }
-        Reading::Refused(no, place) => {
-            vectors::number(no as u64);
-            vectors::number(place.0 as u64);
+        Err(refusal) => {
+            vectors::number(refusal.why.number() as u64);
+            vectors::number(refusal.place.0 as u64);
             io::write_all(1, b" 0 0 0 0 0 0 0 0 0 0 0");
         }
     }
@@ -84,14 +80,14 @@ fn show_reading(answer: Reading) {
 // Prints the numbers of a writing, and answers the octets written.
 fn show_writing(answer: Writing) -> usize {
     match answer {
-        Writing::Wrote(n) => {
+        Ok(n) => {
             io::write_all(1, b" 0 0");
             vectors::number(n.0 as u64);
             n.0
         }
-        Writing::Refused(no, place) => {
-            vectors::number(no as u64);
-            vectors::number(place.0 as u64);
+        Err(refusal) => {
+            vectors::number(refusal.why.number() as u64);
+            vectors::number(refusal.place.0 as u64);
             vectors::number(0);
             0
         }
@@ -112,13 +108,8 @@ fn read(kind: Kind, msg: &[u8]) {
 // Reads a message, and prints the refusal alone.
 fn read_briefly(kind: Kind, msg: &[u8]) {
     match bitmap_kinds::read(kind, msg) {
-        Reading::Read {
-            fields: _,
-            width: _,
-            height: _,
-            black: _,
-        } => vectors::number(0),
-        Reading::Refused(no, _) => vectors::number(no as u64),
+        Ok(_) => vectors::number(0),
+        Err(refusal) => vectors::number(refusal.why.number() as u64),
     }
 }
 
