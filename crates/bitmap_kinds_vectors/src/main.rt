@@ -115,10 +115,8 @@ fn read_briefly(kind: Kind, msg: &[u8]) {
 
 // Reads each front of a message.
 fn read_fronts(kind: Kind, msg: &[u8]) {
-    let mut n = 0;
-    while n < msg.len() {
+    for n in 0..msg.len() {
         read_briefly(kind, &msg[0..n]);
-        n += 1;
     }
     read_briefly(kind, msg);
 }
@@ -135,13 +133,8 @@ fn read_spoilt_at(kind: Kind, msg: &mut [u8], at: usize, octet: u8)
 
 // Reads a message with another octet in the place of each of its first ones in turn.
 fn read_spoilt(kind: Kind, msg: &mut [u8], octets: usize, octet: u8) {
-    let mut i = 0;
-    while i < msg.len() {
-        if octets <= i {
-            return;
-        }
+    for i in 0..octets.min(msg.len()) {
         read_spoilt_at(kind, msg, i, octet);
-        i += 1;
     }
 }
 
@@ -292,10 +285,8 @@ fn add_times(line: &[u8], octets: &mut [u8], used: usize) -> usize
 {
     let times = vectors::word(line, 2);
     let mut n = used;
-    let mut i = 0;
-    while i < times.value {
+    for _ in 0..times.value {
         n = vectors::add_octets(line, times.next, octets, n);
-        i += 1;
     }
     n
 }
