@@ -7,21 +7,40 @@ use mathlib.Core.List.{List, [], ◌++◌}
 use lib.ListN.{length, take, drop}
 use lib.Seq.{take-append_seam, take-length}
 use denote.Ref.{Bor}
-use Rattle.std.specs.Prelude.{Result, Ok, Err}
+use Rattle.std.specs.Prelude.{Result, Ok, Err, ⊤}
 use Rattle.bits.specs.declared.OctetCount.{OctetCount}
 use Rattle.bits.specs.declared.refusal.Refusal.{Refusal}
 use Rattle.bits.specs.Outcome.{Outcome, accepted, refused}
 use Rattle.bits.specs.Refusals.{number_of}
 use Rattle.bits.specs.Bits.{Octets}
+use Rattle.bits.proofs.Refusals.{GivenBy}
 use Rattle.bits.proofs.Answered.{not_refused, by_number, refusal_answered, acceptance_answered}
 use Rattle.written.specs.Written.{Writing, write_answer, octets_after}
 use Rattle.written.proofs.Unique.{fills_refused}
 use Rattle.bitmap.specs.declared.Reading.{Reading}
 use Rattle.bitmap.specs.Image.{Sizes, image_octets, black_pixels}
-use Rattle.bitmap.specs.Bitmap.{Bitmap, WellFormed, writing, reading, writing_into}
-use Rattle.bitmap.specs.Promises.{told, read_answer, ReadPromise, image_of, image_start, ImagePromise, WritePromise}
-use Rattle.bitmap.proofs.Exits.{reading_numbered}
+use Rattle.bitmap.specs.Bitmap.{Bitmap, WellFormed, writing, judged, reading, writing_into, refusal_of}
+use Rattle.bitmap.specs.Promises.{verdict, told, read_answer, ReadPromise, image_of, image_start, ImagePromise, WritePromise}
+use Rattle.bitmap.proofs.Exits.{judged_numbered, reading_numbered}
 use Rattle.bitmap.proofs.Rules.{bitmap, WritingCase, writing_is, read_written, read_spelt, read_right, write_read, read_well_formed}
+
+-- ---- `fault` and `judge`
+
+-- the number of what is judged, 0 where there is no refusal
+abbrev pub number : Result ⊤ Refusal → ℕ
+number (Ok u) = 0
+number (Err r) = number_of r.why
+
+pub verdict_numbered : {A : Type 0} (o : Outcome A) → GivenBy o → number (verdict o) ≡ refusal_of o
+verdict_numbered (accepted a) g = refl
+verdict_numbered (refused n p) g = g
+
+-- it is the number that the rules give
+pub fault_numbered : (width height : ℕ) (image : List ℕ) {v : Result ⊤ Refusal} → v ≡ verdict (judged width height image) → number v ≡ refusal_of (judged width height image)
+fault_numbered width height image e = ap number e ∙ verdict_numbered (judged width height image) (judged_numbered width height image)
+
+pub judge_numbered : (m : List ℕ) {v : Result ⊤ Refusal} → v ≡ verdict (reading m) → number v ≡ refusal_of (reading m)
+judge_numbered m e = ap number e ∙ verdict_numbered (reading m) (reading_numbered m)
 
 -- ---- `read`
 

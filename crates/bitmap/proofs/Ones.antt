@@ -8,6 +8,8 @@ use mathlib.Core.List.{List, [], ◌∷◌, ◌++◌}
 use lib.ListN.{length, get_or, take, drop}
 use lib.Seq.{take-add, drop-cons}
 use lib.Count.{ones, ones_cat, ones-le}
+use mir.Val.{Fits}
+use mir.Syntax.{w8}
 use Rattle.bits.specs.Bits.{Octets}
 use Rattle.bitmap.specs.Image.{ones_of}
 
@@ -66,24 +68,27 @@ eight s i h =
       one_more 0 i 7 s (omega arith),
     ) refl)
 
+below : {x y : ℕ} → x ≡ y → Fits w8 y → x < 256
+below e f = omega (arith, e, f)
+
 -- the eight octets at i, as a number and as a list
-module _ (s : List ℕ) (i : ℕ) {a b c d e f g h : ℕ} (l : i + 8 ≤ length s) (ha : (a ≡ get_or s i 0) × (a < 256)) (hb : (b ≡ get_or s (i + 1) 0) × (b < 256))
-    (hc : (c ≡ get_or s (i + 2) 0) × (c < 256)) (hd : (d ≡ get_or s (i + 3) 0) × (d < 256)) (he : (e ≡ get_or s (i + 4) 0) × (e < 256))
-    (hf : (f ≡ get_or s (i + 5) 0) × (f < 256)) (hg : (g ≡ get_or s (i + 6) 0) × (g < 256)) (hh : (h ≡ get_or s (i + 7) 0) × (h < 256)) where
+module _ (s : List ℕ) (i : ℕ) (w : (j : ℕ) → Fits w8 (get_or s j 0)) {a b c d e f g h : ℕ} (l : i + 8 ≤ length s) (ha : a ≡ get_or s i 0) (hb : b ≡ get_or s (i + 1) 0)
+    (hc : c ≡ get_or s (i + 2) 0) (hd : d ≡ get_or s (i + 3) 0) (he : e ≡ get_or s (i + 4) 0) (hf : f ≡ get_or s (i + 5) 0) (hg : g ≡ get_or s (i + 6) 0)
+    (hh : h ≡ get_or s (i + 7) 0) where
   octets : Octets (a ∷ b ∷ c ∷ d ∷ e ∷ f ∷ g ∷ h ∷ [])
-  octets = (ha.1, (hb.1, (hc.1, (hd.1, (he.1, (hf.1, (hg.1, (hh.1, tt))))))))
+  octets = (below ha (w i), (below hb (w (i + 1)), (below hc (w (i + 2)), (below hd (w (i + 3)), (below he (w (i + 4)), (below hf (w (i + 5)), (below hg (w (i + 6)), (below hh (w (i + 7)), tt))))))))
 
   -- what `count_eight` computes
   pub eight_ones : ones (a + b * 256 + c * 65536 + d * 16777216 + e * 4294967296 + f * 1099511627776 + g * 281474976710656 + h * 72057594037927936) ≡ ones_of (take 8 (drop i s))
   eight_ones =
-      let w : a + b * 256 + c * 65536 + d * 16777216 + e * 4294967296 + f * 1099511627776 + g * 281474976710656 + h * 72057594037927936 ≡ word (a ∷ b ∷ c ∷ d ∷ e ∷ f ∷ g ∷ h ∷ []) = omega arith in
-      let t : a ∷ b ∷ c ∷ d ∷ e ∷ f ∷ g ∷ h ∷ [] ≡ take 8 (drop i s) = rw (eight s i l, ha.0, hb.0, hc.0, hd.0, he.0, hf.0, hg.0, hh.0) refl in
-      ap ones w ∙ ones_word (a ∷ b ∷ c ∷ d ∷ e ∷ f ∷ g ∷ h ∷ []) octets ∙ ap ones_of t
+      let v : a + b * 256 + c * 65536 + d * 16777216 + e * 4294967296 + f * 1099511627776 + g * 281474976710656 + h * 72057594037927936 ≡ word (a ∷ b ∷ c ∷ d ∷ e ∷ f ∷ g ∷ h ∷ []) = omega arith in
+      let t : a ∷ b ∷ c ∷ d ∷ e ∷ f ∷ g ∷ h ∷ [] ≡ take 8 (drop i s) = rw (eight s i l, ha, hb, hc, hd, he, hf, hg, hh) refl in
+      ap ones v ∙ ones_word (a ∷ b ∷ c ∷ d ∷ e ∷ f ∷ g ∷ h ∷ []) octets ∙ ap ones_of t
 
   pub eight_most : ones (a + b * 256 + c * 65536 + d * 16777216 + e * 4294967296 + f * 1099511627776 + g * 281474976710656 + h * 72057594037927936) ≤ 64
   eight_most =
-      let w : a + b * 256 + c * 65536 + d * 16777216 + e * 4294967296 + f * 1099511627776 + g * 281474976710656 + h * 72057594037927936 ≡ word (a ∷ b ∷ c ∷ d ∷ e ∷ f ∷ g ∷ h ∷ []) = omega arith in
-      rw (w, ones_word (a ∷ b ∷ c ∷ d ∷ e ∷ f ∷ g ∷ h ∷ []) octets) (ones_most (a ∷ b ∷ c ∷ d ∷ e ∷ f ∷ g ∷ h ∷ []) octets)
+      let v : a + b * 256 + c * 65536 + d * 16777216 + e * 4294967296 + f * 1099511627776 + g * 281474976710656 + h * 72057594037927936 ≡ word (a ∷ b ∷ c ∷ d ∷ e ∷ f ∷ g ∷ h ∷ []) = omega arith in
+      rw (v, ones_word (a ∷ b ∷ c ∷ d ∷ e ∷ f ∷ g ∷ h ∷ []) octets) (ones_most (a ∷ b ∷ c ∷ d ∷ e ∷ f ∷ g ∷ h ∷ []) octets)
 
 -- ---- octets
 

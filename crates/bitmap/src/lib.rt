@@ -23,19 +23,7 @@ pub struct Reading {
 fn sized(width: u32, height: u32) -> bool
     ensures { result ≡ sizes_taken width height }
 {
-    if width < 8 {
-        return false;
-    }
-    if 248 < width {
-        return false;
-    }
-    if width % 8 != 0 {
-        return false;
-    }
-    if height < 1 {
-        return false;
-    }
-    height <= 255
+    8 <= width && width <= 248 && width % 8 == 0 && 1 <= height && height <= 255
 }
 
 // The octets of an image of these sizes.
@@ -61,13 +49,6 @@ pub fn fault(width: u32, height: u32, image: &[u8]) -> Result<(), Refusal>
 
 // ---- The ones of an image's octets.
 
-// An octet as a wider number, with its bound.
-fn wide(x: u8) -> u64
-    ensures { (result ≡ x) × (result < 256) }
-{
-    x as u64
-}
-
 // The ones of an octet.
 fn count_octet(x: u8) -> u32
     ensures { (result ≡ ones x) × (result ≤ 8) }
@@ -82,14 +63,14 @@ fn count_eight(s: &[u8], at: OctetCount) -> u32
 {
     let i = at.0;
     u64::count_ones(
-        wide(s[i])
-            + wide(s[i + 1]) * 256
-            + wide(s[i + 2]) * 65536
-            + wide(s[i + 3]) * 16777216
-            + wide(s[i + 4]) * 4294967296
-            + wide(s[i + 5]) * 1099511627776
-            + wide(s[i + 6]) * 281474976710656
-            + wide(s[i + 7]) * 72057594037927936,
+        u64::from(s[i])
+            + u64::from(s[i + 1]) * 256
+            + u64::from(s[i + 2]) * 65536
+            + u64::from(s[i + 3]) * 16777216
+            + u64::from(s[i + 4]) * 4294967296
+            + u64::from(s[i + 5]) * 1099511627776
+            + u64::from(s[i + 6]) * 281474976710656
+            + u64::from(s[i + 7]) * 72057594037927936,
     )
 }
 
@@ -99,24 +80,20 @@ fn count_eights(s: &[u8]) -> u32
     ensures { (result ≡ ones_of (take (length s.now - length s.now % 8) s.now)) × (result ≤ 524288) }
 {
     let mut n: u32 = 0;
-    let mut i = 0;
-    while 8 <= s.len() - i {
-        n += count_eight(s, OctetCount(i));
-        i += 8;
+    for k in 0..s.len() / 8 {
+        n += count_eight(s, OctetCount(8 * k));
     }
     n
 }
 
-// The ones of the octets behind so many, one octet a turn.
-fn count_from(s: &[u8], from: OctetCount) -> u32
-    requires { (from.0 ≤ length s.now) × (length s.now ≤ 65536) }
-    ensures { (result ≡ ones_of (drop from.0 s.now)) × (result ≤ 524288) }
+// The ones of octets, one octet a turn.
+fn count_singly(s: &[u8]) -> u32
+    requires { length s.now ≤ 65536 }
+    ensures { (result ≡ ones_of s.now) × (result ≤ 524288) }
 {
     let mut n: u32 = 0;
-    let mut i = from.0;
-    while i < s.len() {
-        n += count_octet(s[i]);
-        i += 1;
+    for &x in s {
+        n += count_octet(x);
     }
     n
 }
@@ -126,7 +103,8 @@ fn count(s: &[u8]) -> u32
     requires { length s.now ≤ 65536 }
     ensures { result ≡ ones_of s.now }
 {
-    count_eights(s) + count_from(s, OctetCount(s.len() - s.len() % 8))
+    let behind = s.len() - s.len() % 8;
+    count_eights(s) + count_singly(&s[behind..])
 }
 
 // ---- A plain bitmap: four octets of header and the image.

@@ -25,13 +25,7 @@ pub enum Kind {
 fn one_for_digit(x: u8) -> usize
     ensures { (result ≡ pick (digit x) 1 0) × (result ≤ 1) }
 {
-    if x < 48 {
-        return 0;
-    }
-    if 57 < x {
-        return 0;
-    }
-    1
+    if b'0' <= x && x <= b'9' { 1 } else { 0 }
 }
 
 // Whether all octets are digits. They are counted, so that no branch stands between two of them.
@@ -39,10 +33,8 @@ fn all_digits(s: &[u8]) -> bool
     ensures { result ≡ all_digits s.now }
 {
     let mut n: usize = 0;
-    let mut i = 0;
-    while i < s.len() {
-        n += one_for_digit(s[i]);
-        i += 1;
+    for &x in s {
+        n += one_for_digit(x);
     }
     n == s.len()
 }
@@ -51,16 +43,10 @@ fn all_digits(s: &[u8]) -> bool
 fn date_octets(s: &[u8]) -> OctetCount
     ensures { result.0 ≡ date_octets s.now }
 {
-    if s.len() <= 8 {
+    if s.len() <= 8 || s[8] != b'T' {
         return OctetCount(8);
     }
-    if s[8] != b'T' {
-        return OctetCount(8);
-    }
-    if s.len() <= 15 {
-        return OctetCount(15);
-    }
-    if s[15] != b'Z' {
+    if s.len() <= 15 || s[15] != b'Z' {
         return OctetCount(15);
     }
     OctetCount(16)
@@ -71,16 +57,7 @@ fn date_taken(s: &[u8]) -> bool
     ensures { result ≡ date_taken s.now }
 {
     let n = date_octets(s).0;
-    if s.len() != n {
-        return false;
-    }
-    if !all_digits(&s[0..8]) {
-        return false;
-    }
-    if n == 8 {
-        return true;
-    }
-    all_digits(&s[9..15])
+    s.len() == n && all_digits(&s[0..8]) && (n == 8 || all_digits(&s[9..15]))
 }
 
 // ---- What is said ahead of a bitmap.
@@ -89,36 +66,21 @@ fn date_taken(s: &[u8]) -> bool
 fn silent(mcc: &[u8], mnc: &[u8], date: &[u8]) -> bool
     ensures { result ≡ silentOf (said mcc.now mnc.now date.now) }
 {
-    if mcc.len() != 0 {
-        return false;
-    }
-    if mnc.len() != 0 {
-        return false;
-    }
-    date.len() == 0
+    mcc.is_empty() && mnc.is_empty() && date.is_empty()
 }
 
 // Whether octets are so many digits.
 fn digits_taken(n: OctetCount, s: &[u8]) -> bool
     ensures { result ≡ digits_taken n.0 s.now }
 {
-    if s.len() != n.0 {
-        return false;
-    }
-    all_digits(s)
+    s.len() == n.0 && all_digits(s)
 }
 
 // Whether a logo may say this.
 fn logo_taken(mcc: &[u8], mnc: &[u8], date: &[u8]) -> bool
     ensures { result ≡ taken_of Logo (said mcc.now mnc.now date.now) }
 {
-    if !digits_taken(OctetCount(3), mcc) {
-        return false;
-    }
-    if !digits_taken(OctetCount(2), mnc) {
-        return false;
-    }
-    date_taken(date)
+    digits_taken(OctetCount(3), mcc) && digits_taken(OctetCount(2), mnc) && date_taken(date)
 }
 
 // Whether a bitmap of a kind may say this ahead.
@@ -126,8 +88,7 @@ pub fn taken(kind: Kind, mcc: &[u8], mnc: &[u8], date: &[u8]) -> bool
     ensures { result ≡ taken_of kind (said mcc.now mnc.now date.now) }
 {
     match kind {
-        Kind::Plain => silent(mcc, mnc, date),
-        Kind::Icon => silent(mcc, mnc, date),
+        Kind::Plain | Kind::Icon => silent(mcc, mnc, date),
         Kind::Logo => logo_taken(mcc, mnc, date),
     }
 }
@@ -162,19 +123,10 @@ fn logo_stands(msg: &[u8], start: OctetCount) -> bool
     ensures { result ≡ standsOf Logo msg.now }
 {
     let end = start.0 - 1;
-    if msg[0] != b'0' {
-        return false;
-    }
-    if msg[end] != b'\n' {
-        return false;
-    }
-    if !all_digits(&msg[1..14]) {
-        return false;
-    }
-    if start.0 == 15 {
-        return true;
-    }
-    all_digits(&msg[15..21])
+    msg[0] == b'0'
+        && msg[end] == b'\n'
+        && all_digits(&msg[1..14])
+        && (start.0 == 15 || all_digits(&msg[15..21]))
 }
 
 // Whether every octet ahead of the bitmap is one that the kind has there.

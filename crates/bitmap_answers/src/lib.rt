@@ -4,7 +4,6 @@
 ghost use Rattle.bitmap_answers.specs.Promise.{IconReadExport, LogoReadExport};
 
 use bitmap_ahead::Kind;
-use bitmap_kinds::Reading;
 
 // A bitmap or an icon: with the sizes and the black pixels the stretch of the message that is the image.
 #[repr(C)]
@@ -43,28 +42,23 @@ pub fn read_icon(msg: &[u8]) -> BitmapAnswer
     ensures { IconReadExport msg.now result }
 {
     match bitmap_kinds::read(Kind::Icon, msg) {
-        Reading::Refused(number, place) => BitmapAnswer {
-            refusal: number,
-            place: place.0,
+        Err(refusal) => BitmapAnswer {
+            refusal: refusal.why.number(),
+            place: refusal.place.0,
             width: 0,
             height: 0,
             black: 0,
             start: 0,
             length: 0,
         },
-        Reading::Read {
-            fields,
-            width,
-            height,
-            black,
-        } => BitmapAnswer {
+        Ok(icon) => BitmapAnswer {
             refusal: 0,
             place: 0,
-            width,
-            height,
-            black,
-            start: fields.image.start.0,
-            length: fields.image.length.0,
+            width: icon.width,
+            height: icon.height,
+            black: icon.black,
+            start: icon.fields.image.start.0,
+            length: icon.fields.image.length.0,
         },
     }
 }
@@ -74,9 +68,9 @@ pub fn read_logo(msg: &[u8]) -> LogoAnswer
     ensures { LogoReadExport msg.now result }
 {
     match bitmap_kinds::read(Kind::Logo, msg) {
-        Reading::Refused(number, place) => LogoAnswer {
-            refusal: number,
-            place: place.0,
+        Err(refusal) => LogoAnswer {
+            refusal: refusal.why.number(),
+            place: refusal.place.0,
             width: 0,
             height: 0,
             black: 0,
@@ -89,25 +83,20 @@ pub fn read_logo(msg: &[u8]) -> LogoAnswer
             date_start: 0,
             date_length: 0,
         },
-        Reading::Read {
-            fields,
-            width,
-            height,
-            black,
-        } => LogoAnswer {
+        Ok(logo) => LogoAnswer {
             refusal: 0,
             place: 0,
-            width,
-            height,
-            black,
-            start: fields.image.start.0,
-            length: fields.image.length.0,
-            mcc_start: fields.mcc.start.0,
-            mcc_length: fields.mcc.length.0,
-            mnc_start: fields.mnc.start.0,
-            mnc_length: fields.mnc.length.0,
-            date_start: fields.date.start.0,
-            date_length: fields.date.length.0,
+            width: logo.width,
+            height: logo.height,
+            black: logo.black,
+            start: logo.fields.image.start.0,
+            length: logo.fields.image.length.0,
+            mcc_start: logo.fields.mcc.start.0,
+            mcc_length: logo.fields.mcc.length.0,
+            mnc_start: logo.fields.mnc.start.0,
+            mnc_length: logo.fields.mnc.length.0,
+            date_start: logo.fields.date.start.0,
+            date_length: logo.fields.date.length.0,
         },
     }
 }

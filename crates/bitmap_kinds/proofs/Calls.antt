@@ -10,7 +10,7 @@ use lib.Seq.{take-append_seam}
 use lib.Dec.{ltb, leb}
 use borrow.Author.Tests.{ltb-true, leb-true, leb-false}
 use denote.Ref.{Bor}
-use Rattle.std.specs.Prelude.{Result, Ok, Err}
+use Rattle.std.specs.Prelude.{Result, Ok, Err, ⊤}
 use Rattle.bits.specs.declared.OctetCount.{OctetCount}
 use Rattle.bits.specs.declared.refusal.Refusal.{Refusal}
 use Rattle.bits.specs.Refusals.{number_of}
@@ -21,7 +21,9 @@ use Rattle.bits.specs.Choice.{pick}
 use Rattle.bits.specs.Outcome.{Outcome, accepted, refused}
 use Rattle.bits.specs.Bits.{Octets}
 use Rattle.bitmap.specs.Image.{Sizes, image_octets}
-use Rattle.bitmap.specs.Bitmap.{Bitmap, judged as bitmapJudged, reading as bitmapReading, into_room as bitmapIntoRoom, writing_into as bitmapWritingInto}
+use Rattle.bitmap.specs.Bitmap.{Bitmap, judged as bitmapJudged, reading as bitmapReading, into_room as bitmapIntoRoom, writing_into as bitmapWritingInto, refusal_of}
+use Rattle.bitmap.specs.Promises.{verdict}
+use Rattle.bitmap.proofs.Calls.{number, verdict_numbered}
 use Rattle.bitmap.proofs.Rules.{bitmap, JudgedCase, judged_is as bitmap-judged-is}
 use Rattle.bitmap.proofs.Order.{short_first}
 use Rattle.bitmap_ahead.specs.declared.Kind.{Kind}
@@ -39,6 +41,12 @@ use Rattle.bitmap_kinds.proofs.Rules.{graphic, accepted_is, read_written, write_
 use Rattle.bitmap_kinds.proofs.Stretches.{field_stretch}
 use Rattle.bitmap_kinds.proofs.Exits.{reading_numbered}
 use Rattle.bitmap_kinds.proofs.Order.{ahead_first_lem, sizes_second, image_third, room_fourth, written_last}
+
+-- ---- `judge`
+
+-- the number of what is judged is the one that the rules give, 0 where there is no refusal
+pub judge_numbered : (kind : Kind) (m : List ℕ) {v : Result ⊤ Refusal} → v ≡ verdict (reading kind m) → number v ≡ refusal_of (reading kind m)
+judge_numbered kind m e = ap number e ∙ verdict_numbered (reading kind m) (reading_numbered kind m)
 
 -- ---- `read`
 

@@ -99,8 +99,7 @@ fn fields_at(kind: Kind, msg: &[u8], start: OctetCount) -> Fields
     let at = start.0 + 4;
     let image = part(OctetCount(at), OctetCount(msg.len() - at));
     match kind {
-        Kind::Plain => image_alone(image),
-        Kind::Icon => image_alone(image),
+        Kind::Plain | Kind::Icon => image_alone(image),
         Kind::Logo => Fields {
             mcc: part(OctetCount(1), OctetCount(3)),
             mnc: part(OctetCount(4), OctetCount(2)),

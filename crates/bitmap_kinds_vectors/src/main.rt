@@ -29,9 +29,10 @@
 //   NAME: refusal refusal ..
 ghost use Rattle.std.specs.Prelude.{◌≤◌, ◌<◌, length};
 
-use bitmap::Writing;
 use bitmap_ahead::Kind;
 use bitmap_kinds::{Field, Fields, Reading, Stretch};
+use bits::Refusal;
+use written::Writing;
 
 // How many octets of a message, of the two codes and of a date are in hand.
 #[derive(Clone, Copy)]
@@ -59,23 +60,18 @@ fn show_fields(fields: Fields) {
 }
 
 // Prints the numbers of a reading.
-fn show_reading(answer: Reading) {
+fn show_reading(answer: Result<Reading, Refusal>) {
     match answer {
-        Reading::Read {
-            fields,
-            width,
-            height,
-            black,
-        } => {
+        Ok(seen) => {
             io::write_all(1, b" 0 0");
-            vectors::number(width as u64);
-            vectors::number(height as u64);
-            vectors::number(black as u64);
-            show_fields(fields);
+            vectors::number(seen.width as u64);
+            vectors::number(seen.height as u64);
+            vectors::number(seen.black as u64);
+            show_fields(seen.fields);
         }
-        Reading::Refused(no, place) => {
-            vectors::number(no as u64);
-            vectors::number(place.0 as u64);
+        Err(refusal) => {
+            vectors::number(refusal.why.number() as u64);
+            vectors::number(refusal.place.0 as u64);
             io::write_all(1, b" 0 0 0 0 0 0 0 0 0 0 0");
         }
     }
@@ -84,14 +80,14 @@ fn show_reading(answer: Reading) {
 // Prints the numbers of a writing, and answers the octets written.
 fn show_writing(answer: Writing) -> usize {
     match answer {
-        Writing::Wrote(n) => {
+        Ok(n) => {
             io::write_all(1, b" 0 0");
             vectors::number(n.0 as u64);
             n.0
         }
-        Writing::Refused(no, place) => {
-            vectors::number(no as u64);
-            vectors::number(place.0 as u64);
+        Err(refusal) => {
+            vectors::number(refusal.why.number() as u64);
+            vectors::number(refusal.place.0 as u64);
             vectors::number(0);
             0
         }
@@ -112,22 +108,15 @@ fn read(kind: Kind, msg: &[u8]) {
 // Reads a message, and prints the refusal alone.
 fn read_briefly(kind: Kind, msg: &[u8]) {
     match bitmap_kinds::read(kind, msg) {
-        Reading::Read {
-            fields: _,
-            width: _,
-            height: _,
-            black: _,
-        } => vectors::number(0),
-        Reading::Refused(no, _) => vectors::number(no as u64),
+        Ok(_) => vectors::number(0),
+        Err(refusal) => vectors::number(refusal.why.number() as u64),
     }
 }
 
 // Reads each front of a message.
 fn read_fronts(kind: Kind, msg: &[u8]) {
-    let mut n = 0;
-    while n < msg.len() {
+    for n in 0..msg.len() {
         read_briefly(kind, &msg[0..n]);
-        n += 1;
     }
     read_briefly(kind, msg);
 }
@@ -144,13 +133,8 @@ fn read_spoilt_at(kind: Kind, msg: &mut [u8], at: usize, octet: u8)
 
 // Reads a message with another octet in the place of each of its first ones in turn.
 fn read_spoilt(kind: Kind, msg: &mut [u8], octets: usize, octet: u8) {
-    let mut i = 0;
-    while i < msg.len() {
-        if octets <= i {
-            return;
-        }
+    for i in 0..octets.min(msg.len()) {
         read_spoilt_at(kind, msg, i, octet);
-        i += 1;
     }
 }
 
@@ -301,10 +285,8 @@ fn add_times(line: &[u8], octets: &mut [u8], used: usize) -> usize
 {
     let times = vectors::word(line, 2);
     let mut n = used;
-    let mut i = 0;
-    while i < times.value {
+    for _ in 0..times.value {
         n = vectors::add_octets(line, times.next, octets, n);
-        i += 1;
     }
     n
 }

@@ -1,25 +1,20 @@
 #![tactic(auto)]
 
 // Runs the cases of bitmaps and prints what the calls answer, a line for each case.
-use bitmap::{Reading, Writing};
 
 // Prints the numbers of reading: refusal, place, width, height, black pixels.
 fn show_read(msg: &[u8]) {
     match bitmap::read(msg) {
-        Reading::Read {
-            width,
-            height,
-            black,
-        } => {
+        Ok(seen) => {
             vectors::number(0);
             vectors::number(0);
-            vectors::number(width as u64);
-            vectors::number(height as u64);
-            vectors::number(black as u64);
+            vectors::number(seen.width as u64);
+            vectors::number(seen.height as u64);
+            vectors::number(seen.black as u64);
         }
-        Reading::Refused(n, p) => {
-            vectors::number(n as u64);
-            vectors::number(p.0 as u64);
+        Err(refusal) => {
+            vectors::number(refusal.why.number() as u64);
+            vectors::number(refusal.place.0 as u64);
             vectors::number(0);
             vectors::number(0);
             vectors::number(0);
@@ -64,15 +59,15 @@ fn read_case(info: u8, width: u8, height: u8, depth: u8, pixels: u8, octets: usi
 // Writes, prints the numbers of writing (refusal, place, octets) and answers the octets.
 fn show_write(width: u32, height: u32, image: &[u8], out: &mut [u8]) -> usize {
     match bitmap::write(width, height, image, out) {
-        Writing::Wrote(n) => {
+        Ok(n) => {
             vectors::number(0);
             vectors::number(0);
             vectors::number(n.0 as u64);
             n.0
         }
-        Writing::Refused(n, p) => {
-            vectors::number(n as u64);
-            vectors::number(p.0 as u64);
+        Err(refusal) => {
+            vectors::number(refusal.why.number() as u64);
+            vectors::number(refusal.place.0 as u64);
             vectors::number(0);
             0
         }

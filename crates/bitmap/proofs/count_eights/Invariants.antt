@@ -1,11 +1,6 @@
--- `bitmap::count_eights` meets its contract. Each turn counts eight octets more; the octets left fall.
-use Prim.Native.Nat.{◌-◌}
-use lib.ListN.{length}
+-- `bitmap::count_eights` meets its contract. Each turn counts eight octets more.
 use Rattle.bitmap.proofs.Counting.{Eights}
 use Rattle.bitmap.proofs.count_eights.Given as goal
 
-abbrev pub invariant-loop-i : goal.invariant-loop-i
-invariant-loop-i l = Eights l.s l.n l.i
-
-abbrev pub decreases-loop-i : goal.decreases-loop-i
-decreases-loop-i l = length l.s - l.i
+abbrev pub invariant-loop-k : goal.invariant-loop-k
+invariant-loop-k l = Eights l.s l.n l.k

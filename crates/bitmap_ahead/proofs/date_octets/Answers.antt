@@ -3,18 +3,11 @@ use borrow.Author.Rules.{rules}
 use Rattle.bitmap_ahead.proofs.Dates.{told}
 use Rattle.bitmap_ahead.proofs.date_octets.Goals as goal
 
--- `bitmap_ahead::date_octets` meets its contract.
 pub returns-then-s-le8 : goal.returns-then-s-le8
 returns-then-s-le8 c = search (told, rules)
 
-pub returns-then-s-ne84 : goal.returns-then-s-ne84
-returns-then-s-ne84 c = search (told, rules)
-
 pub returns-then-s-le15 : goal.returns-then-s-le15
 returns-then-s-le15 c = search (told, rules)
-
-pub returns-then-s-ne90 : goal.returns-then-s-ne90
-returns-then-s-ne90 c = search (told, rules)
 
 pub returns : goal.returns
 returns c = search (told, rules)

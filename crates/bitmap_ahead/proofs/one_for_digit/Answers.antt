@@ -4,15 +4,10 @@ use Rattle.bits.proofs.Choice.{tests}
 use Rattle.bitmap_ahead.specs.Digits.{digit}
 use Rattle.bitmap_ahead.proofs.one_for_digit.Goals as goal
 
--- `bitmap_ahead::one_for_digit` meets its contract.
-pub returns-then-x-lt48 : goal.returns-then-x-lt48
+pub returns-then-x-le57 : goal.returns-then-x-le57
 unfolding digit
-returns-then-x-lt48 c = search (tests, rules)
+returns-then-x-le57 c = search (tests, rules)
 
-pub returns-then-x-gt57 : goal.returns-then-x-gt57
+pub returns-else-x-ge48 : goal.returns-else-x-ge48
 unfolding digit
-returns-then-x-gt57 c = search (tests, rules)
-
-pub returns : goal.returns
-unfolding digit
-returns c = search (tests, rules)
+returns-else-x-ge48 c = search (tests, rules)

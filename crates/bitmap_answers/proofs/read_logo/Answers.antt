@@ -1,10 +1,9 @@
 -- `bitmap_answers::read_logo` meets its contract.
-use borrow.Author.Rules.{rules}
-use Rattle.bitmap_answers.proofs.Exits.{told}
+use Rattle.bitmap_answers.proofs.Exits.{logo_answered}
 use Rattle.bitmap_answers.proofs.read_logo.Goals as goal
 
-pub returns-in-Refused : goal.returns-in-Refused
-returns-in-Refused c = search (told, rules)
+pub returns-in-Ok : goal.returns-in-Ok
+returns-in-Ok c = logo_answered c.args.msg.now c.read.ensures c.in-Ok.is
 
-pub returns-in-Read : goal.returns-in-Read
-returns-in-Read c = search (told, rules)
+pub returns-in-Err : goal.returns-in-Err
+returns-in-Err c = rw c.number.ensures (logo_answered c.args.msg.now c.read.ensures c.in-Err.is)

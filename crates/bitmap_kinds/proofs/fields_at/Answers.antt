@@ -9,8 +9,5 @@ overflow_sub-start c = search (fields, rules)
 pub returns-in-Plain : goal.returns-in-Plain
 returns-in-Plain c = search (fields, rules)
 
-pub returns-in-Icon : goal.returns-in-Icon
-returns-in-Icon c = search (fields, rules)
-
 pub returns-in-Logo : goal.returns-in-Logo
 returns-in-Logo c = search (fields, rules)
