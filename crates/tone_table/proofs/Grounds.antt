@@ -8,6 +8,7 @@ use mathlib.Core.List.{List, [], ◌∷◌}
 use lib.Dec.{leb, eqb}
 use Rattle.bits.specs.Outcome.{Outcome, accepted, refused, and_then, demand}
 use Rattle.bits.proofs.Choice.{pick_elim}
+use Rattle.bits.proofs.Refusals.{GivenBy, given_then, given_pick, given_demand}
 use Rattle.tone.specs.Table.{kind}
 use Rattle.tone.specs.Tone.{recallable}
 use Rattle.tone_table.specs.Judging.{entry_fine, Stage, start, entry_judged, entries_judged, end_judged, judge_table}
@@ -55,3 +56,26 @@ ground (some g) = g
 -- where a table is refused, it is on one of them
 pub table_grounds : (t : List ℕ) {n p : ℕ} → judge_table t ≡ refused n p → Ground n
 table_grounds t q = ground (subst Grounded q (table_grounded t))
+
+-- ---- each of them is a number of document 01
+
+entry_given : (s : Stage) (e : ℕ) → GivenBy (entry_judged s e)
+unfolding entry_judged
+entry_given s e =
+    given_demand (entry_fine e) 6 _ refl
+    (given_pick (eqb s.due 0) _ _
+    (given_demand (eqb (kind e) 0) 18 _ refl (given_demand (recallable s.known e) 7 _ refl tt))
+    (given_demand (leb 1 (kind e)) 18 _ refl tt))
+
+entries_given : (s : Stage) (t : List ℕ) → GivenBy (entries_judged s t)
+unfolding entries_judged
+entries_given s [] = tt
+entries_given s (e ∷ t) = given_then (entry_judged s e) (λ s'. entries_judged s' t) (entry_given s e) (λ s'. entries_given s' t)
+
+pub table_given : (t : List ℕ) → GivenBy (judge_table t)
+unfolding judge_table end_judged
+table_given t =
+    given_then (entries_judged start t) end_judged (entries_given start t)
+    (λ s. given_demand (eqb s.due 0) 18 _ refl
+    (given_demand (leb 1 s.begun) 5 _ refl
+    (given_demand (leb s.begun 255) 18 _ refl tt)))

@@ -12,15 +12,16 @@ use lib.Dec.{leb, eqb}
 use borrow.Author.Tests.{le-leb, lt-leb, ne_eqb, eqb-true, leb-true}
 use mir.Val.{Fits}
 use mir.Syntax.{w32, w64}
+use Rattle.std.specs.Prelude.{Result, Ok, Err}
 use Rattle.bits.specs.Outcome.{Outcome, accepted, refused, and_then, demand}
+use Rattle.bits.specs.Refusals.{ground_of}
+use Rattle.bits.specs.declared.refusal.Ground.{Ground}
+use Rattle.bits.specs.declared.refusal.Ground.TheVariants.{NoPattern, TableShape}
 use Rattle.tone.specs.Table.{kind, Instruction}
 use Rattle.tone.specs.Tone.{specifier, part_of, none_known, recallable, learn, Instructions}
 use Rattle.tone.specs.Writing.{entry_bits, table_bits}
 use Rattle.tone.proofs.Rows.{table_bits_append, length_entry_bits, width_most}
 use Rattle.tone.proofs.Recalls.{learn_set}
-use Rattle.tone_table.specs.declared.Weighed.{Weighed}
-use Rattle.tone_table.specs.declared.Weighed.TheVariants.{Bits, Fault}
-use Rattle.tone_table.specs.declared.Judged.TheVariants.{Sound, Faulty}
 use Rattle.tone_table.specs.Judging.{entry_fine, Stage, entry_judged, entries_judged, end_judged, judge_table}
 use Rattle.tone_table.specs.Answers.{entry_length, header_length, instruction_length, body_length, weighed_of, at_most, judged_of}
 use Rattle.tone_table.proofs.Weights.{fine_in_table, header_bound, weighed_bits}
@@ -167,12 +168,12 @@ unfolding judge_table
 row_begins table = record { inside = omega arith; fewer = omega arith; weighs = refl; goes = refl }
 
 -- a refusal of the rules is the answer's
-faulty : (t : List ℕ) {n p : ℕ} → judge_table t ≡ refused n p → Faulty n ≡ judged_of t (judge_table t)
+faulty : (t : List ℕ) {n p : ℕ} → judge_table t ≡ refused n p → Err (ground_of n) ≡ judged_of t (judge_table t)
 faulty t e = rw e
 
-stopped : (t : List ℕ) (x : Outcome ℕ) (f : ℕ → Outcome ℕ) {s : Weighed} {m : ℕ} → judge_table t ≡ and_then x f → s ≡ weighed_of x → s ≡ Fault m → Faulty m ≡ judged_of t (judge_table t)
-stopped t (accepted b) f e q g = let z : ◌≡◌ {A = ℕ} 0 1 = cc in absurd (omega arith)
-stopped t (refused n p) f {m = m} e q g = let k : m ≡ n = cc in rw (e, k)
+stopped : (t : List ℕ) (x : Outcome ℕ) (f : ℕ → Outcome ℕ) {s : Result ℕ Ground} {g : Ground} → judge_table t ≡ and_then x f → s ≡ weighed_of x → s ≡ Err g → Err g ≡ judged_of t (judge_table t)
+stopped t (accepted b) f e q g = cc
+stopped t (refused n p) f {g = m} e q g = let k : m ≡ ground_of n = cc in rw (e, k)
 
 module _ {table : List ℕ} {known : List Bool} {patterns bits i : ℕ} (w : RowWalk table known patterns bits i) where
   pub row_few : bits ≤ 32769
@@ -186,30 +187,30 @@ module _ {table : List ℕ} {known : List Bool} {patterns bits i : ℕ} (w : Row
     some : (patterns ≡ 0 → ⊥) → 1 ≤ patterns
     some s = omega arith
 
-    pub row_none : patterns ≡ 0 → Faulty 5 ≡ judged_of table (judge_table table)
+    pub row_none : patterns ≡ 0 → Err NoPattern ≡ judged_of table (judge_table table)
     unfolding end_judged
-    row_none z = faulty table {p = 0} (ends ∙ (rw (lt-leb 1 patterns (omega arith))))
+    row_none z = faulty table {n = 5} {p = 0} (ends ∙ (rw (lt-leb 1 patterns (omega arith))))
 
     module _ (s : patterns ≡ 0 → ⊥) where
-      pub row_many : 255 < patterns → Faulty 18 ≡ judged_of table (judge_table table)
+      pub row_many : 255 < patterns → Err TableShape ≡ judged_of table (judge_table table)
       unfolding end_judged
-      row_many m = faulty table {p = 0} (ends ∙ (rw (le-leb 1 patterns (some s), lt-leb patterns 255 m)))
+      row_many m = faulty table {n = 18} {p = 0} (ends ∙ (rw (le-leb 1 patterns (some s), lt-leb patterns 255 m)))
 
-      pub row_sound : patterns ≤ 255 → Sound patterns bits ≡ judged_of table (judge_table table)
+      pub row_sound : patterns ≤ 255 → Ok (record { patterns = patterns; bits = bits }) ≡ judged_of table (judge_table table)
       unfolding end_judged
       row_sound m =
           let a : take i table ≡ table = take_all i table h in
-          rw (ends, le-leb 1 patterns (some s), le-leb patterns 255 m) (ap (λ (x : ℕ). Sound patterns x) (w.weighs ∙ (rw a refl)))
+          rw (ends, le-leb 1 patterns (some s), le-leb patterns 255 m) (ap (λ (x : ℕ). Ok (record { patterns = patterns; bits = x })) (w.weighs ∙ (rw a refl)))
 
-  module _ {s : Weighed} (k : i < length table) (q : s ≡ weighed_of (header_length known (get_or table i 0))) where
+  module _ {s : Result ℕ Ground} (k : i < length table) (q : s ≡ weighed_of (header_length known (get_or table i 0))) where
     next : from_stage (stage 0 known patterns) (drop i table)
         ≡ and_then (header_length known (get_or table i 0)) (λ _. from_stage (stage (specifier (get_or table i 0)) (learn known (get_or table i 0)) (suc patterns)) (drop (suc i) table))
     next = ap (from_stage (stage 0 known patterns)) (drop-cons table i 0 k) ∙ at_header known patterns (get_or table i 0) (drop (suc i) table)
 
-    pub row_header_fault : {m : ℕ} → s ≡ Fault m → Faulty m ≡ judged_of table (judge_table table)
+    pub row_header_fault : {m : Ground} → s ≡ Err m → Err m ≡ judged_of table (judge_table table)
     row_header_fault g = stopped table (header_length known (get_or table i 0)) _ (w.goes ∙ next) q g
 
-    module _ {own : ℕ} {t : Weighed} (g : s ≡ Bits own) (q' : t ≡ weighed_of (body_length (specifier (get_or table i 0)) (drop (i + 1) table))) where
+    module _ {own : ℕ} {t : Result ℕ Ground} (g : s ≡ Ok own) (q' : t ≡ weighed_of (body_length (specifier (get_or table i 0)) (drop (i + 1) table))) where
       own_told : header_length known (get_or table i 0) ≡ accepted own
       own_told = weighed_bits (header_length known (get_or table i 0)) (sym g ∙ q)
 
@@ -217,10 +218,10 @@ module _ {table : List ℕ} {known : List Bool} {patterns bits i : ℕ} (w : Row
           (λ _. from_stage (stage 0 (learn known (get_or table i 0)) (suc patterns)) (drop (specifier (get_or table i 0)) (drop (i + 1) table)))
       behind = w.goes ∙ next ∙ (rw (own_told, ← add-one i) (at_body (specifier (get_or table i 0)) (learn known (get_or table i 0)) (suc patterns) (drop (i + 1) table)))
 
-      pub row_body_fault : {m : ℕ} → t ≡ Fault m → Faulty m ≡ judged_of table (judge_table table)
+      pub row_body_fault : {m : Ground} → t ≡ Err m → Err m ≡ judged_of table (judge_table table)
       row_body_fault g' = stopped table (body_length (specifier (get_or table i 0)) (drop (i + 1) table)) _ behind q' g'
 
-      module _ {more : ℕ} (g' : t ≡ Bits more) where
+      module _ {more : ℕ} (g' : t ≡ Ok more) where
         told : BodyTold (specifier (get_or table i 0)) (drop (i + 1) table) more
         told = body_told (specifier (get_or table i 0)) (drop (i + 1) table) (weighed_bits (body_length (specifier (get_or table i 0)) (drop (i + 1) table)) (sym g' ∙ q'))
 

@@ -10,8 +10,11 @@ use lib.ListN.{length, get_or, drop, drop_of_length-le}
 use lib.Seq.{drop-cons}
 use lib.Dec.{leb, ltb}
 use borrow.Author.Tests.{le-leb, lt-leb, lt-ltb, eq-eqb, ne_eqb, leb-true, ltb-true}
+use Rattle.std.specs.Prelude.{Option, Some, None, Result, Ok, Err}
 use Rattle.bits.specs.Choice.{pick}
 use Rattle.bits.specs.Outcome.{Outcome, accepted, refused, and_then, demand}
+use Rattle.bits.specs.declared.refusal.Ground.{Ground}
+use Rattle.bits.specs.declared.refusal.Ground.TheVariants.{Code, NoRecall, TableShape}
 use Rattle.bits.proofs.Choice.{both}
 use Rattle.tone.specs.Table.{kind, payload, width, allowed, InTable}
 use Rattle.tone.specs.Tone.{specifier, part_of, recallable}
@@ -20,10 +23,8 @@ use Rattle.tone.proofs.Instructions.{header_in_table}
 use Rattle.tone_elements.proofs.Walks.{one_less}
 use mir.Val.{Fits}
 use mir.Syntax.{w32}
-use Rattle.tone_table.specs.declared.Weighed.{Weighed}
-use Rattle.tone_table.specs.declared.Weighed.TheVariants.{Bits, Fault}
 use Rattle.tone_table.specs.Judging.{entry_fine}
-use Rattle.tone_table.specs.Answers.{entry_length, header_length, instruction_length, body_length, weighed_of}
+use Rattle.tone_table.specs.Answers.{entry_length, entry_weight, header_length, instruction_length, body_length, weighed_of}
 
 -- ---- an entry
 
@@ -40,24 +41,24 @@ unfolding entry_fine
 in_table_fine e h = rw (le-leb (kind e) 5 h.known, lt-ltb (payload e) (2 ^ width (kind e)) h.fits, h.code)
 
 module _ (e : ℕ) where
-  abbrev Weight : ℕ → Type 0
-  Weight r = r ≡ pick (entry_fine e) (entry_length e) 0
+  abbrev Weight : Option ℕ → Type 0
+  Weight r = r ≡ entry_weight e
 
-  pub weight_kind : 5 < kind e → Weight 0
+  pub weight_kind : 5 < kind e → Weight None
   unfolding entry_fine
   weight_kind h = rw (lt-leb (kind e) 5 h)
 
   -- a note is told by its code alone: one that is allowed fits its bits
   module _ (note : kind e ≡ 1) {a : Bool} (ea : a ≡ allowed 1 (payload e)) where
-    pub weight_note_code : a ≡ false → Weight 0
+    pub weight_note_code : a ≡ false → Weight None
     unfolding entry_fine
     weight_note_code f = rw (note, ← ea, f) (go (ltb (payload e) (2 ^ width 1)))
       where
-        go : (b : Bool) → 0 ≡ pick (b && false) (3 + width 1) 0
+        go : (b : Bool) → None ≡ pick (b && false) (Some (3 + width 1)) None
         go true = refl
         go false = refl
 
-    pub weight_note : a ≡ true → Weight 12
+    pub weight_note : a ≡ true → Weight (Some 12)
     unfolding entry_fine allowed width
     weight_note t =
         let l = leb-true (payload e / 32) 12 (both (leb (payload e / 32) 12) (leb (payload e / 4 % 8) 5) (sym ea ∙ t)).0 in
@@ -68,16 +69,16 @@ module _ (e : ℕ) where
     fits : ltb (payload e) (2 ^ width (kind e)) ≡ b
     fits = rw (← ew) (sym eb)
 
-    pub weight_large : b ≡ false → Weight 0
+    pub weight_large : b ≡ false → Weight None
     unfolding entry_fine
     weight_large l = rw (le-leb (kind e) 5 h, fits, l)
 
     module _ {a : Bool} (l : b ≡ true) (ea : a ≡ allowed (kind e) (payload e)) where
-      pub weight_code : a ≡ false → Weight 0
+      pub weight_code : a ≡ false → Weight None
       unfolding entry_fine
       weight_code f = rw (le-leb (kind e) 5 h, fits, l, ← ea, f)
 
-      pub weight_good : a ≡ true → Weight (3 + w)
+      pub weight_good : a ≡ true → Weight (Some (3 + w))
       unfolding entry_fine
       weight_good t = rw (le-leb (kind e) 5 h, fits, l, ← ea, t, ew)
 
@@ -88,33 +89,33 @@ pub ruleset weights = (weight_kind, weight_note_code, weight_note, weight_large,
 length_most : (e : ℕ) → entry_length e ≤ 17
 length_most e = omega (arith, width_most (kind e))
 
-module _ (e : ℕ) {r : ℕ} (h : r ≡ pick (entry_fine e) (entry_length e) 0) where
-  not_fine : r ≡ 0 → entry_fine e ≡ false
-  not_fine z = go (entry_fine e) refl
+module _ (e : ℕ) {r : Option ℕ} (h : r ≡ entry_weight e) where
+  not_fine : r ≡ None → entry_fine e ≡ false
+  not_fine z = go (entry_fine e) refl (sym z ∙ h)
     where
-      go : (b : Bool) → entry_fine e ≡ b → entry_fine e ≡ false
-      go true q = let k : entry_length e ≡ 0 = sym (rw q at h) ∙ z in let y : ⊥ = omega arith in absurd y
-      go false q = q
+      go : (b : Bool) → entry_fine e ≡ b → None ≡ pick b (Some (entry_length e)) None → entry_fine e ≡ false
+      go true q k = cc
+      go false q k = q
 
-  is_fine : (r ≡ 0 → ⊥) → entry_fine e ≡ true
-  is_fine z = go (entry_fine e) refl
+  is_fine : {b : ℕ} → r ≡ Some b → (entry_fine e ≡ true) × (b ≡ entry_length e)
+  is_fine {b} z = go (entry_fine e) refl (sym z ∙ h)
     where
-      go : (b : Bool) → entry_fine e ≡ b → entry_fine e ≡ true
-      go true q = q
-      go false q = absurd (z (rw q at h))
+      go : (f : Bool) → entry_fine e ≡ f → Some b ≡ pick f (Some (entry_length e)) None → (entry_fine e ≡ true) × (b ≡ entry_length e)
+      go true q k = (q, cc)
+      go false q k = cc
 
-  pub instruction_six : r ≡ 0 → Fault 6 ≡ weighed_of (instruction_length e)
+  pub instruction_six : r ≡ None → Err Code ≡ weighed_of (instruction_length e)
   unfolding instruction_length
   instruction_six z = rw (not_fine z)
 
-  module _ (s : r ≡ 0 → ⊥) where
-    pub instruction_header : e < 65536 → Fault 18 ≡ weighed_of (instruction_length e)
+  module _ {b : ℕ} (s : r ≡ Some b) where
+    pub instruction_header : e < 65536 → Err TableShape ≡ weighed_of (instruction_length e)
     unfolding instruction_length
-    instruction_header k = rw (is_fine s, lt-leb 1 (kind e) (omega arith))
+    instruction_header k = rw ((is_fine s).0, lt-leb 1 (kind e) (omega arith))
 
-    pub instruction_fine : 65536 ≤ e → Bits r ≡ weighed_of (instruction_length e)
+    pub instruction_fine : 65536 ≤ e → Ok b ≡ weighed_of (instruction_length e)
     unfolding instruction_length
-    instruction_fine k = rw (is_fine s, le-leb 1 (kind e) (omega arith), h, is_fine s) refl
+    instruction_fine k = rw ((is_fine s).0, le-leb 1 (kind e) (omega arith), (is_fine s).1) refl
 
 pub ruleset instructions = (instruction_six, instruction_header, instruction_fine)
 
@@ -126,15 +127,15 @@ unfolding width
 header_bound e h z = let k : payload e < 2 ^ 14 = rw z at h.fits in omega arith
 
 module _ (known : List Bool) (e : ℕ) where
-  module _ (h : 16384 ≤ e) {r : ℕ} (q : r ≡ pick (entry_fine e) (entry_length e) 0) where
-    pub header_six : r ≡ 0 → Fault 6 ≡ weighed_of (header_length known e)
+  module _ (h : 16384 ≤ e) {r : Option ℕ} (q : r ≡ entry_weight e) where
+    pub header_six : r ≡ None → Err Code ≡ weighed_of (header_length known e)
     unfolding header_length
     header_six z = rw (not_fine e q z)
 
-    pub header_other : (r ≡ 0 → ⊥) → Fault 18 ≡ weighed_of (header_length known e)
+    pub header_other : {b : ℕ} → r ≡ Some b → Err TableShape ≡ weighed_of (header_length known e)
     unfolding header_length
     header_other z =
-        let f = is_fine e q z in
+        let f = (is_fine e q z).0 in
         let n : kind e ≡ 0 → ⊥ = λ k. let l = header_bound e (fine_in_table e f) k in omega arith in
         rw (f, ne_eqb (kind e) 0 n)
 
@@ -145,14 +146,14 @@ module _ (known : List Bool) (e : ℕ) where
         let z : kind e ≡ 0 = omega arith in
         rw (in_table_fine e (header_in_table e h), z)
 
-    pub header_defines : (specifier e ≡ 0 → ⊥) → Bits 17 ≡ weighed_of (header_length known e)
+    pub header_defines : (specifier e ≡ 0 → ⊥) → Ok 17 ≡ weighed_of (header_length known e)
     header_defines s = rw (judged_by, ne_eqb (specifier e) 0 s)
 
     module _ (recall : specifier e ≡ 0) where
-      pub header_recalls : get_or known (part_of e) false ≡ true → Bits 17 ≡ weighed_of (header_length known e)
+      pub header_recalls : get_or known (part_of e) false ≡ true → Ok 17 ≡ weighed_of (header_length known e)
       header_recalls k = rw (judged_by, eq-eqb (specifier e) 0 recall, k)
 
-      pub header_unknown : get_or known (part_of e) false ≡ false → Fault 7 ≡ weighed_of (header_length known e)
+      pub header_unknown : get_or known (part_of e) false ≡ false → Err NoRecall ≡ weighed_of (header_length known e)
       header_unknown k = rw (judged_by, eq-eqb (specifier e) 0 recall, k)
 
 pub ruleset headers = (header_six, header_other, header_defines, header_recalls, header_unknown)
@@ -160,13 +161,14 @@ pub ruleset headers = (header_six, header_other, header_defines, header_recalls,
 -- ---- a body
 
 -- what an answer says of the outcome behind it
-pub weighed_bits : (x : Outcome ℕ) {b : ℕ} → Bits b ≡ weighed_of x → x ≡ accepted b
+pub weighed_bits : (x : Outcome ℕ) {b : ℕ} → Ok b ≡ weighed_of x → x ≡ accepted b
 weighed_bits (accepted c) {b} q = let e : b ≡ c = cc in ap (λ (y : ℕ). accepted y) (sym e)
-weighed_bits (refused n p) q = let z : ◌≡◌ {A = ℕ} 0 1 = cc in absurd (omega arith)
+weighed_bits (refused n p) q = cc
 
-pub weighed_fault : (x : Outcome ℕ) {n : ℕ} → Fault n ≡ weighed_of x → (p : ℕ) × (x ≡ refused n p)
-weighed_fault (accepted c) q = let z : ◌≡◌ {A = ℕ} 0 1 = cc in absurd (omega arith)
-weighed_fault (refused m p) {n} q = let e : n ≡ m = cc in (p, ap (λ (y : ℕ). refused y p) (sym e))
+-- a refusal is the answer, whatever was to follow
+pub weighed_fault : (x : Outcome ℕ) (f : ℕ → Outcome ℕ) {g : Ground} → Err g ≡ weighed_of x → Err g ≡ weighed_of (and_then x f)
+weighed_fault (accepted c) f q = cc
+weighed_fault (refused n p) f q = q
 
 -- so many bits more than a body's
 abbrev plus : ℕ → Outcome ℕ → Outcome ℕ
@@ -199,7 +201,7 @@ pub body_begins : (table : List ℕ) (at n : ℕ) → at ≤ length table → Bo
 body_begins table at n h = record { inside = h; fewer = omega arith; goes = sym (plus_zero (body_length n (drop at table))) }
 
 module _ {table : List ℕ} {at n i left bits : ℕ} (w : BodyWalk table at n i left bits) where
-  pub body_done : left ≤ 0 → Bits bits ≡ weighed_of (body_length n (drop at table))
+  pub body_done : left ≤ 0 → Ok bits ≡ weighed_of (body_length n (drop at table))
   unfolding body_length
   body_done h =
       let e : left ≡ 0 = omega arith in
@@ -207,21 +209,23 @@ module _ {table : List ℕ} {at n i left bits : ℕ} (w : BodyWalk table at n i 
       sym (ap weighed_of w.goes ∙ (rw (e, z)))
 
   module _ (h : 0 < left) where
-    pub body_cut : length table ≤ i → Fault 18 ≡ weighed_of (body_length n (drop at table))
+    pub body_cut : length table ≤ i → Err TableShape ≡ weighed_of (body_length n (drop at table))
     unfolding body_length
     body_cut k = sym (ap weighed_of w.goes ∙ (rw (one_less left h, drop_of_length-le table {i = i} k)))
 
-    module _ {s : Weighed} (k : i < length table) (q : s ≡ weighed_of (instruction_length (get_or table i 0))) where
+    module _ {s : Result ℕ Ground} (k : i < length table) (q : s ≡ weighed_of (instruction_length (get_or table i 0))) where
       next : drop i table ≡ get_or table i 0 ∷ drop (suc i) table
       next = drop-cons table i 0 k
 
-      pub body_fault : {m : ℕ} → s ≡ Fault m → Fault m ≡ weighed_of (body_length n (drop at table))
+      pub body_fault : {g : Ground} → s ≡ Err g → Err g ≡ weighed_of (body_length n (drop at table))
       unfolding body_length
       body_fault g =
-          let b = weighed_fault (instruction_length (get_or table i 0)) (sym g ∙ q) in
-          sym (ap weighed_of w.goes ∙ (rw (one_less left h, next, b.1)))
+          let x = instruction_length (get_or table i 0) in
+          let f : ℕ → Outcome ℕ = λ b. and_then (body_length (left - 1) (drop (suc i) table)) (λ c. accepted (b + c)) in
+          weighed_fault (and_then x f) (λ c. accepted (bits + c)) (weighed_fault x f (sym g ∙ q))
+          ∙ sym (ap weighed_of (w.goes ∙ ap (λ (x : ℕ). plus bits (body_length x (drop i table))) (one_less left h)) ∙ (rw next))
 
-      module _ {more : ℕ} (g : s ≡ Bits more) where
+      module _ {more : ℕ} (g : s ≡ Ok more) where
         there : instruction_length (get_or table i 0) ≡ accepted more
         there = weighed_bits (instruction_length (get_or table i 0)) (sym g ∙ q)
 

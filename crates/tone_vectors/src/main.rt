@@ -22,7 +22,7 @@
 ghost use Rattle.std.specs.Prelude.{◌≤◌, ◌<◌, length};
 
 use tone_read::Reading;
-use tone_write::Writing;
+use written::Writing;
 
 // How many octets and cells are in hand.
 #[derive(Clone, Copy)]
@@ -61,13 +61,13 @@ fn show_reading(answer: Reading) {
 // Prints the numbers of a writing.
 fn show_writing(answer: Writing) {
     match answer {
-        Writing::Written { octets: n } => {
+        Ok(octets) => {
             io::write_all(1, b" 0 0");
-            vectors::number(n.0 as u64);
+            vectors::number(octets.0 as u64);
         }
-        Writing::Refused { number: no, place } => {
-            vectors::number(no as u64);
-            vectors::number(place.0 as u64);
+        Err(refusal) => {
+            vectors::number(refusal.why.number() as u64);
+            vectors::number(refusal.place.0 as u64);
             vectors::number(0);
         }
     }

@@ -11,6 +11,7 @@ use borrow.Author.Tests.{le-leb, eq-eqb, eqb-true, eqb-false, leb-true}
 use Rattle.bits.specs.Bits.{Octets}
 use Rattle.bits.specs.Outcome.{Outcome, accepted, refused, and_then, demand}
 use Rattle.bits.proofs.Choice.{both}
+use Rattle.bits.proofs.Refusals.{GivenBy, given_then, given_demand}
 use Rattle.tone.specs.Tone.{Tone, front_of, cells, patterns_of, per_character, characters, allowed_title, Titled, FrontFormed}
 use Rattle.tone.specs.Writing.{tone_length, most_octets, WellFormed}
 use Rattle.tone.proofs.Fronts.{or_true, one_or_two, song_fine_lem}
@@ -19,6 +20,7 @@ use Rattle.tone.proofs.Tables.{patterns_of_cells}
 use Rattle.tone_table.specs.Judging.{judge_table}
 use Rattle.tone_table.proofs.Walks.{not_refused}
 use Rattle.tone_table.proofs.Places.{none, then_zero, demand_zero, table_zero, place_zero}
+use Rattle.tone_table.proofs.Grounds.{table_given}
 use Rattle.tone_table.proofs.GoodTables.{GoodTable, judged_is_good, good_is_judged}
 use Rattle.tone_write.specs.Judging.{song_fine, title_fine, sized, tone_of, write_tone}
 
@@ -152,3 +154,15 @@ write_place song unicode title table room q =
     (then_zero (λ _. sized room (tone_of song unicode title table)) (table_zero table)
     (λ _. demand_zero (leb l most_octets) 1 (demand_zero (leb l room) 11 none))))))
     q
+
+-- ---- every refusal's number is one of document 01
+
+pub write_given : (song : ℕ) (unicode : Bool) (title table : List ℕ) (room : ℕ) → GivenBy (write_tone song unicode title table room)
+unfolding write_tone sized
+write_given song unicode title table room =
+    let l = tone_length (tone_of song unicode title table) in
+    given_demand (song_fine song) 4 _ refl
+    (given_demand (title_fine song unicode title) 17 _ refl
+    (given_demand (allowed_title unicode title) 21 _ refl
+    (given_then (judge_table table) (λ _. sized room (tone_of song unicode title table)) (table_given table)
+    (λ _. given_demand (leb l most_octets) 1 _ refl (given_demand (leb l room) 11 _ refl tt)))))

@@ -9,6 +9,7 @@ use lib.ListN.{length, take, drop}
 use lib.Seq.{take_at}
 use lib.Dec.{leb}
 use borrow.Author.Tests.{leb-true}
+use Rattle.std.specs.Prelude.{Ok}
 use Rattle.bits.specs.Choice.{pick}
 use Rattle.bits.specs.Bits.{Octets}
 use Rattle.bits.specs.Lent.{over}
@@ -26,8 +27,7 @@ use Rattle.tone_read.specs.declared.Reading.TheVariants.{Read}
 use Rattle.tone_read.specs.Promise.{roomed, read_into, read_answer, ReadPromise}
 use Rattle.tone_read.proofs.Order.{room_enough}
 use Rattle.tone_table.proofs.Walks.{not_refused}
-use Rattle.tone_write.specs.declared.Writing.{Writing}
-use Rattle.tone_write.specs.declared.Writing.TheVariants.{Written}
+use Rattle.written.specs.Written.{Writing}
 use Rattle.tone_write.specs.Judging.{write_tone}
 use Rattle.tone_write.specs.Promise.{write_answer, WritePromise}
 use Rattle.tone_write.proofs.Accepting.{Writable, accepted_is_writable, writable_is_accepted}
@@ -109,7 +109,7 @@ read_exactly {m} {table} {title} o h = (
 
 -- a call of `write` that wrote the tone t
 pub record WroteAs (t : Tone) (out out' : List ℕ) (r : Writing) : Type 0 where
-  pub answer : r ≡ Written (octet_count (tone_length t))
+  pub answer : r ≡ Ok (octet_count (tone_length t))
   pub its_octets : out' ≡ over (tone_octets t) out
 
 module _ (song : ℕ) (unicode : Bool) (title table out : List ℕ) {out' : List ℕ} {r : Writing} (h : WritePromise song unicode title table out out' r) where
@@ -120,15 +120,15 @@ module _ (song : ℕ) (unicode : Bool) (title table out : List ℕ) {out' : List
       record { answer = rw e at h.answer; its_octets = rw e at h.leaves }
 
   -- and nothing else is written
-  pub write_only : Octets title → {n : OctetCount} → r ≡ Written n → (t : Tone) × Writable song unicode title table (length out) t × WroteAs t out out' r
+  pub write_only : Octets title → {n : OctetCount} → r ≡ Ok n → (t : Tone) × Writable song unicode title table (length out) t × WroteAs t out out' r
   write_only o {n} g = go (write_tone song unicode title table (length out)) refl (sym g ∙ h.answer)
     where
-      go : (x : Outcome Tone) → write_tone song unicode title table (length out) ≡ x → Written n ≡ write_answer x → (t : Tone) × Writable song unicode title table (length out) t × WroteAs t out out' r
+      go : (x : Outcome Tone) → write_tone song unicode title table (length out) ≡ x → Ok n ≡ write_answer x → (t : Tone) × Writable song unicode title table (length out) t × WroteAs t out out' r
       go (accepted t) q k = let w = accepted_is_writable song unicode title table (length out) t o q in (t, w, write_gives t w)
       go (refused k l) q e = let z : ◌≡◌ {A = ℕ} 0 1 = cc in absurd (omega arith)
 
   -- `write` accepts exactly the song types, titles and tables of well-formed tones for which there is room
-  pub write_exactly : Octets title → ((n : OctetCount) × (r ≡ Written n)) ↔ ((t : Tone) × Writable song unicode title table (length out) t)
+  pub write_exactly : Octets title → ((n : OctetCount) × (r ≡ Ok n)) ↔ ((t : Tone) × Writable song unicode title table (length out) t)
   write_exactly o = (λ a. let b = write_only o a.1 in (b.0, b.1), λ b. (octet_count (tone_length b.0), (write_gives b.0 b.1).answer))
 
 -- ---- one after the other
@@ -141,7 +141,7 @@ taken new old {n} e = take_at new (drop (length new) old) n (sym e)
 pub write_after_read : (m table title : List ℕ) {table' title' : List ℕ} {s : ℕ} {u : Bool} {c p e : ℕ} (out : List ℕ) {out' : List ℕ} {r : Writing} → Octets m
     → ReadPromise m table title table' title' (Read s u c p e) → length m ≤ length out
     → WritePromise s u (take (per_character u * c) title') (take e table') out out' r
-    → (r ≡ Written (octet_count (length m))) × (out' ≡ over m out)
+    → (r ≡ Ok (octet_count (length m))) × (out' ≡ over m out)
 write_after_read m table title {table'} {title'} {s} {u} {c} {p} {e} out o h room w =
     let b = read_only m table title h o refl in
     let t = b.0 in
@@ -162,7 +162,7 @@ write_after_read m table title {table'} {title'} {s} {u} {c} {p} {e} out o h roo
 
 -- read after write gives the parts back
 pub read_after_write : (song : ℕ) (u : Bool) (title table out : List ℕ) {out' : List ℕ} {n : OctetCount} (table₂ title₂ : List ℕ) {table₂' title₂' : List ℕ} {r : Reading} → Octets title
-    → WritePromise song u title table out out' (Written n) → length title ≤ length title₂ → length table ≤ length table₂
+    → WritePromise song u title table out out' (Ok n) → length title ≤ length title₂ → length table ≤ length table₂
     → ReadPromise (take n.0 out') table₂ title₂ table₂' title₂' r
     → (r ≡ Read song u (characters u title) (length (patterns_of table)) (length table)) × (table₂' ≡ over table table₂) × (title₂' ≡ over title title₂)
 read_after_write song u title table out {out'} {n} table₂ title₂ {r = r} o h kt kl q =

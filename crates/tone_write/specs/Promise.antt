@@ -2,23 +2,12 @@
 use Rattle.std.specs.Prelude.{ℕ, ◌≡◌, Bool, List, length}
 use Rattle.bits.specs.Lent.{over}
 use Rattle.bits.specs.Outcome.{Outcome, accepted, refused}
-use Rattle.bits.specs.Places.{place, octet_count}
+use Rattle.bits.specs.Places.{octet_count}
+use Rattle.bits.specs.Refusals.{answered}
 use Rattle.tone.specs.Tone.{Tone}
 use Rattle.tone.specs.Writing.{tone_length, tone_octets}
-use Rattle.tone_write.specs.declared.Writing.{Writing}
-use Rattle.tone_write.specs.declared.Writing.TheVariants.{Written, Refused}
+use Rattle.written.specs.Written.{Writing, Numbers, numbers}
 use Rattle.tone_write.specs.Judging.{write_tone}
-
--- the numbers of document 01
-pub record Numbers : Type 0 where
-  pub refusal : ℕ
-  pub place : ℕ
-  pub octets : ℕ
-
--- each case's number and values: on a refusal all other numbers are 0
-abbrev pub numbers : Writing → Numbers
-numbers (Written n) = record { refusal = 0; place = 0; octets = n.0 }
-numbers (Refused n p) = record { refusal = n; place = p.0; octets = 0 }
 
 -- the numbers that the rules ask for
 abbrev pub write_numbers : Outcome Tone → Numbers
@@ -27,8 +16,7 @@ write_numbers (refused n p) = record { refusal = n; place = p; octets = 0 }
 
 -- the answer to an outcome
 abbrev pub write_answer : Outcome Tone → Writing
-write_answer (accepted t) = Written (octet_count (tone_length t))
-write_answer (refused n p) = Refused n (place p)
+write_answer o = answered (λ t. octet_count (tone_length t)) o
 
 -- the lent octets after the call
 abbrev pub octets_after : Outcome Tone → List ℕ → List ℕ

@@ -15,16 +15,9 @@ ghost use Rattle.tone_write.specs.Judging.{song_fine, title_fine, tone_of, write
 ghost use Rattle.tone_write.specs.Appending.{reached, Appended, Begun, front_with, front_length};
 ghost use Rattle.tone_write.specs.Promise.{WritePromise};
 
-use bits::{BitPlace, OctetCount, Sink};
+use bits::{BitPlace, Ground, OctetCount, Sink};
 use tone_elements::Characters;
-use tone_table::Judged;
-
-// What writing a tone answers.
-#[derive(Clone, Copy)]
-pub enum Writing {
-    Written { octets: OctetCount },
-    Refused { number: u32, place: BitPlace },
-}
+use written::Writing;
 
 // ---- writing
 
@@ -186,32 +179,17 @@ fn save(song: u32, unicode: bool, title: &[u8], table: &[u32], out: &mut [u8]) -
     requires { (song_fine song ≡ true) × (title_fine song unicode title.now ≡ true) × (allowed_title unicode title.now ≡ true) }
     ensures { WritePromise song unicode title.now table.now out.old out.new result }
 {
-    match tone_table::judge(table) {
-        Judged::Faulty { number } => Writing::Refused {
-            number,
-            place: BitPlace(0),
-        },
-        Judged::Sound { patterns, bits } => {
-            let front = front_end(song, unicode, OctetCount(title.len()));
-            let end = BitPlace(front.0 + bits);
-            let octets = bits::octets_to(end).0 + 1;
-            if 4096 < octets {
-                return Writing::Refused {
-                    number: 1,
-                    place: BitPlace(0),
-                };
-            }
-            if out.len() < octets {
-                return Writing::Refused {
-                    number: 11,
-                    place: BitPlace(0),
-                };
-            }
-            Writing::Written {
-                octets: fill(out, song, unicode, title, table, patterns),
-            }
-        }
+    let judged = tone_table::judge(table)?;
+    let front = front_end(song, unicode, OctetCount(title.len()));
+    let end = BitPlace(front.0 + judged.bits);
+    let octets = bits::octets_to(end).0 + 1;
+    if 4096 < octets {
+        return Err(Ground::TooLong.into());
     }
+    if out.len() < octets {
+        return Err(Ground::NoRoom.into());
+    }
+    Ok(fill(out, song, unicode, title, table, judged.patterns))
 }
 
 // Is each of a title's `n` characters allowed? Its octets are judged as those of a message are.
@@ -228,42 +206,19 @@ fn legible(unicode: bool, title: &[u8], n: u32) -> bool
     }
 }
 
-// Writes a tone whose song type is fine, and whose title is fine but for the characters in it.
-fn spell(song: u32, unicode: bool, title: &[u8], table: &[u32], out: &mut [u8]) -> Writing
-    requires { (song_fine song ≡ true) × (title_fine song unicode title.now ≡ true) }
-    ensures { WritePromise song unicode title.now table.now out.old out.new result }
-{
-    let n = tone_elements::characters_in(OctetCount(title.len()), unicode);
-    if legible(unicode, title, n) {
-        return save(song, unicode, title, table, out);
-    }
-    Writing::Refused {
-        number: 21,
-        place: BitPlace(0),
-    }
-}
-
 // Writes a tone from its song type, its title and its table.
 pub fn write(song: u32, unicode: bool, title: &[u8], table: &[u32], out: &mut [u8]) -> Writing
     ensures { WritePromise song unicode title.now table.now out.old out.new result }
 {
-    if song == 0 {
-        return Writing::Refused {
-            number: 4,
-            place: BitPlace(0),
-        };
+    if song == 0 || 2 < song {
+        return Err(Ground::SongType.into());
     }
-    if 2 < song {
-        return Writing::Refused {
-            number: 4,
-            place: BitPlace(0),
-        };
+    if !titled(song, unicode, title) {
+        return Err(Ground::Title.into());
     }
-    if titled(song, unicode, title) {
-        return spell(song, unicode, title, table, out);
+    let n = tone_elements::characters_in(OctetCount(title.len()), unicode);
+    if !legible(unicode, title, n) {
+        return Err(Ground::Character.into());
     }
-    Writing::Refused {
-        number: 17,
-        place: BitPlace(0),
-    }
+    save(song, unicode, title, table, out)
 }
