@@ -9,22 +9,24 @@ use lib.ListN.{length, take, drop, set, length-set}
 use Rattle.bits.specs.Bits.{place_after}
 use Rattle.std.specs.Prelude.{Result, Ok, Err, ⊤}
 use Rattle.bits.specs.Outcome.{Outcome, accepted, refused}
-use Rattle.bits.specs.Refusals.{number_of, ground_of, answered}
+use Rattle.bits.specs.Refusals.{number_of, answered}
 use Rattle.bits.specs.declared.refusal.Refusal.{Refusal}
-use Rattle.bits.specs.declared.refusal.Ground.TheVariants.{TooLong}
 use Rattle.bits.proofs.Refusals.{grounded}
 use Rattle.bits.specs.Places.{place}
 use Rattle.bits.specs.declared.BitPlace.{BitPlace}
 use Rattle.bits.specs.declared.OctetCount.{OctetCount}
-use Rattle.tone.specs.Tone.{Tone}
+use Rattle.tone.specs.Tone.{Tone, front_of}
+use Rattle.tone.specs.Writing.{front_bits}
 use Rattle.tone.specs.Reading.{got, read_tone, tone_at}
 use Rattle.tone.proofs.Refusals.{place_most}
 use Rattle.tone.proofs.Numbered.{tone_numbered}
 use Rattle.tone.proofs.Stretch.{stretch_reads}
 use Rattle.tone.proofs.Standing.{at_stands, stands_read}
+use Rattle.tone_judge.specs.declared.Judged.{Judged}
+use Rattle.tone_judge.specs.Answers.{plainly, judged, judged_of}
 use Rattle.inside.specs.Inside.{moved_by}
 use Rattle.inside.specs.Answers.{inside_of}
-use Rattle.inside.proofs.Answered.{refusal_there}
+use Rattle.inside.proofs.Answered.{refusal_there, accepted_there}
 
 -- ---- a message in its place
 
@@ -35,18 +37,18 @@ inside_filled m s e {n} q f i k l =
     let z : s + tone_at m s ≡ e = omega (arith, q) in
     rw (stretch_reads m s e (omega arith) k l (stands_read m s (omega arith) a ∙ ap (λ (x : ℕ). got a.tone (place_after x)) z)) refl
 
-module _ (m : List ℕ) (start : ℕ) {j : Result ⊤ Refusal} (q : j ≡ answered (λ _. tt) (read_tone m)) where
-  pub inside_fine : {u : ⊤} → j ≡ Ok u → Ok tt ≡ inside_of (moved_by start (read_tone m))
-  inside_fine {u} g = go (read_tone m) (sym g ∙ q)
-    where
-      go : (x : Outcome Tone) → Ok u ≡ answered (λ _. tt) x → Ok tt ≡ inside_of (moved_by start x)
-      go (accepted t) e = refl
-      go (refused n p) e = cc
+-- a tone as it is judged
+abbrev as_judged : Tone → Judged
+as_judged t = judged plainly (length (front_bits (front_of t))) t
+
+module _ (m : List ℕ) (start : ℕ) {j : Result Judged Refusal} (q : j ≡ judged_of (read_tone m)) where
+  pub inside_fine : {w : Judged} → j ≡ Ok w → Ok tt ≡ inside_of (moved_by start (read_tone m))
+  inside_fine g = let a = accepted_there as_judged (read_tone m) (sym g ∙ q) in rw a.1 refl
 
   module _ {e : Refusal} (g : j ≡ Err e) where
     -- the refusal behind a fault
     fault_there : read_tone m ≡ refused (number_of e.why) e.place.0
-    fault_there = refusal_there (λ _. tt) (read_tone m) (tone_numbered m) (sym g ∙ q)
+    fault_there = refusal_there as_judged (read_tone m) (tone_numbered m) (sym g ∙ q)
 
     -- its place is within the most octets of a tone
     pub inside_short : e.place.0 ≤ 32768
@@ -56,13 +58,6 @@ module _ (m : List ℕ) (start : ℕ) {j : Result ⊤ Refusal} (q : j ≡ answer
     inside_fault {r} h = rw (fault_there, grounded e.why) (ap (λ (x : ℕ). Err (record { why = e.why; place = place x })) h)
 
 pub ruleset insides = (inside_filled, inside_fine, inside_short, inside_fault)
-
--- for now: the numbers from 28 on have no ground
-pub no_ground : (n : ℕ) → 28 ≤ n → TooLong ≡ ground_of n
-no_ground n h = go n (n - 28) (omega arith)
-  where
-    go : (k r : ℕ) → k ≡ suc (suc (suc (suc (suc (suc (suc (suc (suc (suc (suc (suc (suc (suc (suc (suc (suc (suc (suc (suc (suc (suc (suc (suc (suc (suc (suc (suc r))))))))))))))))))))))))))) → TooLong ≡ ground_of k
-    go k r e = rw e refl
 
 -- ---- two octets
 

@@ -19,7 +19,7 @@ use Rattle.bits.specs.Places.{place, octet_count}
 use Rattle.bits.specs.declared.BitPlace.{BitPlace}
 use Rattle.bits.specs.declared.OctetCount.{OctetCount}
 use Rattle.tone.specs.Tone.{Tone}
-use Rattle.inside.specs.Inside.{number, cut}
+use Rattle.inside.specs.Inside.{number, sum, cut}
 use Rattle.inside.proofs.Answered.{refusal_there, accepted_there, refusal_passed}
 use Rattle.pack.specs.declared.Found.{Found}
 use Rattle.pack.specs.declared.Sound.{Sound}
@@ -27,6 +27,7 @@ use Rattle.pack.specs.Pack.{most_pack, Row, row_at, rows_at, lengths_in, first_r
 use Rattle.pack.specs.Answers.{turn_of, rows_judged, judged_of}
 use Rattle.pack.specs.Promises.{ReadPromise, Finding, found_at, find_answer, FindPromise, MessagePromise}
 use Rattle.bits.proofs.Refusals.{grounded}
+use Rattle.pack.proofs.Turning.{continues_sum}
 use Rattle.pack.proofs.Rules.{met, read_count}
 use Rattle.pack.proofs.Nth.{pack_first, no_message, nth_rows_at, row_inside, row_short}
 use Rattle.pack.proofs.Numbered.{pack_numbered, row_numbered, reads, finds}
@@ -41,7 +42,7 @@ module _ (p : List ℕ) (rows n : ℕ) {k : Bool} (c : k ≡ continues 0 (rows_a
       apart true e = sym e
       apart false e = refl
 
-  pub rows_continue : not k ≡ false → continues 0 (rows_at n p rows) rows ≡ true
+  rows_continue : not k ≡ false → continues 0 (rows_at n p rows) rows ≡ true
   rows_continue h = sym c ∙ holds k h
     where
       holds : (b : Bool) → not b ≡ false → b ≡ true
@@ -51,7 +52,11 @@ module _ (p : List ℕ) (rows n : ℕ) {k : Bool} (c : k ≡ continues 0 (rows_a
   pub rows_judged_lem : not k ≡ false → {j : Result ⊤ Refusal} → j ≡ turn_of (read_in_turn 0 (cut (lengths_in (rows_at n p rows)) p)) → j ≡ turn_of (rows_judged p rows n)
   rows_judged_lem h q = rw (rows_continue h) q
 
-pub ruleset in_rows = (rows_apart, rows_continue, rows_judged_lem)
+  -- rows that continue each other have lengths that end ahead of them
+  pub rows_sum : not k ≡ false → (rows + 4 * n ≤ length p) × (length p ≤ 65535) → sum (lengths_in (rows_at n p rows)) ≤ length p
+  rows_sum h l = omega (arith, continues_sum 0 (rows_at n p rows) rows (rows_continue h), l.0)
+
+pub ruleset in_rows = (rows_apart, rows_sum, rows_judged_lem)
 
 -- ---- judge
 

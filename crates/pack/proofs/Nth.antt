@@ -4,13 +4,15 @@ use native.Mathlib.Omega.{arith}
 use mathlib.Core.Path.{◌≡◌, refl, sym, ap, ◌∙◌}
 use mathlib.Core.Bool.{Bool, true, false}
 use mathlib.Core.List.{List, [], ◌∷◌}
-use lib.ListN.{length, get_or, take}
+use lib.ListN.{length, get_or, take, length-map, get_or-map}
 use lib.Dec.{ltb, eqb}
 use borrow.Author.Tests.{lt-ltb, le-ltb, ltb-true, ltb-false, eqb-true}
 use Rattle.bits.specs.Outcome.{Outcome, accepted, refused}
 use Rattle.bits.proofs.Choice.{both}
 use Rattle.tone.specs.Tone.{Tone}
-use Rattle.inside.specs.Inside.{sum}
+use mir.Val.{Fits}
+use mir.Syntax.{w64}
+use Rattle.inside.specs.Inside.{number, sum}
 use Rattle.pack.specs.Pack.{most_pack, Row, row_at, rows_at, lengths_in, first_row, count, rows_in, continues, read_pack, no_row, nth_row}
 use Rattle.pack.proofs.Turning.{continues_sum}
 use Rattle.pack.proofs.Rules.{length_rows_at, Met, met, read_count}
@@ -40,6 +42,35 @@ pub nth_rows_at : (k : ℕ) (p : List ℕ) (at n : ℕ) → n < k → get_or (ro
 nth_rows_at zero p at n h = absurd (omega arith)
 nth_rows_at (suc k) p at zero h = let e : at ≡ at + 4 * 0 = omega arith in ap (row_at p) e
 nth_rows_at (suc k) p at (suc n) h = let e : at + 4 + 4 * n ≡ at + 4 * suc n = omega arith in nth_rows_at k p (at + 4) n (omega arith) ∙ ap (row_at p) e
+
+-- the lengths of rows that lie within octets
+module _ (p : List ℕ) (from count : ℕ) where
+  pub lengths_many : count ≡ length (lengths_in (rows_at count p from))
+  lengths_many = sym (length-map (rows_at count p from) (λ (r : Row). r.length) ∙ length_rows_at count p from)
+
+  module _ {i : ℕ} (h : i < length (lengths_in (rows_at count p from))) where
+    among : i < count
+    among = rw lengths_many h
+
+    -- the nth stands in the nth row
+    pub lengths_nth : {n : ℕ} → (n ≡ number p (from + 4 * i + 2)) × (n < 65536) → n ≡ get_or (lengths_in (rows_at count p from)) i 0
+    lengths_nth e = e.0 ∙ sym (get_or-map (λ (r : Row). r.length) (rows_at count p from) i no_row ∙ ap (λ (r : Row). r.length) (nth_rows_at count p from i among))
+
+    module _ (inside : from + 4 * count ≤ length p) where
+      pub lengths_inside : from + 4 * i + 2 + 2 ≤ length p
+      lengths_inside = omega (arith, among)
+
+      module _ (short : length p ≤ 65535) where
+        pub times_fit : Fits w64 (4 * i)
+        times_fit = record { fits = omega (arith, lengths_inside) }
+
+        pub start_fit : Fits w64 (from + 4 * i)
+        start_fit = record { fits = omega (arith, lengths_inside) }
+
+        pub length_fit : Fits w64 (from + 4 * i + 2)
+        length_fit = record { fits = omega (arith, lengths_inside) }
+
+pub ruleset row_lengths = (lengths_many, lengths_nth, lengths_inside, times_fit, start_fit, length_fit)
 
 -- of rows that continue each other it starts where the lengths ahead of it end
 pub nth_start : (at : ℕ) (rs : List Row) (end n : ℕ) → continues at rs end ≡ true → n < length rs → (get_or rs n no_row).start ≡ at + sum (take n (lengths_in rs))

@@ -121,50 +121,6 @@ module _ (m : List ℕ) where
           go (accepted a) e = cc
           go (refused k f) e = e
 
--- ---- along rows
-
--- the messages of the rows that are left are still to be judged
-pub record AlongRows (p : List ℕ) (rows n at row left : ℕ) : Type 0 where
-  pub turn : Turn (read_in_turn 0 (cut (lengths_in (rows_at n p rows)) p)) p (lengths_in (rows_at left p row)) at
-  pub inside : row + 4 * left ≤ length p
-
-module _ (p : List ℕ) (rows n : ℕ) where
-  pub rows_begin : rows + 4 * n ≤ length p → continues 0 (rows_at n p rows) rows ≡ true → AlongRows p rows n 0 rows n
-  rows_begin h q = record { turn = turn_begin p (lengths_in (rows_at n p rows)) (omega (arith, continues_sum 0 (rows_at n p rows) rows q)); inside = h }
-
-  module _ {at row left : ℕ} (a : AlongRows p rows n at row left) where
-    module _ (h : 0 < left) where
-      -- the next message's length, and those behind it
-      first : lengths_in (rows_at left p row) ≡ number p (row + 2) ∷ lengths_in (rows_at (left - 1) p (row + 4))
-      first = go left h
-        where
-          go : (k : ℕ) → 0 < k → lengths_in (rows_at k p row) ≡ number p (row + 2) ∷ lengths_in (rows_at (k - 1) p (row + 4))
-          go zero h = absurd (omega arith)
-          go (suc k) h = let e : suc k - 1 ≡ k = omega arith in rw e refl
-
-      module _ {b : ℕ} (f : (b ≡ number p (row + 2)) × (b < 65536)) where
-        due : Turn (read_in_turn 0 (cut (lengths_in (rows_at n p rows)) p)) p (b ∷ lengths_in (rows_at (left - 1) p (row + 4))) at
-        due = subst (λ (ns : List ℕ). Turn (read_in_turn 0 (cut (lengths_in (rows_at n p rows)) p)) p ns at) (rw f.0 first) a.turn
-
-        pub rows_inside : at + b ≤ length p
-        rows_inside = omega (arith, due.room)
-
-        module _ {j : Result ⊤ Refusal} (q : j ≡ inside_of (moved_by at (read_tone (take (at + b - at) (drop at p))))) where
-          pub rows_turn : {u : ⊤} → j ≡ Ok u → AlongRows p rows n (at + b) (row + 4) (left - 1)
-          rows_turn g = record { turn = turn_on p due q g; inside = omega (arith, a.inside) }
-
-          pub rows_bad : {r : Refusal} → j ≡ Err r → Err r ≡ turn_of (read_in_turn 0 (cut (lengths_in (rows_at n p rows)) p))
-          rows_bad g = turn_off p due q g
-
-    pub rows_end : left ≤ 0 → Ok tt ≡ turn_of (read_in_turn 0 (cut (lengths_in (rows_at n p rows)) p))
-    rows_end h = turn_end p a.turn (go left h)
-      where
-        go : (k : ℕ) → k ≤ 0 → lengths_in (rows_at k p row) ≡ []
-        go zero h = refl
-        go (suc k) h = absurd (omega arith)
-
-pub ruleset along_rows = (rows_begin, rows_inside, rows_turn, rows_bad, rows_end)
-
 -- ---- along lengths
 
 -- a number of 32 bits fits 64
@@ -176,22 +132,22 @@ pub record AlongLengths (m ns : List ℕ) (at i : ℕ) : Type 0 where
   pub turn : Turn (read_in_turn 0 (cut ns m)) m (drop i ns) at
 
 module _ (m ns : List ℕ) where
-  pub lengths_begin : sum ns ≡ length m → AlongLengths m ns 0 0
-  lengths_begin h = record { turn = turn_begin m ns (omega arith) }
+  pub lengths_begin : sum ns ≤ length m → AlongLengths m ns 0 0
+  lengths_begin h = record { turn = turn_begin m ns h }
 
   module _ {at i : ℕ} (a : AlongLengths m ns at i) where
-    module _ (h : i < length ns) where
-      next : Turn (read_in_turn 0 (cut ns m)) m (get_or ns i 0 ∷ drop (i + 1) ns) at
-      next = subst (λ (xs : List ℕ). Turn (read_in_turn 0 (cut ns m)) m xs at) (drop-cons ns i 0 h ∙ ap (λ (k : ℕ). get_or ns i 0 ∷ drop k ns) (sym (add-one i))) a.turn
+    module _ (h : i < length ns) {n : ℕ} (e : n ≡ get_or ns i 0) where
+      next : Turn (read_in_turn 0 (cut ns m)) m (n ∷ drop (i + 1) ns) at
+      next = subst (λ (xs : List ℕ). Turn (read_in_turn 0 (cut ns m)) m xs at) (drop-cons ns i 0 h ∙ ap₂ (λ (x k : ℕ). x ∷ drop k ns) (sym e) (sym (add-one i))) a.turn
 
-      pub lengths_inside : at + get_or ns i 0 ≤ length m
+      pub lengths_inside : at + n ≤ length m
       lengths_inside = omega (arith, next.room)
 
-      pub lengths_fit : length m ≤ 65535 → Fits w64 (at + get_or ns i 0)
+      pub lengths_fit : length m ≤ 65535 → Fits w64 (at + n)
       lengths_fit k = record { fits = omega (arith, next.room) }
 
-      module _ {j : Result ⊤ Refusal} (q : j ≡ inside_of (moved_by at (read_tone (take (at + get_or ns i 0 - at) (drop at m))))) where
-        pub lengths_turn : {u : ⊤} → j ≡ Ok u → AlongLengths m ns (at + get_or ns i 0) (i + 1)
+      module _ {j : Result ⊤ Refusal} (q : j ≡ inside_of (moved_by at (read_tone (take (at + n - at) (drop at m))))) where
+        pub lengths_turn : {u : ⊤} → j ≡ Ok u → AlongLengths m ns (at + n) (i + 1)
         lengths_turn g = record { turn = turn_on m next q g }
 
         pub lengths_bad : {r : Refusal} → j ≡ Err r → Err r ≡ turn_of (read_in_turn 0 (cut ns m))
@@ -200,7 +156,7 @@ module _ (m ns : List ℕ) where
     pub lengths_end : length ns ≤ i → Ok tt ≡ turn_of (read_in_turn 0 (cut ns m))
     lengths_end h = turn_end m a.turn (drop_of_length-le ns h)
 
-pub ruleset along_lengths = (lengths_begin, lengths_inside, lengths_fit, lengths_turn, lengths_bad, lengths_end, wider)
+pub ruleset along_lengths = (lengths_begin, lengths_inside, lengths_fit, lengths_turn, lengths_bad, lengths_end)
 
 -- ---- what lengths add up to
 

@@ -1,7 +1,7 @@
 #![tactic(auto)]
 
 // Tone packs: messages back to back, a row for each, how many there are, and where the rows begin.
-ghost use Rattle.std.specs.Prelude.{◌≡◌, true, ◌++◌, ◌+◌, ◌*◌, ◌≤◌, ◌<◌, length, drop};
+ghost use Rattle.std.specs.Prelude.{◌≡◌, ℕ, ◌++◌, ◌+◌, ◌*◌, ◌≤◌, ◌<◌, List, length, get_or, drop};
 ghost use Rattle.std.proofs.lemmas.List.Edits.{sets};
 ghost use Rattle.inside.specs.Inside.{pair, sum, cut};
 ghost use Rattle.pack.specs.Pack.{rows_at, lengths_in, rows_from, pack_of, pack_length, continues as continuesBy, read_in_turn, read_pack};
@@ -25,7 +25,73 @@ struct Sound {
     rows: OctetCount,
 }
 
+// ---- lengths
+
+// The lengths of messages that lie back to back.
+pub trait Lengths {
+    ghost lengths: { Self → List ℕ };
+
+    // How many they are.
+    fn count(&self) -> usize
+        ensures { result ≡ length (lengths self.now) };
+
+    // One of them, counted from 0.
+    fn nth(&self, i: usize) -> usize
+        requires { i < length (lengths self.now) }
+        ensures { result ≡ get_or (lengths self.now) i 0 };
+}
+
+// A row of lengths.
+impl<'a> Lengths for &'a [u32] {
+    ghost lengths = { λ ns. ns.now };
+
+    fn count(&self) -> usize {
+        self.len()
+    }
+
+    fn nth(&self, i: usize) -> usize {
+        self[i] as usize
+    }
+}
+
+// The rows of a pack.
+#[derive(Clone, Copy)]
+struct Rows<'a> {
+    pack: &'a [u8],
+    from: OctetCount,
+    count: usize,
+    ghost inside: { from.0 + 4 * count ≤ length pack.now },
+    ghost short: { length pack.now ≤ 65535 },
+}
+
+impl<'a> Lengths for Rows<'a> {
+    ghost lengths = { λ rows. lengths_in (rows_at rows.count rows.pack.now rows.from.0) };
+
+    fn count(&self) -> usize {
+        self.count
+    }
+
+    fn nth(&self, i: usize) -> usize {
+        inside::number_at(self.pack, OctetCount(self.from.0 + 4 * i + 2))
+    }
+}
+
 // ---- judging
+
+// Judges messages that lie back to back and have these lengths, in turn.
+fn judge_in_turn<L: Lengths>(octets: &[u8], lengths: &L) -> Result<(), Refusal>
+    requires { (sum (L.lengths lengths.now) ≤ length octets.now) × (length octets.now ≤ 65535) }
+    ensures { result ≡ turn_of (read_in_turn 0 (cut (L.lengths lengths.now) octets.now)) }
+{
+    let marks = tone_sound::marks();
+    let mut at: usize = 0;
+    for i in 0..lengths.count() {
+        let end = at + lengths.nth(i);
+        inside::judge_inside(octets, OctetCount(at), OctetCount(end), &marks)?;
+        at = end;
+    }
+    Ok(())
+}
 
 // Whether `n` rows continue each other from octet 0 up to where they begin.
 fn continues(pack: &[u8], rows: OctetCount, n: usize) -> bool
@@ -46,26 +112,6 @@ fn continues(pack: &[u8], rows: OctetCount, n: usize) -> bool
     at == rows.0
 }
 
-// Judges the messages of `n` rows that continue each other, in turn.
-fn judge_messages(pack: &[u8], rows: OctetCount, n: usize) -> Result<(), Refusal>
-    requires n_in_bounds { (rows.0 + 4 * n ≤ length pack.now) × (length pack.now ≤ 65535) }
-    requires rows_value { continuesBy 0 (rows_at n pack.now rows.0) rows.0 ≡ true }
-    ensures { result ≡ turn_of (read_in_turn 0 (cut (lengths_in (rows_at n pack.now rows.0)) pack.now)) }
-{
-    let marks = tone_sound::marks();
-    let mut at: usize = 0;
-    let mut row = rows.0;
-    let mut left = n;
-    while 0 < left {
-        let end = at + inside::number_at(pack, OctetCount(row + 2));
-        inside::judge_inside(pack, OctetCount(at), OctetCount(end), &marks)?;
-        at = end;
-        row += 4;
-        left -= 1;
-    }
-    Ok(())
-}
-
 // Judges `n` rows, and then their messages.
 fn judge_rows(pack: &[u8], rows: OctetCount, n: usize) -> Result<(), Refusal>
     requires { (rows.0 + 4 * n ≤ length pack.now) × (length pack.now ≤ 65535) }
@@ -74,7 +120,7 @@ fn judge_rows(pack: &[u8], rows: OctetCount, n: usize) -> Result<(), Refusal>
     if !continues(pack, rows, n) {
         return Err(Ground::PackRows.into());
     }
-    judge_messages(pack, rows, n)
+    judge_in_turn(pack, &Rows { pack, from: rows, count: n })
 }
 
 // Judges a pack, and changes nothing: its size, its rows, its messages.
@@ -155,23 +201,6 @@ fn sum_of(lengths: &[u32]) -> OctetCount
     OctetCount(total)
 }
 
-// Judges messages that lie back to back and have these lengths, in turn.
-fn judge_lengths(octets: &[u8], lengths: &[u32]) -> Result<(), Refusal>
-    requires { (sum lengths.now ≡ length octets.now) × (length octets.now ≤ 65535) }
-    ensures { result ≡ turn_of (read_in_turn 0 (cut lengths.now octets.now)) }
-{
-    let marks = tone_sound::marks();
-    let mut at: usize = 0;
-    let mut i: usize = 0;
-    while i < lengths.len() {
-        let end = at + lengths[i] as usize;
-        inside::judge_inside(octets, OctetCount(at), OctetCount(end), &marks)?;
-        at = end;
-        i += 1;
-    }
-    Ok(())
-}
-
 // Puts a row behind so many octets.
 pub fn put_row(out: &mut [u8], at: OctetCount, start: OctetCount, n: OctetCount)
     requires { (at.0 + 4 ≤ length out.old) × (start.0 < 65536) × (n.0 < 65536) }
@@ -228,7 +257,7 @@ pub fn write(octets: &[u8], lengths: &[u32], out: &mut [u8]) -> Writing
     if sum_of(lengths).0 != octets.len() {
         return Err(Ground::PackRows.into());
     }
-    judge_lengths(octets, lengths)?;
+    judge_in_turn(octets, &lengths)?;
     if out.len() < needed {
         return Err(Ground::NoRoom.into());
     }

@@ -38,7 +38,8 @@
 //   NAME: refusal place octets: output: then the same of reading what was written, if it was
 ghost use Rattle.std.specs.Prelude.{◌≤◌, ◌<◌, length};
 
-use pack::{Finding, Reading};
+use bits::Refusal;
+use pack::Found;
 use vectors::Changes;
 use written::Writing;
 
@@ -60,32 +61,37 @@ struct Answer {
 // ---- printing
 
 // The numbers of a reading, those that the answer has not being 0.
-fn told(answer: Reading) -> Answer {
+fn told(answer: Result<u32, Refusal>) -> Answer {
     match answer {
-        Reading::Read { messages } => Answer {
+        Ok(messages) => Answer {
             number: 0,
             place: 0,
             messages,
         },
-        Reading::Refused { number, place } => Answer {
-            number,
-            place: place.0,
+        Err(refusal) => Answer {
+            number: refusal.why.number(),
+            place: refusal.place.0,
             messages: 0,
         },
     }
 }
 
+// Prints the number and the place of a refusal.
+fn show_refusal(refusal: Refusal) {
+    vectors::number(refusal.why.number() as u64);
+    vectors::number(refusal.place.0 as u64);
+}
+
 // Prints the numbers of a finding.
-fn show_finding(answer: Finding) {
+fn show_finding(answer: Result<Found, Refusal>) {
     match answer {
-        Finding::Found { start, length } => {
+        Ok(found) => {
             io::write_all(1, b" 0 0");
-            vectors::number(start.0 as u64);
-            vectors::number(length.0 as u64);
+            vectors::number(found.start.0 as u64);
+            vectors::number(found.length.0 as u64);
         }
-        Finding::Refused { number, place } => {
-            vectors::number(number as u64);
-            vectors::number(place.0 as u64);
+        Err(refusal) => {
+            show_refusal(refusal);
             io::write_all(1, b" 0 0");
         }
     }
@@ -94,14 +100,13 @@ fn show_finding(answer: Finding) {
 // Prints the numbers of a writing, and answers the octets written.
 fn show_writing(answer: Writing) -> usize {
     match answer {
-        Writing::Written { octets } => {
+        Ok(octets) => {
             io::write_all(1, b" 0 0");
             vectors::number(octets.0 as u64);
             octets.0
         }
-        Writing::Refused { number, place } => {
-            vectors::number(number as u64);
-            vectors::number(place.0 as u64);
+        Err(refusal) => {
+            show_refusal(refusal);
             vectors::number(0);
             0
         }

@@ -7,18 +7,16 @@ use lib.ListN.{length, get_or, take, length-map}
 use lib.Seq.{take-append_seam}
 use denote.Ref.{Bor}
 use Rattle.bits.specs.Bits.{Octets}
+use Rattle.std.specs.Prelude.{Ok}
 use Rattle.bits.specs.Outcome.{accepted}
 use Rattle.bits.specs.declared.OctetCount.{OctetCount}
 use Rattle.bits.specs.Lent.{over}
 use Rattle.bits.proofs.Octets.{octets_take}
 use Rattle.tone.specs.Tone.{Tone}
 use Rattle.inside.specs.Inside.{sum}
-use Rattle.pack.specs.declared.Reading.{Reading}
-use Rattle.pack.specs.declared.Reading.TheVariants.{Read}
 use Rattle.pack.specs.Pack.{most_pack, pack_octets, Row, lengths_in, rows_in, read_pack}
-use Rattle.pack.specs.Promises.{ReadPromise, MessagePromise}
+use Rattle.pack.specs.Promises.{Reading, ReadPromise, MessagePromise}
 use Rattle.pack.proofs.Calls.{read_of_pack, message_of_pack}
-use Rattle.salvage.specs.declared.Salvaging.TheVariants.{Done}
 use Rattle.salvage.specs.Salvage.{counting, pieces, kept_in, skipped_in, stretch_in, stretches_in, new_pack, new_report, Salvaged, salvaged}
 use Rattle.salvage.specs.Promises.{SalvagePromise}
 use Rattle.salvage.proofs.Pieces.{kept_and_skipped}
@@ -27,7 +25,7 @@ use Rattle.salvage.proofs.First.{sound_counts, sound_pack_first}
 use Rattle.salvage.proofs.Order.{room_says, RoomSays}
 use Rattle.salvage.proofs.Unique.{Came, salvage_says}
 
-module _ (p out report out' report' : List ℕ) {k : ℕ} {o s : OctetCount} (h : SalvagePromise p out report out' report' (Done k o s)) where
+module _ (p out report out' report' : List ℕ) {k : ℕ} {o s : OctetCount} (h : SalvagePromise p out report out' report' (Ok (record { messages = k; octets = o; skipped = s }))) where
   -- what counts of the input, and the rows of what is kept of it
   abbrev c : List ℕ
   c = counting p
@@ -81,8 +79,8 @@ module _ (p out report out' report' : List ℕ) {k : ℕ} {o s : OctetCount} (h 
     many = sym (length-map new.tones _) ∙ ap length new.those ∙ length-map rs (stretch_in c) ∙ sym messages_kept
 
     -- the new pack reads, with as many messages
-    pub pack_reads : {r : Reading} → ReadPromise (take o.0 out') r → r ≡ Read k
-    pack_reads {r} q = read_of_pack new.tones new.packable (subst (λ (l : List ℕ). ReadPromise l r) there q) ∙ ap Read many
+    pub pack_reads : {r : Reading} → ReadPromise (take o.0 out') r → r ≡ Ok k
+    pack_reads {r} q = read_of_pack new.tones new.packable (subst (λ (l : List ℕ). ReadPromise l r) there q) ∙ ap Ok many
 
     -- and its messages are the ones that are kept
     pub pack_messages : (b r : Bor (List ℕ)) (n : ℕ) → b.now ≡ take o.0 out' → n < k → MessagePromise b n r → r.now ≡ get_or (stretches_in (counting p) (kept_in (pieces (counting p)))) n []
@@ -90,6 +88,6 @@ module _ (p out report out' report' : List ℕ) {k : ℕ} {o s : OctetCount} (h 
         (message_of_pack new.tones new.packable n (omega (arith, i, many)) b r (e ∙ there) q).0 ∙ ap (λ (ms : List (List ℕ)). get_or ms n []) new.those
 
 -- a sound pack, if it is not refused, yields its own messages as the first ones
-pub sound_pack_comes_first : (p out report out' report' : List ℕ) {k : ℕ} {o s : OctetCount} {ts : List Tone} → SalvagePromise p out report out' report' (Done k o s) → read_pack p ≡ accepted ts
+pub sound_pack_comes_first : (p out report out' report' : List ℕ) {k : ℕ} {o s : OctetCount} {ts : List Tone} → SalvagePromise p out report out' report' (Ok (record { messages = k; octets = o; skipped = s })) → read_pack p ≡ accepted ts
     → take (length (rows_in p)) (kept_in (pieces (counting p))) ≡ rows_in p
 sound_pack_comes_first p out report out' report' h q = ap (λ (l : List ℕ). take (length (rows_in p)) (kept_in (pieces l))) (sound_counts p q) ∙ ap (take (length (rows_in p))) (sound_pack_first p q) ∙ take-append_seam (rows_in p) _

@@ -1,13 +1,13 @@
 -- Where the code looks for messages, what it keeps of them, and what going through an input comes to.
-use Rattle.std.specs.Prelude.{ℕ, ◌+◌, ◌-◌, ◌*◌, ◌/◌, ◌%◌, ◌≤◌, ◌<◌, ◌≡◌, ◌⊎◌, List, map, length, get_or, take, eqb}
+use Rattle.std.specs.Prelude.{ℕ, ◌+◌, ◌-◌, ◌*◌, ◌/◌, ◌%◌, ◌≤◌, ◌<◌, ◌≡◌, ◌⊎◌, List, map, length, get_or, take, eqb, Result, Ok, Err}
 use Rattle.bits.specs.Choice.{pick}
+use Rattle.bits.specs.Refusals.{refusal}
+use Rattle.bits.specs.declared.refusal.Refusal.{Refusal}
 use Rattle.inside.specs.Inside.{sum}
 use Rattle.pack.specs.Pack.{most_pack, Row, lengths_in}
-use Rattle.salvage.specs.declared.Salvaging.{Salvaging}
-use Rattle.salvage.specs.declared.Walked.{Walked}
-use Rattle.salvage.specs.declared.Walked.TheVariants.{Kept, TooLong}
+use Rattle.salvage.specs.declared.Kept.{Kept}
 use Rattle.salvage.specs.Salvage.{message_at, kept_in, pieces, salvaged_by, salvaged, into_room}
-use Rattle.salvage.specs.Promises.{Salvages}
+use Rattle.salvage.specs.Promises.{Salvaging, Salvages}
 
 -- ---- where a message may start
 
@@ -70,10 +70,10 @@ pub record KeptAll (c cells : List ℕ) (messages octets : ℕ) : Type 0 where
 pub record KeptTooMuch (c : List ℕ) : Type 0 where
   pub size : most_pack < pack_size (all_kept c)
 
--- going through what counts comes to one of these
-abbrev pub WalkedOver : List ℕ → List ℕ → Walked → Type 0
-WalkedOver c cells (Kept k o) = KeptAll c cells k o.0
-WalkedOver c cells TooLong = KeptTooMuch c
+-- going through what counts comes to one of these, the second refused 1
+abbrev pub WalkedOver : List ℕ → List ℕ → Result Kept Refusal → Type 0
+WalkedOver c cells (Ok k) = KeptAll c cells k.messages k.octets.0
+WalkedOver c cells (Err r) = (r ≡ refusal 1 0) × KeptTooMuch c
 
 -- ---- what comes out
 

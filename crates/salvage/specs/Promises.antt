@@ -1,10 +1,11 @@
 -- What the call promises: every number returned and every cell lent, on acceptance and on refusal.
-use Rattle.std.specs.Prelude.{ℕ, ◌≡◌, List, length}
+use Rattle.std.specs.Prelude.{ℕ, ◌≡◌, List, length, Result, Ok, Err}
 use Rattle.bits.specs.Lent.{over}
 use Rattle.bits.specs.Outcome.{Outcome, accepted, refused}
-use Rattle.bits.specs.Places.{place, octet_count}
-use Rattle.salvage.specs.declared.Salvaging.{Salvaging}
-use Rattle.salvage.specs.declared.Salvaging.TheVariants.{Done, Refused}
+use Rattle.bits.specs.Places.{octet_count}
+use Rattle.bits.specs.Refusals.{number_of, answered}
+use Rattle.bits.specs.declared.refusal.Refusal.{Refusal}
+use Rattle.salvage.specs.declared.Done.{Done}
 use Rattle.salvage.specs.Salvage.{Salvaged, salvage}
 
 -- the numbers of an answer
@@ -15,10 +16,17 @@ pub record SalvageNumbers : Type 0 where
   pub octets : ℕ
   pub skipped : ℕ
 
--- the answer that the rules ask for: messages kept, octets of the pack, octets skipped
+-- an answer: messages kept, octets of the pack, octets skipped; or the refusal
+abbrev pub Salvaging : Type 0
+Salvaging = Result Done Refusal
+
+-- what came out, as the answer holds it
+abbrev pub done_of : Salvaged → Done
+done_of s = record { messages = s.messages; octets = octet_count (length s.pack); skipped = octet_count s.skips }
+
+-- the answer that the rules ask for
 abbrev pub salvage_answer : Outcome Salvaged → Salvaging
-salvage_answer (accepted s) = Done s.messages (octet_count (length s.pack)) (octet_count s.skips)
-salvage_answer (refused n p) = Refused n (place p)
+salvage_answer o = answered done_of o
 
 -- the numbers that the rules ask for: on a refusal its number and place, all others 0
 abbrev pub salvage_numbers : Outcome Salvaged → SalvageNumbers
@@ -27,8 +35,8 @@ salvage_numbers (refused n p) = record { refusal = n; place = p; messages = 0; o
 
 -- the numbers of each case of the answer
 abbrev pub numbers_of_salvaging : Salvaging → SalvageNumbers
-numbers_of_salvaging (Done k o s) = record { refusal = 0; place = 0; messages = k; octets = o.0; skipped = s.0 }
-numbers_of_salvaging (Refused n p) = record { refusal = n; place = p.0; messages = 0; octets = 0; skipped = 0 }
+numbers_of_salvaging (Ok d) = record { refusal = 0; place = 0; messages = d.messages; octets = d.octets.0; skipped = d.skipped.0 }
+numbers_of_salvaging (Err r) = record { refusal = number_of r.why; place = r.place.0; messages = 0; octets = 0; skipped = 0 }
 
 -- the lent octets after the call: the pack over those that were there, or as they were
 abbrev pub pack_after : Outcome Salvaged → List ℕ → List ℕ

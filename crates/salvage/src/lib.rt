@@ -11,27 +11,21 @@ ghost use Rattle.salvage.specs.Salvage.{counting as countingOf, message_at, stre
 ghost use Rattle.salvage.specs.Answers.{front_of, Fronts, Passed, rows_of, cells_size, Stretches, Enough, WalkedOver, HandsOut, GetsOut};
 ghost use Rattle.salvage.specs.Promises.{SalvagePromise};
 
-use bits::{BitPlace, OctetCount};
+use bits::{Ground, OctetCount, Refusal};
 
-// What getting tones out answers: messages kept, octets of the new pack, octets skipped; or the refusal's number and place.
+// Tones that were got out: messages kept, octets of the new pack, octets skipped.
 #[derive(Clone, Copy)]
-pub enum Salvaging {
-    Done {
-        messages: usize,
-        octets: OctetCount,
-        skipped: OctetCount,
-    },
-    Refused {
-        number: u32,
-        place: BitPlace,
-    },
+pub struct Done {
+    pub messages: usize,
+    pub octets: OctetCount,
+    pub skipped: OctetCount,
 }
 
-// What going through an input comes to: how many messages are kept, and their octets; or their pack is too long.
+// What is kept of an input: how many messages, and their octets.
 #[derive(Clone, Copy)]
-enum Walked {
-    Kept { messages: usize, octets: OctetCount },
-    TooLong,
+struct Kept {
+    messages: usize,
+    octets: OctetCount,
 }
 
 // ---- where a message may start
@@ -126,7 +120,7 @@ fn message_at(c: &[u8], at: OctetCount, marks: &[u8; 512]) -> OctetCount
 
 // Goes through what counts, and keeps a cell for each message: start × 65,536 + length. A message has at least eight octets, and
 // its row four, so that no pack has more than 5,460.
-fn walk(c: &[u8], cells: &mut [u32]) -> Walked
+fn walk(c: &[u8], cells: &mut [u32]) -> Result<Kept, Refusal>
     requires { (length c.now ≤ 65535) × Enough (length c.now) (length cells.old) }
     ensures { WalkedOver c.now cells.new result }
 {
@@ -140,7 +134,7 @@ fn walk(c: &[u8], cells: &mut [u32]) -> Walked
             at = next_front(c, OctetCount(at + 1)).0;
         } else {
             if 65535 < octets + own + 4 * n + 8 {
-                return Walked::TooLong;
+                return Err(Ground::TooLong.into());
             }
             cells[n] = (at * 65536 + own) as u32;
             n += 1;
@@ -148,10 +142,10 @@ fn walk(c: &[u8], cells: &mut [u32]) -> Walked
             at += own;
         }
     }
-    Walked::Kept {
+    Ok(Kept {
         messages: n,
         octets: OctetCount(octets),
-    }
+    })
 }
 
 // ---- what comes out
@@ -248,7 +242,7 @@ fn hand_out(
     octets: OctetCount,
     out: &mut [u8],
     report: &mut [u32],
-) -> Salvaging
+) -> Result<Done, Refusal>
     requires stretches { Stretches c.now cells.now }
     requires octets_value { (octets.0 ≡ sum (lengths_in (rows_of cells.now))) × (octets.0 ≤ length c.now) }
     requires cells_bound { (cells_size cells.now ≤ 65535) × (length c.now ≤ 65535) }
@@ -257,46 +251,33 @@ fn hand_out(
     let messages = cells.len();
     let needed = octets.0 + 4 * messages + 4;
     if out.len() < needed {
-        return Salvaging::Refused {
-            number: 11,
-            place: BitPlace(0),
-        };
+        return Err(Ground::NoRoom.into());
     }
     if report.len() < 3 * messages + 1 {
-        return Salvaging::Refused {
-            number: 11,
-            place: BitPlace(0),
-        };
+        return Err(Ground::NoRoom.into());
     }
     let skipped = OctetCount(c.len() - octets.0);
     put_pack(c, cells, octets, out);
     put_report(cells, skipped, report);
-    Salvaging::Done {
+    Ok(Done {
         messages,
         octets: OctetCount(needed),
         skipped,
-    }
+    })
 }
 
 // Gets the tones out of what counts, by way of cells.
-fn get_out(c: &[u8], cells: &mut [u32], out: &mut [u8], report: &mut [u32]) -> Salvaging
+fn get_out(c: &[u8], cells: &mut [u32], out: &mut [u8], report: &mut [u32]) -> Result<Done, Refusal>
     requires { (length c.now ≤ 65535) × Enough (length c.now) (length cells.old) }
     ensures { GetsOut c.now out.old report.old out.new report.new result }
 {
-    match walk(c, cells) {
-        Walked::TooLong => Salvaging::Refused {
-            number: 1,
-            place: BitPlace(0),
-        },
-        Walked::Kept { messages, octets } => {
-            hand_out(c, &cells[0..messages], octets, out, report)
-        }
-    }
+    let kept = walk(c, cells)?;
+    hand_out(c, &cells[0..kept.messages], kept.octets, out, report)
 }
 
 // Gets the tones out of a broken pack: a new pack of the messages that are kept, and a report. To clear cells takes time, so there
 // are few where the input is short.
-pub fn salvage(pack: &[u8], out: &mut [u8], report: &mut [u32]) -> Salvaging
+pub fn salvage(pack: &[u8], out: &mut [u8], report: &mut [u32]) -> Result<Done, Refusal>
     ensures { SalvagePromise pack.now out.old report.old out.new report.new result }
 {
     let c = counting(pack);

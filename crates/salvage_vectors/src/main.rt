@@ -31,7 +31,8 @@
 //   NAME: refusal place messages octets skipped: pack: report
 ghost use Rattle.std.specs.Prelude.{◌≤◌, ◌<◌, length};
 
-use salvage::Salvaging;
+use bits::Refusal;
+use salvage::Done;
 use vectors::Changes;
 
 // How many octets are in hand, and how many octets and numbers are lent.
@@ -55,22 +56,18 @@ struct Answer {
 // ---- a call
 
 // The numbers of an answer, those that it has not being 0.
-fn told(answer: Salvaging) -> Answer {
+fn told(answer: Result<Done, Refusal>) -> Answer {
     match answer {
-        Salvaging::Done {
-            messages,
-            octets,
-            skipped,
-        } => Answer {
+        Ok(done) => Answer {
             number: 0,
             place: 0,
-            messages,
-            octets: octets.0,
-            skipped: skipped.0,
+            messages: done.messages,
+            octets: done.octets.0,
+            skipped: done.skipped.0,
         },
-        Salvaging::Refused { number, place } => Answer {
-            number,
-            place: place.0,
+        Err(refusal) => Answer {
+            number: refusal.why.number(),
+            place: refusal.place.0,
             messages: 0,
             octets: 0,
             skipped: 0,

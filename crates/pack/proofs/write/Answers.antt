@@ -13,11 +13,11 @@ returns-then-needed-gt65535 c = search (writings, rules)
 pub returns-then-sum_of-octets : goal.returns-then-sum_of-octets
 returns-then-sum_of-octets c = search (writings, rules)
 
-pub returns-in_err-judge_lengths : goal.returns-in_err-judge_lengths
-returns-in_err-judge_lengths c = let p = err_from_is_err_and c.from_residual.result c.from_residual.ensures.1 in rw (p.1, p.2) (search (writings, c.in_err-judge_lengths.was, rules))
+pub returns-in_err-judge_in_turn : goal.returns-in_err-judge_in_turn
+returns-in_err-judge_in_turn c = let p = err_from_is_err_and c.from_residual.result c.from_residual.ensures.1 in rw (p.1, p.2) (search (writings, c.in_err-judge_in_turn.was, rules))
 
 pub returns-then-out-needed : goal.returns-then-out-needed
-returns-then-out-needed c = search (writings, c.in_ok-judge_lengths.was, rules)
+returns-then-out-needed c = search (writings, c.in_ok-judge_in_turn.was, rules)
 
 pub returns : goal.returns
-returns c = search (writings, c.in_ok-judge_lengths.was, rules)
+returns c = search (writings, c.in_ok-judge_in_turn.was, rules)
