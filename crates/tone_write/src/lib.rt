@@ -44,10 +44,8 @@ fn put_table(out: &mut [u8], from: Sink, table: &[u32]) -> Sink
     ensures { Appended from (table_bits table.now) out.old out.new result }
 {
     let mut s = from;
-    let mut i: usize = 0;
-    while i < table.len() {
-        s = put_entry(out, s, table[i]);
-        i += 1;
+    for &e in table {
+        s = put_entry(out, s, e);
     }
     s
 }
@@ -59,10 +57,8 @@ fn put_octets(out: &mut [u8], from: Sink, octets: &[u8]) -> Sink
     ensures { Appended from (bits_of octets.now) out.old out.new result }
 {
     let mut s = from;
-    let mut i: usize = 0;
-    while i < octets.len() {
-        s = bits::put(out, s, 8, octets[i] as u32);
-        i += 1;
+    for &octet in octets {
+        s = bits::put(out, s, 8, octet as u32);
     }
     s
 }
@@ -154,12 +150,10 @@ fn titled(song: u32, unicode: bool, title: &[u8]) -> bool
         return n == 0;
     }
     if unicode {
-        if n % 2 != 0 {
-            return false;
-        }
-        return n <= 30;
+        n % 2 == 0 && n <= 30
+    } else {
+        n <= 15
     }
-    n <= 15
 }
 
 // Where the patterns begin, behind so many octets of title.
