@@ -14,7 +14,6 @@ use Rattle.std.specs.Prelude.{Result, Ok, Err}
 use Rattle.bits.specs.Choice.{pick}
 use Rattle.bits.specs.Bits.{bits_of, place_after, octets_to}
 use Rattle.bits.specs.Lent.{over}
-use Rattle.bits.specs.declared.BitPlace.{BitPlace}
 use Rattle.bits.specs.declared.OctetCount.{OctetCount}
 use Rattle.bits.specs.Outcome.{Outcome, accepted, refused}
 use Rattle.bits.specs.Places.{place, octet_count}
@@ -26,13 +25,12 @@ use Rattle.bits.proofs.Octets.{octets_of_lem}
 use Rattle.bits.proofs.Refusals.{GivenBy}
 use Rattle.tone.specs.Tone.{Tone, front_of, cells, patterns_of, per_character, character_bits, characters, allowed_title}
 use Rattle.tone.specs.Writing.{table_bits, front_bits, song_bits, tone_length, tone_octets, most_octets}
-use Rattle.tone.specs.Reading.{got, bad, text}
+use Rattle.tone.specs.Reading.{text}
 use Rattle.tone.proofs.Fronts.{song_fine_lem, own_reads, own_allowed}
-use Rattle.tone_elements.specs.declared.Characters.{Characters}
-use Rattle.tone_elements.specs.declared.Characters.TheVariants.{Present, Faulty}
-use Rattle.tone_elements.specs.Answers.{Within, characters_of, Sure, AllowedAt}
-use Rattle.tone_elements.proofs.Steps.{characters_good_lem, characters_bad}
+use Rattle.tone_elements.specs.Answers.{Within, Sure, Complete, AllowedAt}
+use Rattle.tone_elements.proofs.Steps.{characters_good_lem}
 use Rattle.tone_elements.proofs.Titles.{text_told}
+use Rattle.tone_sound.proofs.Dues.{text_read}
 use Rattle.tone_table.specs.declared.Judged.{Judged}
 use Rattle.tone_table.specs.Judging.{judge_table}
 use Rattle.tone_table.specs.Answers.{at_most, judged_of}
@@ -104,25 +102,10 @@ module _ (u : Bool) (title : List ℕ) (n : ℕ) (h : (n ≤ 15) × (length titl
       go true e = record { inside = omega arith; counted = omega (arith, h.0) }
       go false e = record { inside = omega arith; counted = omega (arith, h.0) }
 
-  module _ (each : (i : ℕ) → Fits w8 (get_or title i 0)) where
-    module _ {x : Characters} (q : x ≡ characters_of (text u n (bits_of title) 0)) where
-      pub legible_all : {f : BitPlace} {k : OctetCount} → x ≡ Present f k → true ≡ allowed_title u title
-      legible_all g = let t = characters_good_lem (text u n (bits_of title) 0) (sym g ∙ q) in sym (own_allowed u n title (octets_of_lem title each) h.1 t.1)
-
-      pub legible_not : {f : BitPlace} {k : ℕ} → x ≡ Faulty f k → false ≡ allowed_title u title
-      legible_not g = go (allowed_title u title) refl
-        where
-          go : (b : Bool) → allowed_title u title ≡ b → false ≡ b
-          go false e = refl
-          go true e =
-              let t = characters_bad (text u n (bits_of title) 0) (sym g ∙ q) in
-              let z : got title (0 + length (bits_of title)) ≡ bad _ _ _ = sym (own_reads u n title (octets_of_lem title each) h.1 e) ∙ t.1 in
-              let y : ◌≡◌ {A = ℕ} 0 1 = cc in
-              absurd (omega arith)
-
-    -- where it is told a few characters at a time
-    pub legible_told : {t : Bool} → Sure t (AllowedAt title 0 u n) → t ≡ true → true ≡ allowed_title u title
-    legible_told a t = legible_all (text_told title 0 u n (refl, bits u) (refl, (octets u).0, (octets u).1) legible_within a t) refl
+  -- the test passes where its characters are allowed, and nowhere else
+  module _ (each : (i : ℕ) → Fits w8 (get_or title i 0)) {t : Bool} (a : Sure t (AllowedAt title 0 u n) × Complete t (AllowedAt title 0 u n)) where
+    pub legible_is : t ≡ allowed_title u title
+    legible_is = go t (allowed_title u title) refl refl
       where
         bits : (u : Bool) → n * character_bits u ≤ 240
         bits true = omega (arith, h.0)
@@ -132,7 +115,20 @@ module _ (u : Bool) (title : List ℕ) (n : ℕ) (h : (n ≤ 15) × (length titl
         octets true = (lit≤ tt, lit≤ tt)
         octets false = (lit≤ tt, lit≤ tt)
 
-pub ruleset letters = (legible_within, legible_all, legible_not, legible_told)
+        passes : allowed_title u title ≡ true → t ≡ true
+        passes e = a.1.passes (text_read title u n 0 (omega arith) (own_reads u n title (octets_of_lem title each) h.1 e)).0
+
+        allows : t ≡ true → allowed_title u title ≡ true
+        allows e =
+            let q = text_told title 0 u n (refl, bits u) (refl, (octets u).0, (octets u).1) legible_within a.0 e in
+            own_allowed u n title (octets_of_lem title each) h.1 (characters_good_lem (text u n (bits_of title) 0) q).1
+
+        go : (x y : Bool) → t ≡ x → allowed_title u title ≡ y → t ≡ allowed_title u title
+        go true y e f = e ∙ sym (allows e)
+        go false true e f = passes f ∙ sym f
+        go false false e f = e ∙ sym f
+
+pub ruleset letters = (legible_within, legible_is)
 
 -- ---- once the song type and the title are fine
 

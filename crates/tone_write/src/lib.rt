@@ -16,7 +16,6 @@ ghost use Rattle.tone_write.specs.Appending.{reached, Appended, Begun, front_wit
 ghost use Rattle.tone_write.specs.Promise.{WritePromise};
 
 use bits::{BitPlace, Ground, OctetCount, Sink};
-use tone_elements::Characters;
 use written::Writing;
 
 // ---- writing
@@ -191,13 +190,7 @@ fn legible(unicode: bool, title: &[u8], n: u32) -> bool
     requires { (n ≤ 15) × (length title.now ≡ per_character unicode * n) }
     ensures { result ≡ allowed_title unicode title.now }
 {
-    if tone_elements::all_allowed(title, BitPlace(0), unicode, n) {
-        return true;
-    }
-    match tone_elements::lettered(title, BitPlace(0), unicode, n) {
-        Characters::Faulty { at: _, number: _ } => false,
-        Characters::Present { next: _, octets: _ } => true,
-    }
+    tone_elements::all_allowed(title, BitPlace(0), unicode, n)
 }
 
 // Writes a tone from its song type, its title and its table.
