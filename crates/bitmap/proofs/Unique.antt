@@ -3,12 +3,15 @@ use Prim.Native.Nat.{ℕ}
 use mathlib.Core.Path.{◌≡◌, sym, ap₂, ◌∙◌}
 use mathlib.Core.List.{List}
 use denote.Ref.{Bor}
+use Rattle.std.specs.Prelude.{Result}
+use Rattle.bits.specs.declared.refusal.Refusal.{Refusal}
+use Rattle.written.specs.Written.{Writing, numbers}
+use Rattle.written.proofs.Unique.{fills_decided}
 use Rattle.bitmap.specs.declared.Reading.{Reading}
-use Rattle.bitmap.specs.declared.Writing.{Writing}
-use Rattle.bitmap.specs.Promises.{ReadPromise, ImagePromise, WritePromise, numbers_of_reading, numbers_of_writing}
+use Rattle.bitmap.specs.Promises.{ReadPromise, ImagePromise, WritePromise, numbers_of_reading}
 
 -- `read`: the answer and its numbers
-pub read_decided : (m : List ℕ) (r s : Reading) → ReadPromise m r → ReadPromise m s → (r ≡ s) × (numbers_of_reading r ≡ numbers_of_reading s)
+pub read_decided : (m : List ℕ) (r s : Result Reading Refusal) → ReadPromise m r → ReadPromise m s → (r ≡ s) × (numbers_of_reading r ≡ numbers_of_reading s)
 read_decided m r s p q = (p.answer ∙ sym q.answer, p.numbers ∙ sym q.numbers)
 
 -- `image`: the octets of the stretch, and where it stands
@@ -20,5 +23,5 @@ image_decided m r s p q = (
 
 -- `write`: the answer, its numbers and every cell of the lent buffer
 pub write_decided : (width height : ℕ) (image out : List ℕ) (r s : Writing) (after other : List ℕ) → WritePromise width height image out r after
-    → WritePromise width height image out s other → (r ≡ s) × (numbers_of_writing r ≡ numbers_of_writing s) × (after ≡ other)
-write_decided width height image out r s after other p q = (p.answer ∙ sym q.answer, p.numbers ∙ sym q.numbers, p.lent ∙ sym q.lent)
+    → WritePromise width height image out s other → (r ≡ s) × (numbers r ≡ numbers s) × (after ≡ other)
+write_decided width height image out r s after other p q = fills_decided p q

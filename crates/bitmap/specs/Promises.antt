@@ -1,14 +1,19 @@
 -- What each public call promises: every number returned and every cell lent, on acceptance and on refusal.
-use Rattle.std.specs.Prelude.{ℕ, ◌+◌, ◌≡◌, List, ◌++◌, length, take, drop}
+use Rattle.std.specs.Prelude.{ℕ, ◌+◌, ◌≡◌, List, length, take, drop, Result, Ok, Err, ⊤}
 use Rattle.std.specs.Borrow.{Bor}
 use Rattle.bits.specs.Outcome.{Outcome, accepted, refused}
-use Rattle.bits.specs.Places.{place, octet_count}
+use Rattle.bits.specs.Refusals.{number_of, answered}
+use Rattle.bits.specs.declared.refusal.Refusal.{Refusal}
+use Rattle.written.specs.Written.{Writing, Fills}
 use Rattle.bitmap.specs.declared.Reading.{Reading}
-use Rattle.bitmap.specs.declared.Reading.TheVariants.{Read, Refused}
-use Rattle.bitmap.specs.declared.Writing.{Writing}
-use Rattle.bitmap.specs.declared.Writing.TheVariants.{Wrote, Refused as Unwritten}
 use Rattle.bitmap.specs.Image.{black_pixels}
 use Rattle.bitmap.specs.Bitmap.{Bitmap, reading, writing_into}
+
+-- ---- judging
+
+-- whether it is accepted, or the refusal
+abbrev pub verdict : {A : Type 0} → Outcome A → Result ⊤ Refusal
+verdict o = answered (λ a. tt) o
 
 -- ---- read
 
@@ -20,10 +25,13 @@ pub record ReadNumbers : Type 0 where
   pub height : ℕ
   pub black : ℕ
 
+-- sizes and black pixels, as an answer holds them
+abbrev pub told : ℕ → ℕ → ℕ → Reading
+told w h k = record { width = w; height = h; black = k }
+
 -- the answer that the rules ask for
-abbrev pub read_answer : Outcome Bitmap → Reading
-read_answer (accepted b) = Read b.width b.height (black_pixels b.width b.height b.image)
-read_answer (refused n p) = Refused n (place p)
+abbrev pub read_answer : Outcome Bitmap → Result Reading Refusal
+read_answer o = answered (λ b. told b.width b.height (black_pixels b.width b.height b.image)) o
 
 -- the numbers that the rules ask for: on a refusal its number and place, all others 0
 abbrev pub read_numbers : Outcome Bitmap → ReadNumbers
@@ -31,12 +39,12 @@ read_numbers (accepted b) = record { refusal = 0; place = 0; width = b.width; he
 read_numbers (refused n p) = record { refusal = n; place = p; width = 0; height = 0; black = 0 }
 
 -- the numbers of each case of the answer
-abbrev pub numbers_of_reading : Reading → ReadNumbers
-numbers_of_reading (Read w h k) = record { refusal = 0; place = 0; width = w; height = h; black = k }
-numbers_of_reading (Refused n p) = record { refusal = n; place = p.0; width = 0; height = 0; black = 0 }
+abbrev pub numbers_of_reading : Result Reading Refusal → ReadNumbers
+numbers_of_reading (Ok x) = record { refusal = 0; place = 0; width = x.width; height = x.height; black = x.black }
+numbers_of_reading (Err r) = record { refusal = number_of r.why; place = r.place.0; width = 0; height = 0; black = 0 }
 
 -- `read` of the message m answers r
-pub record ReadPromise (m : List ℕ) (r : Reading) : Type 0 where
+pub record ReadPromise (m : List ℕ) (r : Result Reading Refusal) : Type 0 where
   pub answer : r ≡ read_answer (reading m)
   pub numbers : numbers_of_reading r ≡ read_numbers (reading m)
 
@@ -60,34 +68,6 @@ pub record ImagePromise (m r : Bor (List ℕ)) : Type 0 where
 
 -- ---- write
 
--- the numbers of an answer to writing
-pub record WriteNumbers : Type 0 where
-  pub refusal : ℕ
-  pub place : ℕ
-  pub octets : ℕ
-
--- the answer that the rules ask for
-abbrev pub write_answer : Outcome (List ℕ) → Writing
-write_answer (accepted w) = Wrote (octet_count (length w))
-write_answer (refused n p) = Unwritten n (place p)
-
--- the numbers that the rules ask for: on a refusal its number and place, and 0 octets
-abbrev pub write_numbers : Outcome (List ℕ) → WriteNumbers
-write_numbers (accepted w) = record { refusal = 0; place = 0; octets = length w }
-write_numbers (refused n p) = record { refusal = n; place = p; octets = 0 }
-
--- the numbers of each case of the answer
-abbrev pub numbers_of_writing : Writing → WriteNumbers
-numbers_of_writing (Wrote n) = record { refusal = 0; place = 0; octets = n.0 }
-numbers_of_writing (Unwritten n p) = record { refusal = n; place = p.0; octets = 0 }
-
--- what the lent buffer then holds: what is written, and beyond it what it held; on a refusal what it held
-abbrev pub lent_after : Outcome (List ℕ) → List ℕ → List ℕ
-lent_after (accepted w) out = w ++ drop (length w) out
-lent_after (refused n p) out = out
-
 -- `write` of sizes and image octets into the buffer `out` answers r and leaves `after` in the buffer
-pub record WritePromise (width height : ℕ) (image out : List ℕ) (r : Writing) (after : List ℕ) : Type 0 where
-  pub answer : r ≡ write_answer (writing_into (length out) width height image)
-  pub numbers : numbers_of_writing r ≡ write_numbers (writing_into (length out) width height image)
-  pub lent : after ≡ lent_after (writing_into (length out) width height image) out
+abbrev pub WritePromise : (width height : ℕ) (image out : List ℕ) (r : Writing) (after : List ℕ) → Type 0
+WritePromise width height image out r after = Fills (writing_into (length out) width height image) out after r

@@ -3,7 +3,8 @@ use Rattle.std.specs.Prelude.{ℕ, ◌≡◌, List, [], ◌∷◌, ◌++◌, map
 use Rattle.bits.specs.Outcome.{Outcome, accepted, refused}
 use Rattle.bitmap.specs.Image.{pixel, black_pixels}
 use Rattle.bitmap.specs.Bitmap.{Bitmap, reading, writing_into}
-use Rattle.bitmap.specs.Promises.{read_numbers, image_of, image_start, write_numbers, lent_after}
+use Rattle.written.specs.Written.{write_numbers, octets_after}
+use Rattle.bitmap.specs.Promises.{read_numbers, image_of, image_start}
 
 -- P11: the bitmap 00 08 02 01 FF 01 has 9 black pixels
 abbrev pub P11 : Type 0
@@ -65,9 +66,9 @@ pub record BitmapSamples : Type 0 where
   pub no_start : image_start (reading (message ++ (0x00 ∷ []))) ≡ 0
   -- P11 is written in six octets, and those behind are left; five are too few: 11
   pub writes : written 6 8 2 ≡ accepted message
-  pub leaves : lent_after (written 8 8 2) (replicate 8 0xEE) ≡ message ++ (0xEE ∷ 0xEE ∷ [])
+  pub leaves : octets_after (written 8 8 2) (replicate 8 0xEE) ≡ message ++ (0xEE ∷ 0xEE ∷ [])
   pub no_room : written 5 8 2 ≡ refused 11 0
-  pub kept : lent_after (written 5 8 2) (replicate 5 0xEE) ≡ replicate 5 0xEE
+  pub kept : octets_after (written 5 8 2) (replicate 5 0xEE) ≡ replicate 5 0xEE
   -- 15: a width of 0, 9, 249, 256, and a height of 0, 256; ahead of 16 and 11
   pub written_widths : map (λ w. written 0 w 2) (0 ∷ 9 ∷ 249 ∷ 256 ∷ []) ≡ replicate 4 (refused 15 0)
   pub written_heights : map (written 0 8) (0 ∷ 256 ∷ []) ≡ replicate 2 (refused 15 0)

@@ -3,23 +3,18 @@
 ghost use Rattle.std.specs.Prelude.{◌≡◌, ◌++◌, ◌+◌, ◌-◌, ◌%◌, ◌≤◌, ◌<◌, length, take, drop};
 ghost use Rattle.std.specs.Int.Count.{ones};
 ghost use Rattle.bitmap.specs.Image.{sizes_taken, image_octets, ones_of};
-ghost use Rattle.bitmap.specs.Bitmap.{writing, judged, reading, refusal_of};
-ghost use Rattle.bitmap.specs.Promises.{ReadPromise, ImagePromise, WritePromise};
+ghost use Rattle.bitmap.specs.Bitmap.{writing, judged, reading};
+ghost use Rattle.bitmap.specs.Promises.{verdict, ReadPromise, ImagePromise, WritePromise};
 
-use bits::{BitPlace, OctetCount};
+use bits::{Ground, OctetCount, Refusal};
+use written::Writing;
 
-// What reading a message answers: the sizes and the black pixels, or the refusal's number and place.
+// What reading a message tells: the sizes and the black pixels.
 #[derive(Clone, Copy)]
-pub enum Reading {
-    Read { width: u32, height: u32, black: u32 },
-    Refused(u32, BitPlace),
-}
-
-// What writing a bitmap answers: the octets written, or the refusal's number and place.
-#[derive(Clone, Copy)]
-pub enum Writing {
-    Wrote(OctetCount),
-    Refused(u32, BitPlace),
+pub struct Reading {
+    pub width: u32,
+    pub height: u32,
+    pub black: u32,
 }
 
 // ---- The image, whatever stands in front of it.
@@ -51,17 +46,17 @@ fn octets_of(width: u32, height: u32) -> OctetCount
     OctetCount((width / 8 * height) as usize)
 }
 
-// The number of the refusal that sizes and an image meet, 0 where there is none.
-pub fn fault(width: u32, height: u32, image: &[u8]) -> u32
-    ensures { result ≡ refusal_of (judged width height image.now) }
+// Whether sizes and an image are a bitmap's, or the refusal that they meet.
+pub fn fault(width: u32, height: u32, image: &[u8]) -> Result<(), Refusal>
+    ensures { result ≡ verdict (judged width height image.now) }
 {
     if !sized(width, height) {
-        return 15;
+        return Err(Ground::BitmapHeader.into());
     }
     if image.len() != octets_of(width, height).0 {
-        return 16;
+        return Err(Ground::ImageLength.into());
     }
-    0
+    Ok(())
 }
 
 // ---- The ones of an image's octets.
@@ -136,45 +131,39 @@ fn count(s: &[u8]) -> u32
 
 // ---- A plain bitmap: four octets of header and the image.
 
-// The number of the refusal that a message meets, 0 where it is a bitmap.
-pub fn judge(msg: &[u8]) -> u32
-    ensures { result ≡ refusal_of (reading msg.now) }
+// Whether a message is a bitmap, or the refusal that it meets.
+pub fn judge(msg: &[u8]) -> Result<(), Refusal>
+    ensures { result ≡ verdict (reading msg.now) }
 {
     if msg.len() < 4 {
-        return 2;
+        return Err(Ground::CutShort.into());
     }
-    if msg[0] != 0 {
-        return 15;
-    }
-    if msg[3] != 1 {
-        return 15;
+    if msg[0] != 0 || msg[3] != 1 {
+        return Err(Ground::BitmapHeader.into());
     }
     fault(msg[1] as u32, msg[2] as u32, &msg[4..])
 }
 
 // Reads a message: its sizes and the number of its black pixels.
-pub fn read(msg: &[u8]) -> Reading
+pub fn read(msg: &[u8]) -> Result<Reading, Refusal>
     ensures { ReadPromise msg.now result }
 {
-    let n = judge(msg);
-    if n != 0 {
-        return Reading::Refused(n, BitPlace(0));
-    }
-    Reading::Read {
+    judge(msg)?;
+    Ok(Reading {
         width: msg[1] as u32,
         height: msg[2] as u32,
         black: count(&msg[4..]),
-    }
+    })
 }
 
 // The image octets of a message, as the part of it after the header. A message that is refused has none.
 pub fn image(msg: &[u8]) -> &[u8]
     ensures { ImagePromise msg.entry result }
 {
-    if judge(msg) == 0 {
-        return &msg[4..];
+    match judge(msg) {
+        Ok(()) => &msg[4..],
+        Err(_) => &msg[0..0],
     }
-    &msg[0..0]
 }
 
 // Writes the header and the image to the front of a buffer.
@@ -193,13 +182,10 @@ pub fn fill(width: u8, height: u8, image: &[u8], out: &mut [u8])
 pub fn write(width: u32, height: u32, image: &[u8], out: &mut [u8]) -> Writing
     ensures { WritePromise width height image.now out.old result out.new }
 {
-    let n = fault(width, height, image);
-    if n != 0 {
-        return Writing::Refused(n, BitPlace(0));
-    }
+    fault(width, height, image)?;
     if out.len() < image.len() + 4 {
-        return Writing::Refused(11, BitPlace(0));
+        return Err(Ground::NoRoom.into());
     }
     fill(width as u8, height as u8, image, out);
-    Writing::Wrote(OctetCount(image.len() + 4))
+    Ok(OctetCount(image.len() + 4))
 }

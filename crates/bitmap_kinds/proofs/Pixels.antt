@@ -10,8 +10,8 @@ use Rattle.bitmap.proofs.Pixels.{black_are_ones, pixel_is_bit}
 use Rattle.bitmap_ahead.specs.declared.Kind.{Kind}
 use Rattle.bitmap_kinds.specs.declared.Field.TheVariants.{Image}
 use Rattle.bitmap_kinds.specs.declared.Fields.{Fields}
-use Rattle.bitmap_kinds.specs.declared.Reading.TheVariants.{Read}
-use Rattle.bitmap_kinds.specs.Promises.{ReadPromise, FieldPromise}
+use Rattle.std.specs.Prelude.{Ok}
+use Rattle.bitmap_kinds.specs.Promises.{told, ReadPromise, FieldPromise}
 use Rattle.bitmap_kinds.proofs.Rules.{read_well_formed}
 use Rattle.bitmap_kinds.proofs.Calls.{read_found, field_of_read}
 
@@ -22,7 +22,7 @@ pixel_at b f ew eh ei x y hx hy =
     rw (ew, ei)
     (pixel_is_bit b.width b.height b.image f.sizes.whole f.octets f.exact x y (rw ew at hx) (rw eh at hy))
 
-module _ (kind : Kind) (m i : Bor (List ℕ)) (w h k : ℕ) (f : Fields) (o : Octets m.now) (p : ReadPromise kind m.now (Read f w h k)) (q : FieldPromise kind Image m i) where
+module _ (kind : Kind) (m i : Bor (List ℕ)) (w h k : ℕ) (f : Fields) (o : Octets m.now) (p : ReadPromise kind m.now (Ok (told f w h k))) (q : FieldPromise kind Image m i) where
   -- the black pixels that `read` answers are the ones of the image's octets: nothing ahead of the image counts
   pub black_of_image : k ≡ ones_of i.now
   black_of_image =

@@ -1,11 +1,12 @@
 -- What each call promises, once for the three kinds: every number returned and every cell lent, on acceptance and on refusal.
-use Rattle.std.specs.Prelude.{ℕ, ◌+◌, ◌≡◌, List, [], length}
+use Rattle.std.specs.Prelude.{ℕ, ◌+◌, ◌≡◌, List, [], length, Result, Ok, Err}
 use Rattle.std.specs.Borrow.{Bor}
 use Rattle.bits.specs.Outcome.{Outcome, accepted, refused}
-use Rattle.bits.specs.Places.{place, octet_count}
-use Rattle.bitmap.specs.declared.Writing.{Writing}
+use Rattle.bits.specs.Places.{octet_count}
+use Rattle.bits.specs.Refusals.{number_of, answered}
+use Rattle.bits.specs.declared.refusal.Refusal.{Refusal}
+use Rattle.written.specs.Written.{Writing, Fills}
 use Rattle.bitmap.specs.Image.{black_pixels}
-use Rattle.bitmap.specs.Promises.{write_answer, write_numbers, numbers_of_writing, lent_after}
 use Rattle.bitmap_ahead.specs.declared.Kind.{Kind}
 use Rattle.bitmap_ahead.specs.declared.Kind.TheVariants.{Plain, Icon, Logo}
 use Rattle.bitmap_ahead.specs.Ahead.{Ahead, ahead_octets}
@@ -14,7 +15,6 @@ use Rattle.bitmap_kinds.specs.declared.Field.TheVariants.{Mcc, Mnc, Date, Image}
 use Rattle.bitmap_kinds.specs.declared.Stretch.{Stretch}
 use Rattle.bitmap_kinds.specs.declared.Fields.{Fields}
 use Rattle.bitmap_kinds.specs.declared.Reading.{Reading}
-use Rattle.bitmap_kinds.specs.declared.Reading.TheVariants.{Read, Refused}
 use Rattle.bitmap_kinds.specs.Kinds.{Graphic, reading, writing_into}
 
 -- ---- the fields of a message, each a stretch of it
@@ -70,10 +70,17 @@ pub record ReadNumbers : Type 0 where
 abbrev pub black_of : Graphic → ℕ
 black_of g = black_pixels g.bitmap.width g.bitmap.height g.bitmap.image
 
+-- fields, sizes and black pixels, as an answer holds them
+abbrev pub told : Fields → ℕ → ℕ → ℕ → Reading
+told f w h k = record { fields = f; width = w; height = h; black = k }
+
+-- what is told of a bitmap with what is said ahead of it
+abbrev pub told_of : Kind → Graphic → Reading
+told_of kind g = told (fields_of kind g) g.bitmap.width g.bitmap.height (black_of g)
+
 -- the answer that the rules ask for
-abbrev pub read_answer : Kind → Outcome Graphic → Reading
-read_answer kind (accepted g) = Read (fields_of kind g) g.bitmap.width g.bitmap.height (black_of g)
-read_answer kind (refused n p) = Refused n (place p)
+abbrev pub read_answer : Kind → Outcome Graphic → Result Reading Refusal
+read_answer kind o = answered (told_of kind) o
 
 -- the numbers that the rules ask for: on a refusal its number and place, all others 0
 abbrev pub read_numbers : Kind → Outcome Graphic → ReadNumbers
@@ -82,12 +89,12 @@ read_numbers kind (accepted g) =
 read_numbers kind (refused n p) = record { refusal = n; place = p; width = 0; height = 0; black = 0; fields = no_fields }
 
 -- the numbers of each case of the answer
-abbrev pub numbers_of_reading : Reading → ReadNumbers
-numbers_of_reading (Read f w h k) = record { refusal = 0; place = 0; width = w; height = h; black = k; fields = f }
-numbers_of_reading (Refused n p) = record { refusal = n; place = p.0; width = 0; height = 0; black = 0; fields = no_fields }
+abbrev pub numbers_of_reading : Result Reading Refusal → ReadNumbers
+numbers_of_reading (Ok x) = record { refusal = 0; place = 0; width = x.width; height = x.height; black = x.black; fields = x.fields }
+numbers_of_reading (Err r) = record { refusal = number_of r.why; place = r.place.0; width = 0; height = 0; black = 0; fields = no_fields }
 
 -- `read` of the message m as a kind answers r
-pub record ReadPromise (kind : Kind) (m : List ℕ) (r : Reading) : Type 0 where
+pub record ReadPromise (kind : Kind) (m : List ℕ) (r : Result Reading Refusal) : Type 0 where
   pub answer : r ≡ read_answer kind (reading kind m)
   pub numbers : numbers_of_reading r ≡ read_numbers kind (reading kind m)
 
@@ -112,7 +119,5 @@ pub record FieldPromise (kind : Kind) (f : Field) (m r : Bor (List ℕ)) : Type 
 -- ---- write
 
 -- `write` as a kind into the buffer `out` answers r and leaves `after` in the buffer
-pub record WritePromise (kind : Kind) (a : Ahead) (width height : ℕ) (image out : List ℕ) (r : Writing) (after : List ℕ) : Type 0 where
-  pub answer : r ≡ write_answer (writing_into (length out) kind a width height image)
-  pub numbers : numbers_of_writing r ≡ write_numbers (writing_into (length out) kind a width height image)
-  pub lent : after ≡ lent_after (writing_into (length out) kind a width height image) out
+abbrev pub WritePromise : (kind : Kind) (a : Ahead) (width height : ℕ) (image out : List ℕ) (r : Writing) (after : List ℕ) → Type 0
+WritePromise kind a width height image out r after = Fills (writing_into (length out) kind a width height image) out after r

@@ -1,6 +1,11 @@
 -- How the code goes about reading. No promise of a public call cites this.
-use Rattle.std.specs.Prelude.{ℕ, ◌+◌, ◌-◌, List, length, ltb}
+use Rattle.std.specs.Prelude.{ℕ, ◌+◌, ◌-◌, List, length, ltb, Result}
 use Rattle.bits.specs.Choice.{pick}
+use Rattle.bits.specs.Outcome.{Outcome, accepted, refused}
+use Rattle.bits.specs.Places.{octet_count}
+use Rattle.bits.specs.Refusals.{answered}
+use Rattle.bits.specs.declared.OctetCount.{OctetCount}
+use Rattle.bits.specs.declared.refusal.Refusal.{Refusal}
 use Rattle.bitmap_ahead.specs.declared.Kind.{Kind}
 use Rattle.bitmap_ahead.specs.declared.Kind.TheVariants.{Plain, Icon, Logo}
 use Rattle.bitmap_ahead.specs.Ahead.{start_of, stands}
@@ -10,9 +15,13 @@ use Rattle.bitmap_kinds.specs.declared.Stretch.{Stretch}
 use Rattle.bitmap_kinds.specs.declared.Fields.{Fields}
 use Rattle.bitmap_kinds.specs.Promises.{stretch}
 
--- the number of the refusal that the part ahead meets, 0 where there is none
-unfoldable pub ahead_fault : Kind → List ℕ → ℕ
-ahead_fault kind m = pick (ltb (length m) (start_of kind m + 4)) 2 (pick (stands kind m) 0 20)
+-- where the bitmap begins, or the refusal that the part ahead meets
+unfoldable pub behind : Kind → List ℕ → Outcome ℕ
+behind kind m = pick (ltb (length m) (start_of kind m + 4)) (refused 2 0) (pick (stands kind m) (accepted (start_of kind m)) (refused 20 0))
+
+-- the answer to it
+abbrev pub start_answer : Kind → List ℕ → Result OctetCount Refusal
+start_answer kind m = answered octet_count (behind kind m)
 
 -- the stretches of a message that has an image alone
 abbrev pub image_alone : Stretch → Fields

@@ -2,15 +2,15 @@
 
 // Bitmaps of the three kinds: plain bitmaps, CLI icons and operator logos. The caller names the kind.
 ghost use Rattle.std.specs.Prelude.{◌≡◌, ◌+◌, ◌≤◌, length};
-ghost use Rattle.bitmap.specs.Bitmap.{refusal_of};
+ghost use Rattle.bitmap.specs.Promises.{verdict};
 ghost use Rattle.bitmap_ahead.specs.Ahead.{said, start_of};
 ghost use Rattle.bitmap_kinds.specs.Kinds.{reading};
 ghost use Rattle.bitmap_kinds.specs.Promises.{stretch, ReadPromise, FieldPromise, WritePromise};
-ghost use Rattle.bitmap_kinds.specs.Steps.{ahead_fault, image_alone, fields_at, one_of};
+ghost use Rattle.bitmap_kinds.specs.Steps.{start_answer, image_alone, fields_at, one_of};
 
-use bitmap::Writing;
 use bitmap_ahead::Kind;
-use bits::{BitPlace, OctetCount};
+use bits::{Ground, OctetCount, Refusal};
+use written::Writing;
 
 // The fields of a message: a logo's two codes and its date, and the image of each kind.
 #[derive(Clone, Copy)]
@@ -37,44 +37,36 @@ pub struct Fields {
     pub image: Stretch,
 }
 
-// What reading a message answers: the sizes, the black pixels and the fields, or the refusal's number and place.
+// What reading a message tells: the fields, the sizes and the black pixels.
 #[derive(Clone, Copy)]
-pub enum Reading {
-    Read {
-        fields: Fields,
-        width: u32,
-        height: u32,
-        black: u32,
-    },
-    Refused(u32, BitPlace),
+pub struct Reading {
+    pub fields: Fields,
+    pub width: u32,
+    pub height: u32,
+    pub black: u32,
 }
 
 // ---- Judging.
 
-// The number of the refusal that the part ahead of a bitmap meets, 0 where there is none.
-fn ahead_fault(kind: Kind, msg: &[u8], start: OctetCount) -> u32
-    requires { (start.0 ≡ start_of kind msg.now) × (start.0 ≤ 23) }
-    ensures { result ≡ ahead_fault kind msg.now }
-{
-    if msg.len() < start.0 + 4 {
-        return 2;
-    }
-    if bitmap_ahead::stands(kind, msg, start) {
-        return 0;
-    }
-    20
-}
-
-// The number of the refusal that a message meets, 0 where it is a bitmap of the kind.
-pub fn judge(kind: Kind, msg: &[u8]) -> u32
-    ensures { result ≡ refusal_of (reading kind msg.now) }
+// Where the bitmap begins behind the part ahead, or the refusal that this part meets.
+fn behind(kind: Kind, msg: &[u8]) -> Result<OctetCount, Refusal>
+    ensures { result ≡ start_answer kind msg.now }
 {
     let start = bitmap_ahead::start(kind, msg);
-    let n = ahead_fault(kind, msg, start);
-    if n != 0 {
-        return n;
+    if msg.len() < start.0 + 4 {
+        return Err(Ground::CutShort.into());
     }
-    let at = start.0;
+    if bitmap_ahead::stands(kind, msg, start) {
+        return Ok(start);
+    }
+    Err(Ground::Ahead.into())
+}
+
+// Whether a message is a bitmap of the kind, or the refusal that it meets.
+pub fn judge(kind: Kind, msg: &[u8]) -> Result<(), Refusal>
+    ensures { result ≡ verdict (reading kind msg.now) }
+{
+    let at = behind(kind, msg)?.0;
     bitmap::judge(&msg[at..])
 }
 
@@ -133,42 +125,34 @@ fn one_of(field: Field, fields: Fields) -> Stretch
 // ---- The calls.
 
 // Reads a message of a kind: its sizes, the number of its black pixels, and where its fields stand.
-pub fn read(kind: Kind, msg: &[u8]) -> Reading
+pub fn read(kind: Kind, msg: &[u8]) -> Result<Reading, Refusal>
     ensures { ReadPromise kind msg.now result }
 {
-    let start = bitmap_ahead::start(kind, msg);
-    let n = ahead_fault(kind, msg, start);
-    if n != 0 {
-        return Reading::Refused(n, BitPlace(0));
-    }
+    let start = behind(kind, msg)?;
     let at = start.0;
-    match bitmap::read(&msg[at..]) {
-        bitmap::Reading::Refused(number, place) => Reading::Refused(number, place),
-        bitmap::Reading::Read {
-            width,
-            height,
-            black,
-        } => Reading::Read {
-            fields: fields_at(kind, msg, start),
-            width,
-            height,
-            black,
-        },
-    }
+    let seen = bitmap::read(&msg[at..])?;
+    Ok(Reading {
+        fields: fields_at(kind, msg, start),
+        width: seen.width,
+        height: seen.height,
+        black: seen.black,
+    })
 }
 
 // The octets of a field, as the part of the message where they stand. A message that is refused has none.
 pub fn field_of(kind: Kind, field: Field, msg: &[u8]) -> &[u8]
     ensures { FieldPromise kind field msg.entry result }
 {
-    if judge(kind, msg) == 0 {
-        let start = bitmap_ahead::start(kind, msg);
-        let s = one_of(field, fields_at(kind, msg, start));
-        let from = s.start.0;
-        let end = from + s.length.0;
-        return &msg[from..end];
+    match judge(kind, msg) {
+        Ok(()) => {
+            let start = bitmap_ahead::start(kind, msg);
+            let s = one_of(field, fields_at(kind, msg, start));
+            let from = s.start.0;
+            let end = from + s.length.0;
+            &msg[from..end]
+        }
+        Err(_) => &msg[0..0],
     }
-    &msg[0..0]
 }
 
 // Writes a bitmap of a kind, with what it says ahead, to the front of a buffer.
@@ -185,18 +169,15 @@ pub fn write(
     ensures { WritePromise kind (said mcc.now mnc.now date.now) width height image.now out.old result out.new }
 {
     if !bitmap_ahead::taken(kind, mcc, mnc, date) {
-        return Writing::Refused(20, BitPlace(0));
+        return Err(Ground::Ahead.into());
     }
-    let n = bitmap::fault(width, height, image);
-    if n != 0 {
-        return Writing::Refused(n, BitPlace(0));
-    }
+    bitmap::fault(width, height, image)?;
     let start = bitmap_ahead::octets(kind, mcc, mnc, date).0;
     let octets = start + 4 + image.len();
     if out.len() < octets {
-        return Writing::Refused(11, BitPlace(0));
+        return Err(Ground::NoRoom.into());
     }
     bitmap_ahead::put(kind, mcc, mnc, date, out);
     bitmap::fill(width as u8, height as u8, image, &mut out[start..]);
-    Writing::Wrote(OctetCount(octets))
+    Ok(OctetCount(octets))
 }

@@ -8,3 +8,4 @@ pub mod Looking
 pub mod Putting
 pub mod Filled
 pub mod Refusals
+pub mod Answered

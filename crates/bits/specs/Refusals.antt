@@ -44,9 +44,13 @@ grounds =
 abbrev pub ground_of : ℕ → Ground
 ground_of n = get_or grounds n TooLong
 
+-- a refusal on a ground at a place
+abbrev pub on : Ground → ℕ → Refusal
+on g p = record { why = g; place = place p }
+
 -- a refusal by its number and its place
 abbrev pub refusal : ℕ → ℕ → Refusal
-refusal n p = record { why = ground_of n; place = place p }
+refusal n p = on (ground_of n) p
 
 -- what the code answers to an outcome: what f makes of what is accepted, or the refusal
 abbrev pub answered : {A B : Type 0} → (A → B) → Outcome A → Result B Refusal

@@ -1,3 +1,4 @@
+pub mod Answered
 pub mod Moving
 pub mod Pairs
 pub mod Stretches

@@ -4,20 +4,14 @@
 ghost use Rattle.std.specs.Prelude.{◌≡◌, ◌+◌, ◌-◌, ◌≤◌, ◌<◌, length, take, drop};
 ghost use Rattle.std.proofs.lemmas.List.Edits.{sets};
 ghost use Rattle.bits.specs.Bits.{place_after};
+ghost use Rattle.bits.specs.Refusals.{ground_of, answered};
 ghost use Rattle.tone.specs.Reading.{read_tone};
 ghost use Rattle.inside.specs.Inside.{number, pair, moved_by};
 ghost use Rattle.inside.specs.Answers.{inside_of};
 ghost use Rattle.tone_sound.specs.Turning.{Marks};
 
-use bits::{BitPlace, OctetCount};
+use bits::{BitPlace, Ground, OctetCount, Refusal};
 use tone_judge::Judged;
-
-// What judging a tone message inside something larger answers: nothing is wrong with it, or the refusal's number and place.
-#[derive(Clone, Copy)]
-pub enum Inside {
-    Fine,
-    Fault { number: u32, at: BitPlace },
-}
 
 // ---- numbers of two octets, high octet first
 
@@ -57,9 +51,63 @@ pub fn moved(at: BitPlace, start: OctetCount) -> BitPlace
     BitPlace(bits::place_after(start).0 + at.0)
 }
 
+// For now: the ground that has a number.
+fn ground(n: u32) -> Ground
+    ensures { result ≡ ground_of n }
+{
+    match n {
+        2 => Ground::CutShort,
+        3 => Ground::Command,
+        4 => Ground::SongType,
+        5 => Ground::NoPattern,
+        6 => Ground::Code,
+        7 => Ground::NoRecall,
+        8 => Ground::Filler,
+        9 => Ground::EndOctet,
+        10 => Ground::AfterEnd,
+        11 => Ground::NoRoom,
+        12 => Ground::NotThere,
+        13 => Ground::OnlyOne,
+        14 => Ground::FullPart,
+        15 => Ground::BitmapHeader,
+        16 => Ground::ImageLength,
+        17 => Ground::Title,
+        18 => Ground::TableShape,
+        20 => Ground::Ahead,
+        21 => Ground::Character,
+        26 => Ground::PackSize,
+        27 => Ground::PackRows,
+        0 => Ground::TooLong,
+        1 => Ground::TooLong,
+        19 => Ground::TooLong,
+        22 => Ground::TooLong,
+        23 => Ground::TooLong,
+        24 => Ground::TooLong,
+        25 => Ground::TooLong,
+        _ => Ground::TooLong,
+    }
+}
+
+// For now: judges a tone message by itself.
+fn judge(m: &[u8]) -> Result<(), Refusal>
+    ensures { result ≡ answered (λ _. tt) (read_tone m.now) }
+{
+    match tone_judge::judge(m) {
+        Judged::Sound {
+            song: _,
+            at: _,
+            octets: _,
+            patterns: _,
+            total: _,
+            unicode: _,
+        } => Ok(()),
+        Judged::Faulty { number, at } => Err(ground(number).at(at)),
+    }
+}
+
 // Judges the tone message that is a stretch of something larger, from one octet up to another. Where no tone fills it, it is judged
 // by itself, which finds the fault and its place.
-pub fn judge_inside(whole: &[u8], start: OctetCount, end: OctetCount, marks: &[u8; 512]) -> Inside
+pub fn judge_inside(whole: &[u8], start: OctetCount, end: OctetCount, marks: &[u8; 512]) -> Result<(), Refusal>
     requires marks { Marks marks.now }
     requires start_le_end { (start.0 ≤ end.0) × (end.0 ≤ length whole.now) × (length whole.now ≤ 65535) }
     ensures { result ≡ inside_of (moved_by start.0 (read_tone (take (end.0 - start.0) (drop start.0 whole.now)))) }
@@ -70,22 +118,12 @@ pub fn judge_inside(whole: &[u8], start: OctetCount, end: OctetCount, marks: &[u
         let own = tone_sound::tone_at(whole, start, marks);
         if own.0 == to - from {
             if from < to {
-                return Inside::Fine;
+                return Ok(());
             }
         }
     }
-    match tone_judge::judge(&whole[from..to]) {
-        Judged::Sound {
-            song: _,
-            at: _,
-            octets: _,
-            patterns: _,
-            total: _,
-            unicode: _,
-        } => Inside::Fine,
-        Judged::Faulty { number, at: fault } => Inside::Fault {
-            number,
-            at: moved(fault, start),
-        },
+    match judge(&whole[from..to]) {
+        Ok(_) => Ok(()),
+        Err(own) => Err(own.why.at(moved(own.place, start))),
     }
 }

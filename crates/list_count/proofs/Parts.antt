@@ -7,11 +7,10 @@ use mathlib.Core.List.{List, [], ◌∷◌}
 use lib.ListN.{length, get_or, set, get_or-map}
 use lib.Seq.{get_or-set_same, set-get_or}
 use lib.Dec.{eqb}
+use Rattle.std.specs.Prelude.{Option, None, Some}
 use Rattle.bits.specs.Choice.{pick}
 use Rattle.tone.specs.Tone.{specifier, part_of, pattern, recallable}
 use Rattle.tone_elements.specs.Answers.{notes}
-use Rattle.list_count.specs.declared.Part.{Part}
-use Rattle.list_count.specs.declared.Part.TheVariants.{Unknown, Known}
 use Rattle.list_count.specs.Bodies.{Remembered, unknown, known, recalled, remember}
 use Rattle.list_count.specs.Parts.{sounding_part}
 use Rattle.list_count.proofs.Bodies.{is_known, known_of}
@@ -78,18 +77,18 @@ known_sounding bodies h b four size = rw (← size) (go (eqb (length b) 0))
 -- ---- parts that are counted
 
 -- a body, as it is counted
-abbrev pub noted_part : Remembered → Part
-noted_part unknown = Unknown
-noted_part (known b) = Known (notes b)
+abbrev pub noted_part : Remembered → Option ℕ
+noted_part unknown = None
+noted_part (known b) = Some (notes b)
 
 -- a part has the notes of its body
-abbrev pub Noted : Part → Remembered → Type 0
+abbrev pub Noted : Option ℕ → Remembered → Type 0
 Noted p r = p ≡ noted_part r
 
-pub noted_unknown : {p : Part} (r : Remembered) → Noted p r → p ≡ Unknown → is_known r ≡ false
+pub noted_unknown : {p : Option ℕ} (r : Remembered) → Noted p r → p ≡ None → is_known r ≡ false
 noted_unknown unknown h e = refl
 noted_unknown (known b) h e = let z : ◌≡◌ {A = ℕ} 0 1 = cc in absurd (omega arith)
 
-pub noted_known : {p : Part} {n : ℕ} (r : Remembered) → Noted p r → p ≡ Known n → (is_known r ≡ true) × (n ≡ notes (recalled r))
+pub noted_known : {p : Option ℕ} {n : ℕ} (r : Remembered) → Noted p r → p ≡ Some n → (is_known r ≡ true) × (n ≡ notes (recalled r))
 noted_known unknown h e = let z : ◌≡◌ {A = ℕ} 0 1 = cc in absurd (omega arith)
 noted_known (known b) h e = (refl, cc)

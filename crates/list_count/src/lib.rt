@@ -1,10 +1,9 @@
 #![tactic(auto)]
 
-ghost use Rattle.std.specs.Prelude.{◌≡◌, ◌≤◌};
+ghost use Rattle.std.specs.Prelude.{◌≡◌, ◌≤◌, Some};
 ghost use Rattle.list_count.specs.Bodies.{passes_of};
 ghost use Rattle.list_count.specs.Counting.{mark_of, no_count, counted as countedOf};
 ghost use Rattle.list_count.specs.Parts.{sounding_part};
-ghost use Rattle.list_count.specs.declared.Part.TheVariants.{Known};
 
 // What is counted so far of a playing list: the entries, the return mark, and whether a loop 15 has ended the list.
 #[derive(Clone, Copy)]
@@ -14,17 +13,11 @@ pub struct Count {
     pub ended: bool,
 }
 
-// A part's body, as it is counted: not yet defined, or the number of its notes.
-#[derive(Clone, Copy)]
-pub enum Part {
-    Unknown,
-    Known { notes: u32 },
-}
-
 // The return mark where there is none.
 const NO_MARK: u32 = 4294967295;
 
 // How many passes a loop value lists.
+#[tactic(auto, unfolding(crate::specs::Bodies::passes_of))]
 pub fn passes_of(value: u32) -> u32
     requires { value ≤ 15 }
     ensures { (result ≡ passes_of value) × (1 ≤ result) × (result ≤ 15) }
@@ -76,12 +69,13 @@ impl Count {
     }
 }
 
-// The part that a header sounds, whose own instructions have so many notes: a definition replaces the part of its id.
-pub fn part_after(part: Part, header: u32, own: u32) -> Part
-    ensures { result ≡ sounding_part part header (Known own) }
+// The part that a header sounds, whose own instructions are kept as `own`: a definition replaces the part of its id. None
+// is a part not yet defined.
+pub fn part_after<T: Copy>(part: Option<T>, header: u32, own: T) -> Option<T>
+    ensures { result ≡ sounding_part part header (Some own) }
 {
     if header % 256 == 0 {
         return part;
     }
-    Part::Known { notes: own }
+    Some(own)
 }

@@ -9,6 +9,7 @@ use lib.ListN.{length, get_or, set, drop, replicate, length-append}
 use lib.Seq.{sets, sets-eq}
 use lib.Dec.{eqb}
 use borrow.Author.Tests.{eqb-true}
+use Rattle.std.specs.Prelude.{Option, None, Some}
 use Rattle.bits.specs.Choice.{pick}
 use Rattle.bits.specs.Bits.{bits_of}
 use Rattle.bits.specs.Lent.{over}
@@ -23,8 +24,7 @@ use Rattle.tone.proofs.Instructions.{header_in_table}
 use Rattle.tone_elements.specs.Answers.{Within, notes, EntryAt, SomeEntry, Passed}
 use Rattle.tone_elements.proofs.Steps.{onward_got, onward_made}
 use Rattle.list_rules.specs.declared.Entry.{Entry}
-use Rattle.list_fill.specs.declared.Part.{Part}
-use Rattle.list_fill.specs.declared.Part.TheVariants.{Unknown, Known}
+use Rattle.list_fill.specs.declared.Body.{Body as Kept}
 use Rattle.list_fill.specs.declared.Walk.{Walk}
 use Rattle.list_rules.specs.Sounding.{State, at_start, entry_cells, numbers}
 use Rattle.list_rules.specs.Playing.{Played, ahead, Listing, passes, pattern_played, next_header, play}
@@ -43,11 +43,11 @@ use Rattle.list_fill.proofs.Walking.{and_then, advanced_long}
 
 -- ---- the four parts are the places of the bodies that are remembered
 
-abbrev PartAt : List ℕ → Part → Remembered → Type 0
-PartAt m Unknown unknown = Unit {0}
-PartAt m Unknown (known b) = ⊥
-PartAt m (Known at n) unknown = ⊥
-PartAt m (Known at n) (known b) = (q : ℕ) × BodyAt m at.0 n b q
+abbrev PartAt : List ℕ → Option Kept → Remembered → Type 0
+PartAt m None unknown = Unit {0}
+PartAt m None (known b) = ⊥
+PartAt m (Some k) unknown = ⊥
+PartAt m (Some k) (known b) = (q : ℕ) × BodyAt m k.at.0 k.count b q
 
 -- ---- the first of some patterns that stand at a place
 
@@ -75,23 +75,22 @@ head_of m seen p left {ps} {q} h e =
 
 -- ---- the part that sounds
 
-known_there : (m : List ℕ) (p : Part) (r : Remembered) {from : BitPlace} {n : ℕ} → PartAt m p r → p ≡ Known from n → (q : ℕ) × BodyAt m from.0 n (recalled r) q
-known_there m Unknown r h e = let y : ◌≡◌ {A = ℕ} 0 1 = cc in absurd (omega arith)
-known_there m (Known at k) unknown h e = absurd h
-known_there m (Known at k) (known b) {from} {n} h e =
-    let e₁ : at ≡ from = cc in
-    let e₂ : k ≡ n = cc in
-    (h.0, rw (← e₁, ← e₂) h.1)
+known_there : (m : List ℕ) (p : Option Kept) (r : Remembered) {k : Kept} → PartAt m p r → p ≡ Some k → (q : ℕ) × BodyAt m k.at.0 k.count (recalled r) q
+known_there m None r h e = let y : ◌≡◌ {A = ℕ} 0 1 = cc in absurd (omega arith)
+known_there m (Some c) unknown h e = absurd h
+known_there m (Some c) (known b) {k} h e =
+    let z : c ≡ k = cc in
+    (h.0, rw (← z) h.1)
 
-unknown_there : (m : List ℕ) (p : Part) (r : Remembered) → PartAt m p r → p ≡ Unknown → is_known r ≡ true → ⊥
-unknown_there m Unknown unknown h e k = let y : ◌≡◌ {A = ℕ} 0 1 = cc in omega arith
-unknown_there m Unknown (known b) h e k = h
-unknown_there m (Known at n) r h e k = let y : ◌≡◌ {A = ℕ} 0 1 = cc in omega arith
+unknown_there : (m : List ℕ) (p : Option Kept) (r : Remembered) → PartAt m p r → p ≡ None → is_known r ≡ true → ⊥
+unknown_there m None unknown h e k = let y : ◌≡◌ {A = ℕ} 0 1 = cc in omega arith
+unknown_there m None (known b) h e k = h
+unknown_there m (Some c) r h e k = let y : ◌≡◌ {A = ℕ} 0 1 = cc in omega arith
 
 -- ---- the loop
 
 -- with `left` patterns to come at p, from the bodies that are remembered and the state of the walk
-pub record ListWalk (m : List ℕ) (ps : List Pattern) (old new : List ℕ) (parts : List Part) (p : ℕ) (w : Walk) (left : ℕ) : Type 0 where
+pub record ListWalk (m : List ℕ) (ps : List Pattern) (old new : List ℕ) (parts : List (Option Kept)) (p : ℕ) (w : Walk) (left : ℕ) : Type 0 where
   pub within : Within m p
   pub bodies : List Remembered
   pub four : length bodies ≡ 4
@@ -107,7 +106,7 @@ pub record ListWalk (m : List ℕ) (ps : List Pattern) (old new : List ℕ) (par
   pub few : w.header + left ≤ 255
 
 pub list_begins : {m : List ℕ} {at n : ℕ} {ps : List Pattern} {q : ℕ} {old : List ℕ} {w : Walk} {p : BitPlace} → PatternsAt m at n ps q × (n ≤ 255) → entry_cells * entry_count no_bodies ps ≤ length old
-    → Ready w × (state_of w ≡ at_start) × (w.at ≡ p) × (w.cells ≡ 0) → ListWalk m ps old old (replicate 4 Unknown) at w n
+    → Ready w × (state_of w ≡ at_start) × (w.at ≡ p) × (w.cells ≡ 0) → ListWalk m ps old old (replicate 4 None) at w n
 list_begins {ps = ps} {q} {w = w} h k s = record {
   within = h.0.within;
   bodies = no_bodies;
@@ -127,7 +126,7 @@ list_begins {ps = ps} {q} {w = w} h k s = record {
 over_sets : (old : List ℕ) (rs : List Entry) → entry_cells * length rs ≤ length old → sets old 0 (numbers rs) ≡ over (numbers rs) old
 over_sets old rs h = sets-eq (numbers rs) old 0 (omega (arith, length_numbers rs)) ∙ ap (λ (n : ℕ). numbers rs ++ drop n old) (zero-add (length (numbers rs)))
 
-module _ {m : List ℕ} {ps : List Pattern} {old new : List ℕ} {parts : List Part} {p : ℕ} {w : Walk} {left : ℕ} (v : ListWalk m ps old new parts p w left) where
+module _ {m : List ℕ} {ps : List Pattern} {old new : List ℕ} {parts : List (Option Kept)} {p : ℕ} {w : Walk} {left : ℕ} (v : ListWalk m ps old new parts p w left) where
   pub list_same : length new ≡ length old
   list_same = advanced_long v.advanced
 
@@ -190,54 +189,58 @@ module _ {m : List ℕ} {ps : List Pattern} {old new : List ℕ} {parts : List P
       size : length head.body ≡ specifier cell
       size = read.good.size
 
-      module _ {part : Part} (e : part ≡ part_after (get_or parts (part_of cell) Unknown) cell next) where
+      -- its own instructions
+      abbrev own : Kept
+      own = record { at = next; count = specifier cell }
+
+      module _ {part : Option Kept} (e : part ≡ part_after (get_or parts (part_of cell) None) cell next) where
         places : AllFor (PartAt m) (set parts (part_of cell) part) (remember v.bodies one)
         unfolding one
-        places = rw e (parts_kept (PartAt m) Unknown parts v.bodies cell head.body (Known next (specifier cell)) v.places (ap (λ (x : ℕ). eqb x 0) size) (head.behind, stands))
+        places = rw e (parts_kept (PartAt m) None parts v.bodies cell head.body (Some own) v.places (ap (λ (x : ℕ). eqb x 0) size) (head.behind, stands))
 
         sounding : PartAt m part (get_or (remember v.bodies one) (part_of cell) unknown)
         unfolding one
-        sounding = rw e (part_sounds (PartAt m) Unknown parts v.bodies cell head.body (Known next (specifier cell)) v.places (ap (λ (x : ℕ). eqb x 0) size) (head.behind, stands) v.four)
+        sounding = rw e (part_sounds (PartAt m) None parts v.bodies cell head.body (Some own) v.places (ap (λ (x : ℕ). eqb x 0) size) (head.behind, stands) v.four)
 
-        pub list_unknown : part ≡ Unknown → ⊥
+        pub list_unknown : part ≡ None → ⊥
         unfolding one
         list_unknown z =
             unknown_there m part (get_or (remember v.bodies one) (part_of cell) unknown) sounding z
             (known_sounding v.bodies cell head.body v.four (ap (λ (x : ℕ). eqb x 0) size) ∙ (rw (← same) taken.good.recall))
 
-        module _ {from : BitPlace} {n : ℕ} (g : part ≡ Known from n) where
-          body : (q : ℕ) × BodyAt m from.0 n (recalled (get_or (remember v.bodies one) (part_of cell) unknown)) q
+        module _ {kept : Kept} (g : part ≡ Some kept) where
+          body : (q : ℕ) × BodyAt m kept.at.0 kept.count (recalled (get_or (remember v.bodies one) (part_of cell) unknown)) q
           body = known_there m part (get_or (remember v.bodies one) (part_of cell) unknown) sounding g
 
-          body_is : body_in m from.0 n ≡ body_of v.bodies one
+          body_is : body_in m kept.at.0 kept.count ≡ body_of v.bodies one
           unfolding one
           body_is = rw body.1.reads (body_sounding v.bodies cell head.body v.four)
 
-          pub list_body : BodyAt m from.0 n (body_in m from.0 n) (behind_in m from.0 n)
+          pub list_body : BodyAt m kept.at.0 kept.count (body_in m kept.at.0 kept.count) (behind_in m kept.at.0 kept.count)
           list_body = record { within = body.1.within; short = body.1.short; reads = rw body.1.reads refl }
 
           -- a pattern's passes are the passes of its body
-          played : passes (loop_of cell) (passes_of (loop_of cell)) (state_of w) (body_in m from.0 n) ≡ pattern_played (state_of w) v.bodies one
+          played : passes (loop_of cell) (passes_of (loop_of cell)) (state_of w) (body_in m kept.at.0 kept.count) ≡ pattern_played (state_of w) v.bodies one
           unfolding pattern_played one
           played = ap (passes (loop_of cell) (passes_of (loop_of cell)) (state_of w)) body_is
 
           -- there is room for them
-          pub list_fits : w.cells + entry_cells * (notes (body_in m from.0 n) * passes_of (loop_of cell)) ≤ length new
+          pub list_fits : w.cells + entry_cells * (notes (body_in m kept.at.0 kept.count) * passes_of (loop_of cell)) ≤ length new
           unfolding one
           list_fits =
               let e : entry_count no_bodies ps ≡ length v.done + entry_count v.bodies v.others =
               sym (list_count at_start no_bodies 0 ps) ∙ ap length v.goes ∙ length-append v.done (play (state_of w) v.bodies (length v.done) v.others).entries
               ∙ ap (λ (y : ℕ). length v.done + y) (list_count (state_of w) v.bodies (length v.done) v.others) in
-              let f : notes (body_in m from.0 n) * passes_of (loop_of cell) ≡ notes (body_of v.bodies one) * passes_of (loop_of cell) = ap (λ (b : List ℕ). notes b * passes_of (loop_of cell)) body_is in
+              let f : notes (body_in m kept.at.0 kept.count) * passes_of (loop_of cell) ≡ notes (body_of v.bodies one) * passes_of (loop_of cell) = ap (λ (b : List ℕ). notes b * passes_of (loop_of cell)) body_is in
               omega (arith, ap (entry_count v.bodies) others, v.room, v.advanced.cells, list_same)
 
-          module _ {new' : List ℕ} {w' : Walk} (a : Advanced w.cells (passes (loop_of cell) (passes_of (loop_of cell)) (state_of w) (body_in m from.0 n)) (behind_in m from.0 n) new new' w') where
+          module _ {new' : List ℕ} {w' : Walk} (a : Advanced w.cells (passes (loop_of cell) (passes_of (loop_of cell)) (state_of w) (body_in m kept.at.0 kept.count)) (behind_in m kept.at.0 kept.count) new new' w') where
             d : Played
             d = pattern_played (state_of w) v.bodies one
 
-            both : Advanced 0 (ahead v.done d) (behind_in m from.0 n) old new' w'
+            both : Advanced 0 (ahead v.done d) (behind_in m kept.at.0 kept.count) old new' w'
             unfolding d
-            both = and_then v.advanced (subst (λ (y : Played). Advanced w.cells y (behind_in m from.0 n) new new' w') played a)
+            both = and_then v.advanced (subst (λ (y : Played). Advanced w.cells y (behind_in m kept.at.0 kept.count) new new' w') played a)
 
             -- listing stops with a loop 15
             pub list_ends : loop_of cell ≡ 15 → new' ≡ over (numbers (play at_start no_bodies 0 ps).entries) old
@@ -257,14 +260,13 @@ module _ {m : List ℕ} {ps : List Pattern} {old new : List ℕ} {parts : List P
                     let r : got [] next.0 ≡ got head.body head.behind = subst (λ (u : ℕ). body_due u (bits_of m) next.0 ≡ got head.body head.behind) (eqb-true (specifier cell) 0 y) reads in
                     cc
                 go false y =
-                    let r : Known next (specifier cell) ≡ Known from n = ap (λ (t : Bool). pick t (get_or parts (part_of cell) Unknown) (Known next (specifier cell))) (sym y) ∙ sym e ∙ g in
-                    let e₁ : next ≡ from = cc in
-                    let e₂ : specifier cell ≡ n = cc in
-                    a.place ∙ ap₂ (λ (u : BitPlace) (c : ℕ). behind_in m u.0 c) (sym e₁) (sym e₂) ∙ ap behind_or reads
+                    let r : Some own ≡ Some kept = ap (λ (t : Bool). pick t (get_or parts (part_of cell) None) (Some own)) (sym y) ∙ sym e ∙ g in
+                    let e₁ : own ≡ kept = cc in
+                    a.place ∙ ap (λ (u : Kept). behind_in m u.at.0 u.count) (sym e₁) ∙ ap behind_or reads
 
             -- the passes are this header's
             same_header : w'.header ≡ w.header
-            same_header = ap (λ (r : State). r.header) a.state ∙ passes_header (loop_of cell) (passes_of (loop_of cell)) (state_of w) (body_in m from.0 n)
+            same_header = ap (λ (r : State). r.header) a.state ∙ passes_header (loop_of cell) (passes_of (loop_of cell)) (state_of w) (body_in m kept.at.0 kept.count)
 
             pub list_header : w'.header < 255
             list_header = omega (arith, v.few, same_header)
@@ -294,7 +296,7 @@ module _ {m : List ℕ} {ps : List Pattern} {old new : List ℕ} {parts : List P
                 }
 
 -- the list keeps its length in a turn
-pub list_long : {m : List ℕ} {ps : List Pattern} {old new new' : List ℕ} {parts : List Part} {p : ℕ} {w w' : Walk} {left i q : ℕ} {d : Played} → ListWalk m ps old new parts p w left → Advanced i d q new new' w' → length new' ≡ length old
+pub list_long : {m : List ℕ} {ps : List Pattern} {old new new' : List ℕ} {parts : List (Option Kept)} {p : ℕ} {w w' : Walk} {left i q : ℕ} {d : Played} → ListWalk m ps old new parts p w left → Advanced i d q new new' w' → length new' ≡ length old
 list_long v a = advanced_long a ∙ list_same v
 
 pub ruleset listings = (list_begins, list_same, list_long, list_done, list_entry, list_unknown, list_body, list_fits, list_ends, list_header, list_on)

@@ -1,5 +1,5 @@
 -- What filling a list is handed, and what it leaves.
-use Rattle.std.specs.Prelude.{ℕ, ◌+◌, ◌-◌, ◌*◌, ◌/◌, ◌%◌, ◌^◌, ◌≤◌, ◌≡◌, List, [], length, eqb}
+use Rattle.std.specs.Prelude.{ℕ, ◌+◌, ◌-◌, ◌*◌, ◌/◌, ◌%◌, ◌^◌, ◌≤◌, ◌≡◌, List, [], length, eqb, Option, Some}
 use Rattle.std.proofs.lemmas.List.Edits.{sets}
 use Rattle.bits.specs.Choice.{pick}
 use Rattle.bits.specs.Bits.{bits_of}
@@ -9,8 +9,7 @@ use Rattle.tone.specs.Tone.{Pattern, specifier, none_known}
 use Rattle.tone.specs.Reading.{got, patterns_due}
 use Rattle.tone_elements.specs.Answers.{Within}
 use Rattle.tone_elements.specs.Standing.{value_or, behind_or}
-use Rattle.list_fill.specs.declared.Part.{Part}
-use Rattle.list_fill.specs.declared.Part.TheVariants.{Known}
+use Rattle.list_fill.specs.declared.Body.{Body}
 use Rattle.list_fill.specs.declared.Walk.{Walk}
 use Rattle.list_count.specs.Parts.{sounding_part}
 use Rattle.list_rules.specs.Duration.{beats}
@@ -35,8 +34,8 @@ pub record PatternsAt (m : List ℕ) (at n : ℕ) (ps : List Pattern) (q : ℕ) 
   pub reads : patterns_due n none_known (bits_of m) at ≡ got ps q
 
 -- the part that a header sounds, whose own instructions stand at next: a definition replaces the part of its id
-abbrev pub part_after : Part → ℕ → BitPlace → Part
-part_after part h next = sounding_part part h (Known next (specifier h))
+abbrev pub part_after : Option Body → ℕ → BitPlace → Option Body
+part_after part h next = sounding_part part h (Some (record { at = next; count = specifier h }))
 
 -- where the next header stands: a recall has no instructions of its own
 abbrev pub behind_pattern : ℕ → BitPlace → BitPlace → BitPlace

@@ -10,17 +10,17 @@ ghost use Rattle.list_rules.specs.Sounding.{at_start, entry_cells, numbers};
 ghost use Rattle.list_rules.specs.Playing.{step, pass, passes, play};
 ghost use Rattle.list_count.specs.Bodies.{no_bodies, passes_of};
 ghost use Rattle.list_count.specs.Counting.{entry_count};
-ghost use Rattle.list_fill.specs.Filling.{patterns_in, end_in, PatternsAt, part_after, behind_pattern, entry_seen, state_of, Ready, Advanced, Begun, Headed};
+ghost use Rattle.list_fill.specs.Filling.{patterns_in, end_in, PatternsAt, behind_pattern, entry_seen, state_of, Ready, Advanced, Begun, Headed};
 ghost use Rattle.tone_elements.specs.Standing.{body_in, behind_in, BodyAt};
 
 use bits::BitPlace;
 use list_rules::Settings;
 
-// A part's body: not yet defined, or the place and the number of its instructions.
+// A part's body: the place and the number of its instructions.
 #[derive(Clone, Copy)]
-pub enum Part {
-    Unknown,
-    Known { at: BitPlace, count: u32 },
+pub struct Body {
+    pub at: BitPlace,
+    pub count: u32,
 }
 
 // How far filling has come: the settings, the fraction left over, the positions of the header that sounds and of the next
@@ -191,19 +191,6 @@ fn fill_passes(msg: &[u8], from: BitPlace, n: u32, value: u32, list: &mut [u32],
     walk
 }
 
-// The part that a header sounds, whose own instructions stand at `next`: a definition replaces the part of its id.
-fn part_after(part: Part, header: u32, next: BitPlace) -> Part
-    ensures { result ≡ part_after part header next }
-{
-    if header % 256 == 0 {
-        return part;
-    }
-    Part::Known {
-        at: next,
-        count: header % 256,
-    }
-}
-
 // Where the next header stands: a recall has no instructions of its own.
 fn behind_pattern(header: u32, next: BitPlace, reached: BitPlace) -> BitPlace
     ensures { result ≡ behind_pattern header next reached }
@@ -217,7 +204,7 @@ pub fn fill_list(msg: &[u8], at: BitPlace, n: u32, list: &mut [u32])
     requires n_in_bounds { entry_cells * entry_count no_bodies (patterns_in msg.now at.0 n) ≤ length list.old }
     ensures { list.new ≡ over (numbers (play at_start no_bodies 0 (patterns_in msg.now at.0 n)).entries) list.old }
 {
-    let mut parts = [Part::Unknown; 4];
+    let mut parts = [None; 4];
     let mut place = at;
     let mut walk = Walk::start(at);
     let mut left = n;
@@ -225,17 +212,17 @@ pub fn fill_list(msg: &[u8], at: BitPlace, n: u32, list: &mut [u32])
         let head = tone_elements::entry_at(msg, place);
         let header = head.cell;
         let id = (header / 4096 % 4) as usize;
-        let part = part_after(parts[id], header, head.next);
+        let own = Body {
+            at: head.next,
+            count: header % 256,
+        };
+        let part = list_count::part_after(parts[id], header, own);
         parts[id] = part;
         let value = header / 256 % 16;
-        match part {
-            Part::Unknown => {
-                return;
-            }
-            Part::Known { at: from, count } => {
-                walk = fill_passes(msg, from, count, value, list, walk);
-            }
-        }
+        let Some(body) = part else {
+            return;
+        };
+        walk = fill_passes(msg, body.at, body.count, value, list, walk);
         if value == 15 {
             return;
         }

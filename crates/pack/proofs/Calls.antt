@@ -11,6 +11,7 @@ use denote.Ref.{Bor}
 use borrow.Author.Tests.{eqb-true, leb-true}
 use Rattle.bits.specs.Bits.{Octets}
 use Rattle.bits.specs.Lent.{over}
+use Rattle.std.specs.Prelude.{Ok}
 use Rattle.bits.specs.Outcome.{Outcome, accepted, refused, and_then, demand}
 use Rattle.bits.specs.Places.{octet_count}
 use Rattle.bits.specs.declared.OctetCount.{OctetCount}
@@ -19,16 +20,11 @@ use Rattle.tone.specs.Writing.{tone_octets}
 use Rattle.tone.specs.Reading.{read_tone}
 use Rattle.inside.specs.Inside.{number, join, lengths, sum, cut}
 use Rattle.inside.proofs.Stretches.{length_join, length_cut, lengths_cut, sum_ahead, join_cut, cut_join, nth_cut}
-use Rattle.written.specs.declared.Writing.{Writing}
-use Rattle.written.specs.declared.Writing.TheVariants.{Written}
-use Rattle.written.specs.Written.{write_answer, octets_after}
+use Rattle.written.specs.Written.{Writing, write_answer, octets_after}
 use Rattle.written.proofs.Unique.{fills_written}
-use Rattle.pack.specs.declared.Reading.{Reading}
-use Rattle.pack.specs.declared.Reading.TheVariants.{Read}
-use Rattle.pack.specs.declared.Finding.{Finding}
-use Rattle.pack.specs.declared.Finding.TheVariants.{Found}
+use Rattle.inside.proofs.Answered.{accepted_there}
 use Rattle.pack.specs.Pack.{most_pack, pack_of, pack_length, messages_of, pack_octets, Packable, Row, lengths_in, first_row, count, rows_in, messages_in, read_in_turn, read_pack, no_row, nth_row, write_pack}
-use Rattle.pack.specs.Promises.{read_answer, ReadPromise, find_answer, FindPromise, stretch_of, stretch_start, MessagePromise, WritePromise}
+use Rattle.pack.specs.Promises.{Reading, read_answer, ReadPromise, Finding, found_at, find_answer, FindPromise, stretch_of, stretch_start, MessagePromise, WritePromise}
 use Rattle.pack.proofs.Rules.{length_pack_of, length_rows_at, demanded, turn_nth, Met, met, read_count}
 use Rattle.pack.proofs.Nth.{a_message, nth_rows_at, nth_start}
 use Rattle.pack.proofs.Order.{room_enough}
@@ -37,22 +33,18 @@ use Rattle.pack.proofs.Demand2.{turn_written, turn_exactly, lengths_there, messa
 -- ---- `read`
 
 -- what an accepting answer says
-pub read_says : (p : List ℕ) {k : ℕ} → ReadPromise p (Read k) → (ts : List Tone) × (read_pack p ≡ accepted ts) × (k ≡ length ts)
-read_says p {k} h = go (read_pack p) refl h.answer
-  where
-    go : (x : Outcome (List Tone)) → read_pack p ≡ x → Read k ≡ read_answer x → (ts : List Tone) × (read_pack p ≡ accepted ts) × (k ≡ length ts)
-    go (accepted ts) q e = (ts, q, cc)
-    go (refused n f) q e = let z : ◌≡◌ {A = ℕ} 0 1 = cc in absurd (omega arith)
+pub read_says : (p : List ℕ) {k : ℕ} → ReadPromise p (Ok k) → (ts : List Tone) × (read_pack p ≡ accepted ts) × (k ≡ length ts)
+read_says p {k} h = accepted_there (λ (ts : List Tone). length ts) (read_pack p) h.answer
 
 -- `read` accepts exactly the packs of some list of well-formed tones, the empty list among them
-pub read_accepts : (p : List ℕ) {r : Reading} → Octets p → ReadPromise p r → ((k : ℕ) × (r ≡ Read k)) ↔ ((ts : List Tone) × Packable ts × (pack_octets ts ≡ p))
+pub read_accepts : (p : List ℕ) {r : Reading} → Octets p → ReadPromise p r → ((k : ℕ) × (r ≡ Ok k)) ↔ ((ts : List Tone) × Packable ts × (pack_octets ts ≡ p))
 read_accepts p {r} o h = (
   λ a. let s = read_says p (subst (ReadPromise p) a.1 h) in (s.0, pack_is_packable p s.0 o s.1, pack_is_written p s.0 o s.1),
   λ w. (length w.0, h.answer ∙ ap read_answer (ap read_pack (sym w.2) ∙ pack_is_accepted w.0 w.1)),
 )
 
 -- and answers how many they are
-pub read_of_pack : (ts : List Tone) {r : Reading} → Packable ts → ReadPromise (pack_octets ts) r → r ≡ Read (length ts)
+pub read_of_pack : (ts : List Tone) {r : Reading} → Packable ts → ReadPromise (pack_octets ts) r → r ≡ Ok (length ts)
 read_of_pack ts k h = h.answer ∙ ap read_answer (pack_is_accepted ts k)
 
 -- ---- `find` and `message`
@@ -113,17 +105,17 @@ module _ (ts : List Tone) (k : Packable ts) (n : ℕ) (h : n < length ts) where
   message_reads none p r e q = ap read_tone (q.octets ∙ ap (λ (x : List ℕ). stretch_of (nth_row x n) x) e) ∙ nth_reads (pack_octets ts) (pack_is_accepted ts k) n h none
 
   -- `find` answers the same stretch
-  pub find_of_pack : {r : Finding} → FindPromise (pack_octets ts) n r → r ≡ Found (octet_count octets_ahead) (octet_count (length (get_or (messages_of ts) n [])))
+  pub find_of_pack : {r : Finding} → FindPromise (pack_octets ts) n r → r ≡ Ok (found_at (record { start = octets_ahead; length = length (get_or (messages_of ts) n []) }))
   find_of_pack q =
       let a = a_message (pack_octets ts) n (pack_is_accepted ts k) h in
       let s : (get_or (rows_in (pack_octets ts)) n no_row).start ≡ octets_ahead = sym (ap stretch_start a) ∙ begins in
       let l : (get_or (rows_in (pack_octets ts)) n no_row).length ≡ length (get_or (messages_of ts) n []) =
       sym (get_or-map (λ (x : Row). x.length) (rows_in (pack_octets ts)) n no_row) ∙ ap (λ (ns : List ℕ). get_or ns n 0) (lengths_there ts k) ∙ get_or-map length (messages_of ts) n [] in
-      q.answer ∙ ap find_answer a ∙ ap₂ (λ (x y : ℕ). Found (octet_count x) (octet_count y)) s l
+      q.answer ∙ ap find_answer a ∙ ap₂ (λ (x y : ℕ). Ok (found_at (record { start = x; length = y }))) s l
 
 -- `find` n answers what the nth row in the octets says
-pub row_is_message : (p : List ℕ) {k : ℕ} (n : ℕ) {r : Finding} → ReadPromise p (Read k) → n < k → FindPromise p n r
-    → r ≡ Found (octet_count (number p (first_row p + 4 * n))) (octet_count (number p (first_row p + 4 * n + 2)))
+pub row_is_message : (p : List ℕ) {k : ℕ} (n : ℕ) {r : Finding} → ReadPromise p (Ok k) → n < k → FindPromise p n r
+    → r ≡ Ok (found_at (record { start = number p (first_row p + 4 * n); length = number p (first_row p + 4 * n + 2) }))
 row_is_message p n h j q =
     let s = read_says p h in
     let c : n < count p = omega (arith, read_count p (met p s.1), s.2) in
@@ -141,7 +133,7 @@ pub record Wrote (octets ns out out' : List ℕ) (n : OctetCount) : Type 0 where
   pub room : length (pack_octets tones) ≤ length out
   pub lent : out' ≡ over (pack_octets tones) out
 
-pub write_says : (octets ns out out' : List ℕ) {n : OctetCount} → Octets octets → WritePromise octets ns out out' (Written n) → Wrote octets ns out out' n
+pub write_says : (octets ns out out' : List ℕ) {n : OctetCount} → Octets octets → WritePromise octets ns out out' (Ok n) → Wrote octets ns out out' n
 unfolding write_pack pack_octets
 write_says octets ns out out' {n} o h =
     let w = fills_written h in
@@ -177,14 +169,14 @@ write_says octets ns out out' {n} o h =
     go w small adds (refused k f) q e = let z : ◌≡◌ {A = ℕ} 0 1 = cc in absurd (omega arith)
 
 -- the octets that it says it wrote are the pack
-written_front : (octets ns out out' : List ℕ) {n : OctetCount} (o : Octets octets) (h : WritePromise octets ns out out' (Written n)) → take n.0 out' ≡ pack_octets (write_says octets ns out out' o h).tones
+written_front : (octets ns out out' : List ℕ) {n : OctetCount} (o : Octets octets) (h : WritePromise octets ns out out' (Ok n)) → take n.0 out' ≡ pack_octets (write_says octets ns out out' o h).tones
 written_front octets ns out out' {n} o h =
     let w = write_says octets ns out out' o h in
     ap (take n.0) w.lent ∙ take_at (pack_octets w.tones) (drop (length (pack_octets w.tones)) out) n.0 (sym w.long)
 
 -- the messages of tones that can be packed, and their lengths, are written where there is room
 pub write_pack_lem : (ts : List Tone) (out out' : List ℕ) {r : Writing} → Packable ts → length (pack_octets ts) ≤ length out → WritePromise (join (messages_of ts)) (lengths (messages_of ts)) out out' r
-    → (r ≡ Written (octet_count (length (pack_octets ts)))) × (out' ≡ over (pack_octets ts) out)
+    → (r ≡ Ok (octet_count (length (pack_octets ts)))) × (out' ≡ over (pack_octets ts) out)
 unfolding pack_octets
 write_pack_lem ts out out' k room h =
     let octets = join (messages_of ts) in
@@ -196,7 +188,7 @@ write_pack_lem ts out out' k room h =
 
 -- `write` accepts exactly the messages of some list of well-formed tones, with their lengths, for which there is room
 pub write_accepts : (octets ns out out' : List ℕ) {r : Writing} → Octets octets → WritePromise octets ns out out' r
-    → ((n : OctetCount) × (r ≡ Written n)) ↔ ((ts : List Tone) × Packable ts × (join (messages_of ts) ≡ octets) × (lengths (messages_of ts) ≡ ns) × (length (pack_octets ts) ≤ length out))
+    → ((n : OctetCount) × (r ≡ Ok n)) ↔ ((ts : List Tone) × Packable ts × (join (messages_of ts) ≡ octets) × (lengths (messages_of ts) ≡ ns) × (length (pack_octets ts) ≤ length out))
 write_accepts octets ns out out' {r} o h = (
   λ a. let w = write_says octets ns out out' o (subst (WritePromise octets ns out out') a.1 h) in (w.tones, w.packable, w.messages, w.rows, w.room),
   λ w. (
@@ -208,15 +200,15 @@ write_accepts octets ns out out' {r} o h = (
 -- ---- both ways round
 
 -- what `write` wrote `read` accepts, with as many messages as lengths
-pub read_of_write : (octets ns out out' : List ℕ) {n : OctetCount} {r : Reading} → Octets octets → WritePromise octets ns out out' (Written n) → ReadPromise (take n.0 out') r → r ≡ Read (length ns)
+pub read_of_write : (octets ns out out' : List ℕ) {n : OctetCount} {r : Reading} → Octets octets → WritePromise octets ns out out' (Ok n) → ReadPromise (take n.0 out') r → r ≡ Ok (length ns)
 read_of_write octets ns out out' {n} {r} o h q =
     let w = write_says octets ns out out' o h in
     let e = written_front octets ns out out' o h in
     let l : length w.tones ≡ length ns = sym (length-map w.tones tone_octets) ∙ sym (length-map (messages_of w.tones) length) ∙ ap length w.rows in
-    read_of_pack w.tones w.packable (subst (λ (x : List ℕ). ReadPromise x r) e q) ∙ ap Read l
+    read_of_pack w.tones w.packable (subst (λ (x : List ℕ). ReadPromise x r) e q) ∙ ap Ok l
 
 -- and `message` hands back the messages that were written
-pub message_of_write : (octets ns out out' : List ℕ) {n : OctetCount} (p s : Bor (List ℕ)) (i : ℕ) → Octets octets → WritePromise octets ns out out' (Written n) → p.now ≡ take n.0 out' → i < length ns
+pub message_of_write : (octets ns out out' : List ℕ) {n : OctetCount} (p s : Bor (List ℕ)) (i : ℕ) → Octets octets → WritePromise octets ns out out' (Ok n) → p.now ≡ take n.0 out' → i < length ns
     → MessagePromise p i s → s.now ≡ get_or (cut ns octets) i []
 message_of_write octets ns out out' p s i o h g j q =
     let w = write_says octets ns out out' o h in
@@ -230,7 +222,7 @@ abbrev pub TakenOut : Bor (List ℕ) → ℕ → List (List ℕ) → Type 0
 TakenOut p k ms = (i : ℕ) → i < k → (r : Bor (List ℕ)) × MessagePromise p i r × (get_or ms i [] ≡ r.now)
 
 -- the messages that are taken out of a pack one by one are all of its messages
-pub taken_out : (p : Bor (List ℕ)) {k : ℕ} (ms : List (List ℕ)) → ReadPromise p.now (Read k) → length ms ≡ k → TakenOut p k ms → ms ≡ messages_in p.now
+pub taken_out : (p : Bor (List ℕ)) {k : ℕ} (ms : List (List ℕ)) → ReadPromise p.now (Ok k) → length ms ≡ k → TakenOut p k ms → ms ≡ messages_in p.now
 taken_out q {k} ms h l each =
     let p = q.now in
     let s = read_says p h in
@@ -239,9 +231,9 @@ taken_out q {k} ms h l each =
     ext_get_or [] ms (messages_in p) (l ∙ sym n) (λ i j. (each i (rw (← l) j)).2 ∙ (each i (rw (← l) j)).1.octets ∙ nth_stretch p s.1 i (rw (← s.2, ← l) j))
 
 -- `write` of the messages that `read` and `message` gave, into enough room, gives the same octets
-pub write_of_read : (p : Bor (List ℕ)) {k : ℕ} (ms : List (List ℕ)) (out out' : List ℕ) {r : Writing} → Octets p.now → ReadPromise p.now (Read k) → length ms ≡ k
+pub write_of_read : (p : Bor (List ℕ)) {k : ℕ} (ms : List (List ℕ)) (out out' : List ℕ) {r : Writing} → Octets p.now → ReadPromise p.now (Ok k) → length ms ≡ k
     → TakenOut p k ms → length p.now ≤ length out → WritePromise (join ms) (lengths ms) out out' r
-    → (r ≡ Written (octet_count (length p.now))) × (out' ≡ over p.now out)
+    → (r ≡ Ok (octet_count (length p.now))) × (out' ≡ over p.now out)
 write_of_read q ms out out' {r} o h l each room w =
     let p = q.now in
     let s = read_says p h in
@@ -250,4 +242,4 @@ write_of_read q ms out out' {r} o h l each room w =
     let t : messages_in p ≡ messages_of s.0 = ap messages_in (sym e) ∙ messages_there s.0 k in
     let g : ms ≡ messages_of s.0 = taken_out q ms h l each ∙ t in
     let d = write_pack_lem s.0 out out' k (rw e room) (subst (λ (x : List (List ℕ)). WritePromise (join x) (lengths x) out out' r) g w) in
-    (d.0 ∙ ap (λ (x : List ℕ). Written (octet_count (length x))) e, d.1 ∙ ap (λ (x : List ℕ). over x out) e)
+    (d.0 ∙ ap (λ (x : List ℕ). Ok (octet_count (length x))) e, d.1 ∙ ap (λ (x : List ℕ). over x out) e)

@@ -11,18 +11,19 @@ use lib.Dec.{leb}
 use mir.Val.{Fits}
 use mir.Syntax.{w64}
 use borrow.Author.Tests.{le-leb, lt-leb, eq-eqb, ne_eqb}
+use Rattle.std.specs.Prelude.{Result, Ok, Err, ⊤}
 use Rattle.bits.specs.Outcome.{Outcome, accepted, refused, and_then, demand}
-use Rattle.bits.specs.Places.{place, octet_count}
-use Rattle.bits.specs.declared.BitPlace.{BitPlace}
+use Rattle.bits.specs.Places.{octet_count}
+use Rattle.bits.specs.Refusals.{number_of, refusal}
+use Rattle.bits.specs.declared.refusal.Refusal.{Refusal}
 use Rattle.tone.specs.Tone.{Tone}
-use Rattle.inside.specs.declared.Inside.{Inside}
-use Rattle.inside.specs.declared.Inside.TheVariants.{Fine, Fault}
-use Rattle.written.specs.declared.Writing.TheVariants.{Written, Refused}
 use Rattle.inside.specs.Inside.{pair, sum, cut}
 use Rattle.written.proofs.Unique.{written, unwritten}
 use Rattle.pack.specs.Pack.{most_pack, rows_from, pack_of, pack_length, read_in_turn, write_pack}
 use Rattle.pack.specs.Answers.{turn_of}
 use Rattle.pack.specs.Promises.{WritePromise}
+use Rattle.inside.proofs.Answered.{refusal_there, accepted_there}
+use Rattle.pack.proofs.Numbered.{turn_numbered}
 use Rattle.pack.proofs.Turning.{wider}
 use Rattle.pack.proofs.Rules.{length_rows_from, length_pack_of}
 
@@ -158,44 +159,37 @@ pub ruleset fillings = (filled_octets, filled_rows_room, filled_count_room, fill
 -- ---- write
 
 module _ (octets ns out : List ℕ) where
-  pub write_long : most_pack < pack_length octets ns → WritePromise octets ns out out (Refused 1 (place 0))
+  pub write_long : {r : Refusal} → r ≡ refusal 1 0 → most_pack < pack_length octets ns → WritePromise octets ns out out (Err r)
   unfolding write_pack
-  write_long h = unwritten (write_pack octets ns (length out)) out (rw (lt-leb (pack_length octets ns) most_pack h) refl)
+  write_long z h = unwritten (write_pack octets ns (length out)) out (rw (z, lt-leb (pack_length octets ns) most_pack h) refl)
 
-  pub write_octets_long : 65531 < length octets → WritePromise octets ns out out (Refused 1 (place 0))
-  write_octets_long h = write_long (omega arith)
+  pub write_octets_long : {r : Refusal} → r ≡ refusal 1 0 → 65531 < length octets → WritePromise octets ns out out (Err r)
+  write_octets_long z h = write_long z (omega arith)
 
   module _ (a : pack_length octets ns ≤ most_pack) {total : ℕ} (s : total ≡ sum ns) where
-    pub write_apart : (total ≡ length octets → ⊥) → WritePromise octets ns out out (Refused 27 (place 0))
+    pub write_apart : {r : Refusal} → r ≡ refusal 27 0 → (total ≡ length octets → ⊥) → WritePromise octets ns out out (Err r)
     unfolding write_pack
-    write_apart h = unwritten (write_pack octets ns (length out)) out (rw (le-leb (pack_length octets ns) most_pack a, ← s, ne_eqb total (length octets) h) refl)
+    write_apart z h = unwritten (write_pack octets ns (length out)) out (rw (z, le-leb (pack_length octets ns) most_pack a, ← s, ne_eqb total (length octets) h) refl)
 
-    module _ (b : total ≡ length octets) {j : Inside} (q : j ≡ turn_of (read_in_turn 0 (cut ns octets))) where
-      pub write_bad : {n : ℕ} {f : BitPlace} → j ≡ Fault n f → WritePromise octets ns out out (Refused n f)
+    module _ (b : total ≡ length octets) {j : Result ⊤ Refusal} (q : j ≡ turn_of (read_in_turn 0 (cut ns octets))) where
+      pub write_bad : {r : Refusal} → j ≡ Err r → WritePromise octets ns out out (Err r)
       unfolding write_pack
-      write_bad {n} {f} g = unwritten (write_pack octets ns (length out)) out (rw (le-leb (pack_length octets ns) most_pack a, ← s, eq-eqb total (length octets) b, there) refl)
-        where
-          there : read_in_turn 0 (cut ns octets) ≡ refused n f.0
-          there = go (read_in_turn 0 (cut ns octets)) (sym g ∙ q)
-            where
-              go : (x : Outcome (List Tone)) → Fault n f ≡ turn_of x → x ≡ refused n f.0
-              go (accepted ts) e = let z : ◌≡◌ {A = ℕ} 0 1 = cc in absurd (omega arith)
-              go (refused n' f') e = let e₁ : n ≡ n' = cc in let e₂ : f ≡ place f' = cc in rw (e₁, e₂) refl
+      write_bad {r} g =
+          let there = refusal_there (λ (ts : List Tone). tt) (read_in_turn 0 (cut ns octets)) (turn_numbered 0 (cut ns octets)) (sym g ∙ q) in
+          unwritten (write_pack octets ns (length out)) out (rw (le-leb (pack_length octets ns) most_pack a, ← s, eq-eqb total (length octets) b, there) refl)
 
-      module _ (g : j ≡ Fine) where
+      module _ {u : ⊤} (g : j ≡ Ok u) where
         -- nothing is left but the room
         write_turns : write_pack octets ns (length out) ≡ demand (leb (pack_length octets ns) (length out)) 11 (accepted (pack_of octets ns))
         unfolding write_pack
-        write_turns = rw (le-leb (pack_length octets ns) most_pack a, ← s, eq-eqb total (length octets) b) (go (read_in_turn 0 (cut ns octets)) (sym g ∙ q))
-          where
-            go : (x : Outcome (List Tone)) → Fine ≡ turn_of x → and_then x (λ _. demand (leb (pack_length octets ns) (length out)) 11 (accepted (pack_of octets ns))) ≡ demand (leb (pack_length octets ns) (length out)) 11 (accepted (pack_of octets ns))
-            go (accepted ts) e = refl
-            go (refused n f) e = let z : ◌≡◌ {A = ℕ} 0 1 = cc in absurd (omega arith)
+        write_turns =
+            let there = accepted_there (λ (ts : List Tone). tt) (read_in_turn 0 (cut ns octets)) (sym g ∙ q) in
+            rw (le-leb (pack_length octets ns) most_pack a, ← s, eq-eqb total (length octets) b, there.1) refl
 
-        pub write_small : length out < pack_length octets ns → WritePromise octets ns out out (Refused 11 (place 0))
-        write_small h = unwritten (write_pack octets ns (length out)) out (write_turns ∙ (rw (lt-leb (pack_length octets ns) (length out) h) refl))
+        pub write_small : {r : Refusal} → r ≡ refusal 11 0 → length out < pack_length octets ns → WritePromise octets ns out out (Err r)
+        write_small z h = unwritten (write_pack octets ns (length out)) out (write_turns ∙ (rw (z, lt-leb (pack_length octets ns) (length out) h) refl))
 
-        pub write_done : pack_length octets ns ≤ length out → {out' : List ℕ} → out' ≡ pack_of octets ns ++ drop (pack_length octets ns) out → WritePromise octets ns out out' (Written (octet_count (pack_length octets ns)))
+        pub write_done : pack_length octets ns ≤ length out → {out' : List ℕ} → out' ≡ pack_of octets ns ++ drop (pack_length octets ns) out → WritePromise octets ns out out' (Ok (octet_count (pack_length octets ns)))
         write_done h {out'} e =
             written (write_pack octets ns (length out)) out out' (pack_of octets ns)
             (write_turns ∙ (rw (le-leb (pack_length octets ns) (length out) h) refl))

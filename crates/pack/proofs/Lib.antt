@@ -2,6 +2,7 @@ pub mod Turning
 pub mod Rules
 pub mod Nth
 pub mod Order
+pub mod Numbered
 pub mod Exits
 pub mod Filling
 pub mod Demand2

@@ -11,15 +11,15 @@ use lib.Dec.{eqb}
 use mir.Val.{Fits}
 use mir.Syntax.{w32, w64}
 use borrow.Author.Tests.{eqb-true, eq-eqb, ne_eqb}
+use Rattle.std.specs.Prelude.{Result, Ok, Err, ⊤}
 use Rattle.bits.specs.Outcome.{Outcome, accepted, refused, and_then}
-use Rattle.bits.specs.declared.BitPlace.{BitPlace}
+use Rattle.bits.specs.declared.refusal.Refusal.{Refusal}
 use Rattle.bits.proofs.Choice.{both}
 use Rattle.tone.specs.Tone.{Tone}
 use Rattle.tone.specs.Reading.{read_tone}
-use Rattle.inside.specs.declared.Inside.{Inside}
-use Rattle.inside.specs.declared.Inside.TheVariants.{Fine, Fault}
 use Rattle.inside.specs.Inside.{number, sum, cut, moved_by}
 use Rattle.inside.specs.Answers.{inside_of}
+use Rattle.inside.proofs.Answered.{refusal_passed}
 use Rattle.pack.specs.Pack.{Row, rows_at, lengths_in, continues, read_in_turn}
 use Rattle.pack.specs.Answers.{turn_of}
 
@@ -84,11 +84,11 @@ module _ (m : List ℕ) where
   turn_begin ns h = record { resumes = refl; room = omega arith }
 
   module _ {o : Outcome (List Tone)} {ns : List ℕ} {at : ℕ} where
-    pub turn_end : Turn o m ns at → ns ≡ [] → Fine ≡ turn_of o
+    pub turn_end : Turn o m ns at → ns ≡ [] → Ok tt ≡ turn_of o
     unfolding read_in_turn
     turn_end t e = sym (t.resumes ∙ (rw e refl))
 
-    module _ {n : ℕ} (t : Turn o m (n ∷ ns) at) {j : Inside} (q : j ≡ inside_of (moved_by at (read_tone (take (at + n - at) (drop at m))))) where
+    module _ {n : ℕ} (t : Turn o m (n ∷ ns) at) {j : Result ⊤ Refusal} (q : j ≡ inside_of (moved_by at (read_tone (take (at + n - at) (drop at m))))) where
       -- the message's own octets, and what they are
       own : take (at + n - at) (drop at m) ≡ take n (drop at m)
       own = let e : at + n - at ≡ n = omega arith in ap (λ (k : ℕ). take k (drop at m)) e
@@ -99,7 +99,7 @@ module _ (m : List ℕ) where
       long : length (take n (drop at m)) ≡ n
       long = length-take-le n (drop at m) (rw (length-drop at m) (omega (arith, t.room)))
 
-      pub turn_on : j ≡ Fine → Turn o m ns (at + n)
+      pub turn_on : {u : ⊤} → j ≡ Ok u → Turn o m ns (at + n)
       unfolding read_in_turn
       turn_on g = record { resumes = t.resumes ∙ go (read_tone (take n (drop at m))) (judged (read_tone (take n (drop at m))) refl); room = omega (arith, t.room) }
         where
@@ -110,16 +110,16 @@ module _ (m : List ℕ) where
           go : (x : Outcome Tone) → j ≡ inside_of (moved_by at x)
               → turn_of (and_then (moved_by at x) (λ a. and_then (read_in_turn (at + length (take n (drop at m))) (cut ns (drop n (drop at m)))) (λ ts. accepted (a ∷ ts)))) ≡ turn_of (read_in_turn (at + n) (cut ns (drop (at + n) m)))
           go (accepted a) e = rest (read_in_turn (at + length (take n (drop at m))) (cut ns (drop n (drop at m)))) a ∙ ap₂ (λ (k : ℕ) (l : List ℕ). turn_of (read_in_turn (at + k) (cut ns l))) long (drop-drop n at m)
-          go (refused k f) e = let z : ◌≡◌ {A = ℕ} 0 1 = cc in absurd (omega arith)
+          go (refused k f) e = cc
 
-      pub turn_off : {k : ℕ} {f : BitPlace} → j ≡ Fault k f → Fault k f ≡ turn_of o
+      pub turn_off : {r : Refusal} → j ≡ Err r → Err r ≡ turn_of o
       unfolding read_in_turn
-      turn_off {k} {f} g = sym g ∙ go (read_tone (take n (drop at m))) (judged (read_tone (take n (drop at m))) refl) ∙ sym t.resumes
+      turn_off {r} g = sym g ∙ go (read_tone (take n (drop at m))) (judged (read_tone (take n (drop at m))) refl) ∙ sym t.resumes
         where
           go : (x : Outcome Tone) → j ≡ inside_of (moved_by at x)
               → j ≡ turn_of (and_then (moved_by at x) (λ a. and_then (read_in_turn (at + length (take n (drop at m))) (cut ns (drop n (drop at m)))) (λ ts. accepted (a ∷ ts))))
-          go (accepted a) e = let z : ◌≡◌ {A = ℕ} 0 1 = cc in absurd (omega arith)
-          go (refused k' f') e = e
+          go (accepted a) e = cc
+          go (refused k f) e = e
 
 -- ---- along rows
 
@@ -149,14 +149,14 @@ module _ (p : List ℕ) (rows n : ℕ) where
         pub rows_inside : at + b ≤ length p
         rows_inside = omega (arith, due.room)
 
-        module _ {j : Inside} (q : j ≡ inside_of (moved_by at (read_tone (take (at + b - at) (drop at p))))) where
-          pub rows_turn : j ≡ Fine → AlongRows p rows n (at + b) (row + 4) (left - 1)
+        module _ {j : Result ⊤ Refusal} (q : j ≡ inside_of (moved_by at (read_tone (take (at + b - at) (drop at p))))) where
+          pub rows_turn : {u : ⊤} → j ≡ Ok u → AlongRows p rows n (at + b) (row + 4) (left - 1)
           rows_turn g = record { turn = turn_on p due q g; inside = omega (arith, a.inside) }
 
-          pub rows_bad : {k : ℕ} {g : BitPlace} → j ≡ Fault k g → Fault k g ≡ turn_of (read_in_turn 0 (cut (lengths_in (rows_at n p rows)) p))
+          pub rows_bad : {r : Refusal} → j ≡ Err r → Err r ≡ turn_of (read_in_turn 0 (cut (lengths_in (rows_at n p rows)) p))
           rows_bad g = turn_off p due q g
 
-    pub rows_end : left ≤ 0 → Fine ≡ turn_of (read_in_turn 0 (cut (lengths_in (rows_at n p rows)) p))
+    pub rows_end : left ≤ 0 → Ok tt ≡ turn_of (read_in_turn 0 (cut (lengths_in (rows_at n p rows)) p))
     rows_end h = turn_end p a.turn (go left h)
       where
         go : (k : ℕ) → k ≤ 0 → lengths_in (rows_at k p row) ≡ []
@@ -190,14 +190,14 @@ module _ (m ns : List ℕ) where
       pub lengths_fit : length m ≤ 65535 → Fits w64 (at + get_or ns i 0)
       lengths_fit k = record { fits = omega (arith, next.room) }
 
-      module _ {j : Inside} (q : j ≡ inside_of (moved_by at (read_tone (take (at + get_or ns i 0 - at) (drop at m))))) where
-        pub lengths_turn : j ≡ Fine → AlongLengths m ns (at + get_or ns i 0) (i + 1)
+      module _ {j : Result ⊤ Refusal} (q : j ≡ inside_of (moved_by at (read_tone (take (at + get_or ns i 0 - at) (drop at m))))) where
+        pub lengths_turn : {u : ⊤} → j ≡ Ok u → AlongLengths m ns (at + get_or ns i 0) (i + 1)
         lengths_turn g = record { turn = turn_on m next q g }
 
-        pub lengths_bad : {k : ℕ} {f : BitPlace} → j ≡ Fault k f → Fault k f ≡ turn_of (read_in_turn 0 (cut ns m))
+        pub lengths_bad : {r : Refusal} → j ≡ Err r → Err r ≡ turn_of (read_in_turn 0 (cut ns m))
         lengths_bad g = turn_off m next q g
 
-    pub lengths_end : length ns ≤ i → Fine ≡ turn_of (read_in_turn 0 (cut ns m))
+    pub lengths_end : length ns ≤ i → Ok tt ≡ turn_of (read_in_turn 0 (cut ns m))
     lengths_end h = turn_end m a.turn (drop_of_length-le ns h)
 
 pub ruleset along_lengths = (lengths_begin, lengths_inside, lengths_fit, lengths_turn, lengths_bad, lengths_end, wider)

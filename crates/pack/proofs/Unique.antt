@@ -3,14 +3,11 @@ use Prim.Native.Nat.{ℕ}
 use mathlib.Core.Path.{◌≡◌, sym, ap₂, ◌∙◌}
 use mathlib.Core.List.{List}
 use denote.Ref.{Bor}
-use Rattle.bits.specs.declared.BitPlace.{BitPlace}
-use Rattle.written.specs.declared.Writing.{Writing}
-use Rattle.written.specs.declared.Writing.TheVariants.{Refused}
-use Rattle.written.specs.Written.{numbers}
+use Rattle.std.specs.Prelude.{Err}
+use Rattle.bits.specs.declared.refusal.Refusal.{Refusal}
+use Rattle.written.specs.Written.{Writing, numbers}
 use Rattle.written.proofs.Unique.{fills_decided, fills_refused}
-use Rattle.pack.specs.declared.Reading.{Reading}
-use Rattle.pack.specs.declared.Finding.{Finding}
-use Rattle.pack.specs.Promises.{ReadPromise, FindPromise, MessagePromise, WritePromise, numbers_of_reading, numbers_of_finding}
+use Rattle.pack.specs.Promises.{Reading, Finding, ReadPromise, FindPromise, MessagePromise, WritePromise, numbers_of_reading, numbers_of_finding}
 
 -- `read`: the answer and its numbers
 pub read_decided : {p : List ℕ} {r s : Reading} → ReadPromise p r → ReadPromise p s → (r ≡ s) × (numbers_of_reading r ≡ numbers_of_reading s)
@@ -30,5 +27,5 @@ pub write_decided : (octets ns : List ℕ) {out out₁ out₂ : List ℕ} {r s :
 write_decided octets ns p q = fills_decided p q
 
 -- what `write` refuses leaves the buffer as it was
-pub write_keeps : (octets ns : List ℕ) {out out' : List ℕ} {n : ℕ} {p : BitPlace} → WritePromise octets ns out out' (Refused n p) → out' ≡ out
+pub write_keeps : (octets ns : List ℕ) {out out' : List ℕ} {r : Refusal} → WritePromise octets ns out out' (Err r) → out' ≡ out
 write_keeps octets ns h = (fills_refused h).1

@@ -1,15 +1,13 @@
 -- What each public call promises: every number returned and every cell lent, on acceptance and on refusal.
-use Rattle.std.specs.Prelude.{ℕ, ◌+◌, ◌≡◌, List, length, take, drop}
+use Rattle.std.specs.Prelude.{ℕ, ◌+◌, ◌≡◌, List, length, take, drop, Result, Ok, Err}
 use Rattle.std.specs.Borrow.{Bor}
 use Rattle.bits.specs.Outcome.{Outcome, accepted, refused}
-use Rattle.bits.specs.Places.{place, octet_count}
+use Rattle.bits.specs.Places.{octet_count}
+use Rattle.bits.specs.Refusals.{number_of, answered}
+use Rattle.bits.specs.declared.refusal.Refusal.{Refusal}
 use Rattle.tone.specs.Tone.{Tone}
-use Rattle.written.specs.declared.Writing.{Writing}
-use Rattle.written.specs.Written.{Fills}
-use Rattle.pack.specs.declared.Reading.{Reading}
-use Rattle.pack.specs.declared.Reading.TheVariants.{Read, Refused}
-use Rattle.pack.specs.declared.Finding.{Finding}
-use Rattle.pack.specs.declared.Finding.TheVariants.{Found, Refused as Missing}
+use Rattle.written.specs.Written.{Writing, Fills}
+use Rattle.pack.specs.declared.Found.{Found}
 use Rattle.pack.specs.Pack.{Row, read_pack, nth_row, write_pack}
 
 -- ---- read
@@ -20,10 +18,13 @@ pub record ReadNumbers : Type 0 where
   pub place : ℕ
   pub messages : ℕ
 
--- the answer that the rules ask for: how many messages there are
+-- an answer to reading: how many messages there are, or the refusal
+abbrev pub Reading : Type 0
+Reading = Result ℕ Refusal
+
+-- the answer that the rules ask for
 abbrev pub read_answer : Outcome (List Tone) → Reading
-read_answer (accepted ts) = Read (length ts)
-read_answer (refused n p) = Refused n (place p)
+read_answer o = answered (λ ts. length ts) o
 
 -- the numbers that the rules ask for: on a refusal its number and place, all others 0
 abbrev pub read_numbers : Outcome (List Tone) → ReadNumbers
@@ -32,8 +33,8 @@ read_numbers (refused n p) = record { refusal = n; place = p; messages = 0 }
 
 -- the numbers of each case of the answer
 abbrev pub numbers_of_reading : Reading → ReadNumbers
-numbers_of_reading (Read k) = record { refusal = 0; place = 0; messages = k }
-numbers_of_reading (Refused n p) = record { refusal = n; place = p.0; messages = 0 }
+numbers_of_reading (Ok k) = record { refusal = 0; place = 0; messages = k }
+numbers_of_reading (Err r) = record { refusal = number_of r.why; place = r.place.0; messages = 0 }
 
 -- `read` of the pack p answers r
 pub record ReadPromise (p : List ℕ) (r : Reading) : Type 0 where
@@ -49,10 +50,17 @@ pub record FindNumbers : Type 0 where
   pub start : ℕ
   pub length : ℕ
 
--- the answer that the rules ask for: the message's row
+-- an answer to finding a message: its row, or the refusal
+abbrev pub Finding : Type 0
+Finding = Result Found Refusal
+
+-- the message of a row
+abbrev pub found_at : Row → Found
+found_at r = record { start = octet_count r.start; length = octet_count r.length }
+
+-- the answer that the rules ask for
 abbrev pub find_answer : Outcome Row → Finding
-find_answer (accepted r) = Found (octet_count r.start) (octet_count r.length)
-find_answer (refused n p) = Missing n (place p)
+find_answer o = answered found_at o
 
 -- the numbers that the rules ask for: on a refusal its number and place, all others 0
 abbrev pub find_numbers : Outcome Row → FindNumbers
@@ -61,8 +69,8 @@ find_numbers (refused n p) = record { refusal = n; place = p; start = 0; length 
 
 -- the numbers of each case of the answer
 abbrev pub numbers_of_finding : Finding → FindNumbers
-numbers_of_finding (Found s l) = record { refusal = 0; place = 0; start = s.0; length = l.0 }
-numbers_of_finding (Missing n p) = record { refusal = n; place = p.0; start = 0; length = 0 }
+numbers_of_finding (Ok f) = record { refusal = 0; place = 0; start = f.start.0; length = f.length.0 }
+numbers_of_finding (Err r) = record { refusal = number_of r.why; place = r.place.0; start = 0; length = 0 }
 
 -- `find` of message n in the pack p answers r
 pub record FindPromise (p : List ℕ) (n : ℕ) (r : Finding) : Type 0 where

@@ -8,35 +8,21 @@ ghost use Rattle.pack.specs.Pack.{rows_at, lengths_in, rows_from, pack_of, pack_
 ghost use Rattle.pack.specs.Answers.{turn_of, rows_judged, judged_of};
 ghost use Rattle.pack.specs.Promises.{ReadPromise, FindPromise, MessagePromise, WritePromise};
 
-use bits::{BitPlace, OctetCount};
-use inside::Inside;
+use bits::{Ground, OctetCount, Refusal};
 use written::Writing;
 
-// What reading a pack answers: how many messages it has, or the refusal's number and place.
+// A message that was found: the stretch of the pack that it is.
 #[derive(Clone, Copy)]
-pub enum Reading {
-    Read { messages: u32 },
-    Refused { number: u32, place: BitPlace },
+pub struct Found {
+    pub start: OctetCount,
+    pub length: OctetCount,
 }
 
-// What finding a message answers: the stretch of the pack that it is, or the refusal's number and place.
+// A pack that was judged: how many messages it has, and where its rows begin.
 #[derive(Clone, Copy)]
-pub enum Finding {
-    Found {
-        start: OctetCount,
-        length: OctetCount,
-    },
-    Refused {
-        number: u32,
-        place: BitPlace,
-    },
-}
-
-// A pack that was judged: how many messages it has, and where its rows begin; or the refusal.
-#[derive(Clone, Copy)]
-enum Judged {
-    Sound { messages: usize, rows: OctetCount },
-    Faulty { number: u32, at: BitPlace },
+struct Sound {
+    messages: usize,
+    rows: OctetCount,
 }
 
 // ---- judging
@@ -61,7 +47,7 @@ fn continues(pack: &[u8], rows: OctetCount, n: usize) -> bool
 }
 
 // Judges the messages of `n` rows that continue each other, in turn.
-fn judge_messages(pack: &[u8], rows: OctetCount, n: usize) -> Inside
+fn judge_messages(pack: &[u8], rows: OctetCount, n: usize) -> Result<(), Refusal>
     requires n_in_bounds { (rows.0 + 4 * n ≤ length pack.now) × (length pack.now ≤ 65535) }
     requires rows_value { continuesBy 0 (rows_at n pack.now rows.0) rows.0 ≡ true }
     ensures { result ≡ turn_of (read_in_turn 0 (cut (lengths_in (rows_at n pack.now rows.0)) pack.now)) }
@@ -72,107 +58,71 @@ fn judge_messages(pack: &[u8], rows: OctetCount, n: usize) -> Inside
     let mut left = n;
     while 0 < left {
         let end = at + inside::number_at(pack, OctetCount(row + 2));
-        match inside::judge_inside(pack, OctetCount(at), OctetCount(end), &marks) {
-            Inside::Fault { number, at: fault } => {
-                return Inside::Fault { number, at: fault };
-            }
-            Inside::Fine => {}
-        }
+        inside::judge_inside(pack, OctetCount(at), OctetCount(end), &marks)?;
         at = end;
         row += 4;
         left -= 1;
     }
-    Inside::Fine
+    Ok(())
 }
 
 // Judges `n` rows, and then their messages.
-fn judge_rows(pack: &[u8], rows: OctetCount, n: usize) -> Inside
+fn judge_rows(pack: &[u8], rows: OctetCount, n: usize) -> Result<(), Refusal>
     requires { (rows.0 + 4 * n ≤ length pack.now) × (length pack.now ≤ 65535) }
     ensures { result ≡ turn_of (rows_judged pack.now rows.0 n) }
 {
     if !continues(pack, rows, n) {
-        return Inside::Fault {
-            number: 27,
-            at: BitPlace(0),
-        };
+        return Err(Ground::PackRows.into());
     }
     judge_messages(pack, rows, n)
 }
 
 // Judges a pack, and changes nothing: its size, its rows, its messages.
-fn judge(pack: &[u8]) -> Judged
+fn judge(pack: &[u8]) -> Result<Sound, Refusal>
     ensures { result ≡ judged_of pack.now (read_pack pack.now) }
 {
     let size = pack.len();
     if 65535 < size {
-        return Judged::Faulty {
-            number: 1,
-            at: BitPlace(0),
-        };
+        return Err(Ground::TooLong.into());
     }
     if size < 4 {
-        return Judged::Faulty {
-            number: 2,
-            at: BitPlace(0),
-        };
+        return Err(Ground::CutShort.into());
     }
     let rows = inside::number_at(pack, OctetCount(size - 2));
     let n = inside::number_at(pack, OctetCount(size - 4));
     if rows + 4 * n + 4 != size {
-        return Judged::Faulty {
-            number: 26,
-            at: BitPlace(0),
-        };
+        return Err(Ground::PackSize.into());
     }
-    match judge_rows(pack, OctetCount(rows), n) {
-        Inside::Fault { number, at: fault } => Judged::Faulty { number, at: fault },
-        Inside::Fine => Judged::Sound {
-            messages: n,
-            rows: OctetCount(rows),
-        },
-    }
+    judge_rows(pack, OctetCount(rows), n)?;
+    Ok(Sound {
+        messages: n,
+        rows: OctetCount(rows),
+    })
 }
 
 // ---- the calls
 
 // Reads a pack: how many messages it has.
-pub fn read(pack: &[u8]) -> Reading
+pub fn read(pack: &[u8]) -> Result<u32, Refusal>
     ensures { ReadPromise pack.now result }
 {
-    match judge(pack) {
-        Judged::Faulty { number, at: fault } => Reading::Refused {
-            number,
-            place: fault,
-        },
-        Judged::Sound { messages, rows: _ } => Reading::Read {
-            messages: messages as u32,
-        },
-    }
+    let sound = judge(pack)?;
+    Ok(sound.messages as u32)
 }
 
 // Finds a message, counted from 0: the stretch of the pack that it is.
-pub fn find(pack: &[u8], n: u32) -> Finding
+pub fn find(pack: &[u8], n: u32) -> Result<Found, Refusal>
     ensures { FindPromise pack.now n result }
 {
-    match judge(pack) {
-        Judged::Faulty { number, at: fault } => Finding::Refused {
-            number,
-            place: fault,
-        },
-        Judged::Sound { messages, rows } => {
-            if messages <= n as usize {
-                return Finding::Refused {
-                    number: 12,
-                    place: BitPlace(0),
-                };
-            }
-            let row = rows.0 + 4 * n as usize;
-            Finding::Found {
-                start: OctetCount(inside::number_at(pack, OctetCount(row))),
-                length: OctetCount(inside::number_at(pack, OctetCount(row + 2))),
-            }
-        }
+    let sound = judge(pack)?;
+    if sound.messages <= n as usize {
+        return Err(Ground::NotThere.into());
     }
+    let row = sound.rows.0 + 4 * n as usize;
+    Ok(Found {
+        start: OctetCount(inside::number_at(pack, OctetCount(row))),
+        length: OctetCount(inside::number_at(pack, OctetCount(row + 2))),
+    })
 }
 
 // A message, counted from 0, as a stretch of the pack. A pack that is refused, and one without that message, has none.
@@ -180,13 +130,10 @@ pub fn message(pack: &[u8], n: u32) -> &[u8]
     ensures { MessagePromise pack.entry n result }
 {
     match find(pack, n) {
-        Finding::Refused {
-            number: _,
-            place: _,
-        } => &pack[0..0],
-        Finding::Found { start, length } => {
-            let from = start.0;
-            let to = from + length.0;
+        Err(_) => &pack[0..0],
+        Ok(found) => {
+            let from = found.start.0;
+            let to = from + found.length.0;
             &pack[from..to]
         }
     }
@@ -209,7 +156,7 @@ fn sum_of(lengths: &[u32]) -> OctetCount
 }
 
 // Judges messages that lie back to back and have these lengths, in turn.
-fn judge_lengths(octets: &[u8], lengths: &[u32]) -> Inside
+fn judge_lengths(octets: &[u8], lengths: &[u32]) -> Result<(), Refusal>
     requires { (sum lengths.now ≡ length octets.now) × (length octets.now ≤ 65535) }
     ensures { result ≡ turn_of (read_in_turn 0 (cut lengths.now octets.now)) }
 {
@@ -218,16 +165,11 @@ fn judge_lengths(octets: &[u8], lengths: &[u32]) -> Inside
     let mut i: usize = 0;
     while i < lengths.len() {
         let end = at + lengths[i] as usize;
-        match inside::judge_inside(octets, OctetCount(at), OctetCount(end), &marks) {
-            Inside::Fault { number, at: fault } => {
-                return Inside::Fault { number, at: fault };
-            }
-            Inside::Fine => {}
-        }
+        inside::judge_inside(octets, OctetCount(at), OctetCount(end), &marks)?;
         at = end;
         i += 1;
     }
-    Inside::Fine
+    Ok(())
 }
 
 // Puts a row behind so many octets.
@@ -277,40 +219,19 @@ pub fn write(octets: &[u8], lengths: &[u32], out: &mut [u8]) -> Writing
 {
     // tested first, so that the sum behind it cannot wrap
     if 65531 < octets.len() {
-        return Writing::Refused {
-            number: 1,
-            place: BitPlace(0),
-        };
+        return Err(Ground::TooLong.into());
     }
     let needed = octets.len() + 4 * lengths.len() + 4;
     if 65535 < needed {
-        return Writing::Refused {
-            number: 1,
-            place: BitPlace(0),
-        };
+        return Err(Ground::TooLong.into());
     }
     if sum_of(lengths).0 != octets.len() {
-        return Writing::Refused {
-            number: 27,
-            place: BitPlace(0),
-        };
+        return Err(Ground::PackRows.into());
     }
-    match judge_lengths(octets, lengths) {
-        Inside::Fault { number, at: fault } => Writing::Refused {
-            number,
-            place: fault,
-        },
-        Inside::Fine => {
-            if out.len() < needed {
-                return Writing::Refused {
-                    number: 11,
-                    place: BitPlace(0),
-                };
-            }
-            fill(octets, lengths, out);
-            Writing::Written {
-                octets: OctetCount(needed),
-            }
-        }
+    judge_lengths(octets, lengths)?;
+    if out.len() < needed {
+        return Err(Ground::NoRoom.into());
     }
+    fill(octets, lengths, out);
+    Ok(OctetCount(needed))
 }

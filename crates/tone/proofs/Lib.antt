@@ -12,3 +12,4 @@ pub mod Instructions
 pub mod Recalls
 pub mod Largest
 pub mod Standing
+pub mod Numbered

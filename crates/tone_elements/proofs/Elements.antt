@@ -8,20 +8,23 @@ use mathlib.Core.List.{List}
 use lib.ListN.{length, drop}
 use lib.Dec.{eqb, lit≤}
 use lib.Pow.{pow_mono}
-use borrow.Author.Tests.{eq-eqb, ne_eqb, le-leb, lt-leb}
+use borrow.Author.Tests.{ne_eqb, le-leb, lt-leb}
 use mir.Val.{Fits}
 use mir.Syntax.{w32}
 use Rattle.bits.specs.Bits.{bits_of, field}
 use Rattle.bits.specs.Window.{Look}
 use Rattle.bits.proofs.Octets.{length_bits_of}
 use Rattle.bits.proofs.Looking.{seen}
-use Rattle.bits.specs.Places.{place}
-use Rattle.tone_elements.specs.declared.Step.TheVariants.{Good, Bad}
 use Rattle.tone.specs.Table.{width, allowed, is_instruction}
 use Rattle.tone.specs.Tone.{recallable}
 use Rattle.tone.specs.Reading.{got, element, header_due, instruction_due}
-use Rattle.tone_elements.specs.Answers.{all_known, step_of}
+use Rattle.std.specs.Prelude.{Err}
+use Rattle.bits.specs.Refusals.{on, refusal}
+use Rattle.bits.specs.declared.refusal.Ground.TheVariants.{Code, CutShort}
+use Rattle.bits.specs.declared.refusal.Refusal.{Refusal}
+use Rattle.tone_elements.specs.Answers.{all_known, seen_of}
 use Rattle.tone.proofs.Exact.{element_good, element_bad, element_cut}
+use Rattle.tone_elements.proofs.Steps.{read}
 use Rattle.tone_elements.proofs.Headers.{any_recalled}
 
 -- r bits are left at a place
@@ -34,8 +37,8 @@ module _ (m : List ℕ) (at : ℕ) {r : ℕ} (hr : r + at ≡ 8 * length m) wher
 
   -- ---- one element
 
-  pub cut_is : (w : ℕ) (fine : ℕ → Bool) (number : ℕ) → r < w → Bad 2 (place at) ≡ step_of (element w fine number (bits_of m) at)
-  cut_is w fine number h = rw (element_cut w fine number (bits_of m) at (short h))
+  pub cut_is : (w : ℕ) (fine : ℕ → Bool) (number : ℕ) → {e : Refusal} → e ≡ on CutShort at → r < w → Err e ≡ seen_of (element w fine number (bits_of m) at)
+  cut_is w fine number q h = rw (q, element_cut w fine number (bits_of m) at (short h))
 
   -- x is what was seen there
   module _ {x : ℕ} (lk : Look (drop at (bits_of m)) x) where
@@ -46,19 +49,11 @@ module _ (m : List ℕ) (at : ℕ) {r : ℕ} (hr : r + at ≡ 8 * length m) wher
       value : field (bits_of m) at w ≡ v
       value = first_field w small whole ∙ sym hv.0
 
-      pub good_is : fine v ≡ true → Good v (place (at + w)) ≡ step_of (element w fine number (bits_of m) at)
+      pub good_is : fine v ≡ true → read v (at + w) ≡ seen_of (element w fine number (bits_of m) at)
       good_is f = rw (element_good w fine number (bits_of m) at (enough whole) (rw value f), value)
 
-      pub bad_is : fine v ≡ false → Bad number (place at) ≡ step_of (element w fine number (bits_of m) at)
-      bad_is f = rw (element_bad w fine number (bits_of m) at (enough whole) (rw value f))
-
-    -- the code that is due, and another one
-    module _ (w code number : ℕ) {v : ℕ} (small : w ≤ 24) (whole : w ≤ r) (hv : (v ≡ x / 2 ^ (24 - (0 + w)) % 2 ^ w) × (v < 2 ^ w)) where
-      pub due_is : code ≡ v → Good v (place (at + w)) ≡ step_of (element w (eqb code) number (bits_of m) at)
-      due_is e = good_is w (eqb code) number small whole hv (eq-eqb code v e)
-
-      pub other_is : (code ≡ v → ⊥) → Bad number (place at) ≡ step_of (element w (eqb code) number (bits_of m) at)
-      other_is e = bad_is w (eqb code) number small whole hv (ne_eqb code v e)
+      pub bad_is : {e : Refusal} → e ≡ refusal number at → fine v ≡ false → Err e ≡ seen_of (element w fine number (bits_of m) at)
+      bad_is q f = rw (q, element_bad w fine number (bits_of m) at (enough whole) (rw value f))
 
     -- ---- an id of three bits, and the rest of w
 
@@ -84,32 +79,32 @@ module _ (m : List ℕ) (at : ℕ) {r : ℕ} (hr : r + at ≡ 8 * length m) wher
       is_instruction_lem : (k : ℕ) → 1 ≤ k → k ≤ 5 → is_instruction k ≡ true
       is_instruction_lem k h l = rw (le-leb 1 k h, le-leb k 5 l)
 
-      wrong_id : is_instruction (x / 2097152) ≡ false → Bad 6 (place at) ≡ step_of (instruction_due (bits_of m) at)
+      wrong_id : {e : Refusal} → e ≡ on Code at → is_instruction (x / 2097152) ≡ false → Err e ≡ seen_of (instruction_due (bits_of m) at)
       unfolding instruction_due
-      wrong_id f = rw (element_bad 3 is_instruction 6 (bits_of m) at (enough h₃) (rw id_is f))
+      wrong_id q f = rw (q, element_bad 3 is_instruction 6 (bits_of m) at (enough h₃) (rw id_is f))
 
-      pub instruction_zero : x / 2097152 ≡ 0 → Bad 6 (place at) ≡ step_of (instruction_due (bits_of m) at)
-      instruction_zero h = wrong_id (not_instruction (x / 2097152) h)
+      pub instruction_zero : {e : Refusal} → e ≡ on Code at → x / 2097152 ≡ 0 → Err e ≡ seen_of (instruction_due (bits_of m) at)
+      instruction_zero q h = wrong_id q (not_instruction (x / 2097152) h)
 
-      pub instruction_above : 5 < x / 2097152 → Bad 6 (place at) ≡ step_of (instruction_due (bits_of m) at)
-      instruction_above h = wrong_id (above_instruction (x / 2097152) h)
+      pub instruction_above : {e : Refusal} → e ≡ on Code at → 5 < x / 2097152 → Err e ≡ seen_of (instruction_due (bits_of m) at)
+      instruction_above q h = wrong_id q (above_instruction (x / 2097152) h)
 
       -- ---- a header, where all parts are known
 
-      pub header_id_lem : (x / 2097152 ≡ 0 → ⊥) → Bad 6 (place at) ≡ step_of (header_due all_known (bits_of m) at)
+      pub header_id_lem : {e : Refusal} → e ≡ on Code at → (x / 2097152 ≡ 0 → ⊥) → Err e ≡ seen_of (header_due all_known (bits_of m) at)
       unfolding header_due
-      header_id_lem h =
-          rw (element_bad 3 (eqb 0) 6 (bits_of m) at (enough h₃) (rw id_is (ne_eqb 0 (x / 2097152) (λ e. h (sym e)))))
+      header_id_lem q h =
+          rw (q, element_bad 3 (eqb 0) 6 (bits_of m) at (enough h₃) (rw id_is (ne_eqb 0 (x / 2097152) (λ e. h (sym e)))))
 
       module _ (zero-id : x / 2097152 ≡ 0) where
         head_good : element 3 (eqb 0) 6 (bits_of m) at ≡ got 0 (at + 3)
         head_good = rw (element_good 3 (eqb 0) 6 (bits_of m) at (enough h₃) (rw (id_is, zero-id) refl), id_is, zero-id)
 
-        pub header_cut : r < 17 → Bad 2 (place (at + 3)) ≡ step_of (header_due all_known (bits_of m) at)
+        pub header_cut : {e : Refusal} → e ≡ on CutShort (at + 3) → r < 17 → Err e ≡ seen_of (header_due all_known (bits_of m) at)
         unfolding header_due
-        header_cut h = rw (head_good, element_cut 14 (recallable all_known) 7 (bits_of m) (at + 3) (short_rest 14 (omega arith)))
+        header_cut q h = rw (q, head_good, element_cut 14 (recallable all_known) 7 (bits_of m) (at + 3) (short_rest 14 (omega arith)))
 
-        pub header_good : 17 ≤ r → Good (x / 128) (place (at + 17)) ≡ step_of (header_due all_known (bits_of m) at)
+        pub header_good : 17 ≤ r → read (x / 128) (at + 17) ≡ seen_of (header_due all_known (bits_of m) at)
         unfolding header_due
         header_good c =
             let s = lk.small in
@@ -127,30 +122,30 @@ module _ (m : List ℕ) (at : ℕ) {r : ℕ} (hr : r + at ≡ 8 * length m) wher
           let e : field (bits_of m) at 3 ≡ k = id_is h ∙ sym ek in
           rw (element_good 3 is_instruction 6 (bits_of m) at (enough h) (rw e (is_instruction_lem h k some most)), e)
 
-      pub instruction_cut : r < 3 + w → Bad 2 (place (at + 3)) ≡ step_of (instruction_due (bits_of m) at)
+      pub instruction_cut : {e : Refusal} → e ≡ on CutShort (at + 3) → r < 3 + w → Err e ≡ seen_of (instruction_due (bits_of m) at)
       unfolding instruction_due
-      instruction_cut h = rw (id_good id_there, ← hw.0, element_cut w (allowed k) 6 (bits_of m) (at + 3) (short_rest id_there w h))
+      instruction_cut q h = rw (q, id_good id_there, ← hw.0, element_cut w (allowed k) 6 (bits_of m) (at + 3) (short_rest id_there w h))
 
       module _ {p : ℕ} {b : Bool} (c : 3 + w ≤ r) (hp : (p ≡ x / 2 ^ (24 - (3 + w)) % 2 ^ w) × (p < 2 ^ w)) (hb : b ≡ allowed k p) where
-        pub instruction_good : b ≡ true → Good (k * 65536 + p) (place (at + 3 + w)) ≡ step_of (instruction_due (bits_of m) at)
+        pub instruction_good : b ≡ true → read (k * 65536 + p) (at + 3 + w) ≡ seen_of (instruction_due (bits_of m) at)
         unfolding instruction_due
         instruction_good f =
             let e = rest_is id_there w (omega arith) c hp in
             rw (id_good id_there, ← hw.0, element_good w (allowed k) 6 (bits_of m) (at + 3) (enough_rest id_there w c) (rw e (sym hb ∙ f)), e)
 
-        pub instruction_code : b ≡ false → Bad 6 (place (at + 3)) ≡ step_of (instruction_due (bits_of m) at)
+        pub instruction_code : {e : Refusal} → e ≡ on Code (at + 3) → b ≡ false → Err e ≡ seen_of (instruction_due (bits_of m) at)
         unfolding instruction_due
-        instruction_code f =
+        instruction_code q f =
             let e = rest_is id_there w (omega arith) c hp in
-            rw (id_good id_there, ← hw.0, element_bad w (allowed k) 6 (bits_of m) (at + 3) (enough_rest id_there w c) (rw e (sym hb ∙ f)))
+            rw (q, id_good id_there, ← hw.0, element_bad w (allowed k) 6 (bits_of m) (at + 3) (enough_rest id_there w c) (rw e (sym hb ∙ f)))
 
-  pub instruction_short : r < 3 → Bad 2 (place at) ≡ step_of (instruction_due (bits_of m) at)
+  pub instruction_short : {e : Refusal} → e ≡ on CutShort at → r < 3 → Err e ≡ seen_of (instruction_due (bits_of m) at)
   unfolding instruction_due
-  instruction_short h = rw (element_cut 3 is_instruction 6 (bits_of m) at (short h))
+  instruction_short q h = rw (q, element_cut 3 is_instruction 6 (bits_of m) at (short h))
 
-  pub header_short : r < 3 → Bad 2 (place at) ≡ step_of (header_due all_known (bits_of m) at)
+  pub header_short : {e : Refusal} → e ≡ on CutShort at → r < 3 → Err e ≡ seen_of (header_due all_known (bits_of m) at)
   unfolding header_due
-  header_short h = rw (element_cut 3 (eqb 0) 6 (bits_of m) at (short h))
+  header_short q h = rw (q, element_cut 3 (eqb 0) 6 (bits_of m) at (short h))
 
 -- the widths as four bits of one number for each
 pub width_packed : (k : ℕ) → k ≤ 5 → (4530846 / 2 ^ (4 * k) % 16 ≡ width k) × (4530846 / 2 ^ (4 * k) % 16 ≤ 14)
@@ -173,8 +168,6 @@ pub entry_fits : (kind w p : ℕ) → kind ≤ 5 → w ≤ 14 → p < 2 ^ w → 
 entry_fits kind w p h l k = let q : p < 16384 = lt_of_lt_of_le k (pow_mono {j = 14} l) in record { fits = omega arith }
 
 pub ruleset elements = (cut_is, good_is)
-
-pub ruleset dues = (cut_is, due_is, other_is)
 
 pub ruleset instructions = (instruction_short, instruction_zero, instruction_above, note_width)
 

@@ -16,18 +16,16 @@ use Rattle.bits.proofs.Choice.{pick_elim}
 use Rattle.bits.proofs.Numbers.{field_drop}
 use Rattle.bits.proofs.Octets.{length_bits_of}
 use Rattle.bits.proofs.Looking.{length_left_lem}
-use Rattle.bits.specs.Places.{place}
-use Rattle.tone_elements.specs.declared.Step.{Step}
-use Rattle.tone_elements.specs.declared.Step.TheVariants.{Good}
 use Rattle.tone.specs.Table.{entry, kind, note_of, duration_of, width, allowed, is_instruction}
 use Rattle.tone.specs.Reading.{got, element, instruction_due}
-use Rattle.tone_elements.specs.Answers.{step_as, note_in}
+use Rattle.tone_elements.specs.Answers.{seen_as, note_in}
 use Rattle.tone.proofs.Exact.{element_good}
+use Rattle.tone_elements.proofs.Steps.{Step, read}
 use Rattle.tone_elements.proofs.Elements.{note_width}
 
 -- s is what is due of an instruction at a place, in every message that has 12 bits there, on top of x: none has more
-pub record Seen (at x : ℕ) (s : Step) : Type 0 where
-  pub due : (m : List ℕ) (n : ℕ) → 12 ≤ n → Sight n (drop at (bits_of m)) x → at + 12 ≤ 8 * length m → s ≡ step_as note_in (instruction_due (bits_of m) at)
+pub record OnTop (at x : ℕ) (s : Step) : Type 0 where
+  pub due : (m : List ℕ) (n : ℕ) → 12 ≤ n → Sight n (drop at (bits_of m)) x → at + 12 ≤ 8 * length m → s ≡ seen_as note_in (instruction_due (bits_of m) at)
 
 -- no instruction has more payload bits than a note
 pub instruction_width : (k : ℕ) → 1 ≤ k → width k ≤ 9
@@ -106,19 +104,19 @@ module _ (at x : ℕ) where
       code_is : field (bits_of m) (at + 3) w ≡ x / 2 ^ (64 - (3 + w)) % 2 ^ w
       code_is = part_is 3 w (omega (arith, narrow))
 
-      right_code : allowed k (x / 2 ^ (64 - (3 + w)) % 2 ^ w) ≡ true → Good (note_in (entry k (x / 2 ^ (64 - (3 + w)) % 2 ^ w))) (place (at + 3 + w)) ≡ step_as note_in (instruction_due (bits_of m) at)
+      right_code : allowed k (x / 2 ^ (64 - (3 + w)) % 2 ^ w) ≡ true → read (note_in (entry k (x / 2 ^ (64 - (3 + w)) % 2 ^ w))) (at + 3 + w) ≡ seen_as note_in (instruction_due (bits_of m) at)
       unfolding instruction_due
       right_code f = rw (id_good, ← ew, element_good w (allowed k) 6 (bits_of m) (at + 3) (rest_there w narrow) (rw code_is f), code_is)
 
   -- ---- a note or a pause, and any other
 
-  pub seen_note : x / 2 ^ 61 ≡ 1 → x / 2 ^ 57 % 16 ≤ 12 → x / 2 ^ 54 % 8 ≤ 5 → Seen at x (Good 1 (place (at + 12)))
+  pub seen_note : x / 2 ^ 61 ≡ 1 → x / 2 ^ 57 % 16 ≤ 12 → x / 2 ^ 54 % 8 ≤ 5 → OnTop at x (read 1 (at + 12))
   seen_note note value h =
       let v = note_of_lem 1 (code x) (omega arith) in
       let e : at + 3 + 9 ≡ at + 12 = omega arith in
       record { due = λ m n l s w. rw (← v, ← e) (right_code m n l s w 1 9 note (omega arith) (omega arith) note_width (note_good x value h)) }
 
-  pub seen_other : {w : ℕ} → (x / 2 ^ 61 ≡ 1 → ⊥) → (x / 2 ^ 61 ≡ 0 → ⊥) → x / 2 ^ 61 ≤ 5 → (x / 2 ^ 59 ≡ 15 → ⊥) → (w ≡ width (x / 2 ^ 61)) × (w ≤ 14) → Seen at x (Good 0 (place (at + 3 + w)))
+  pub seen_other : {w : ℕ} → (x / 2 ^ 61 ≡ 1 → ⊥) → (x / 2 ^ 61 ≡ 0 → ⊥) → x / 2 ^ 61 ≤ 5 → (x / 2 ^ 59 ≡ 15 → ⊥) → (w ≡ width (x / 2 ^ 61)) × (w ≤ 14) → OnTop at x (read 0 (at + 3 + w))
   seen_other {w} h z l y ew =
       let p = x / 2 ^ (64 - (3 + w)) % 2 ^ w in
       let small : p < 2 ^ w = mod-lt (x / 2 ^ (64 - (3 + w))) (pow_pos w) in

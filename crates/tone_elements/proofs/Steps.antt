@@ -2,48 +2,64 @@
 use Prim.Native.Nat.{ℕ}
 use native.Mathlib.Omega.{arith}
 use mathlib.Core.Path.{◌≡◌, refl, sym, ap, ◌∙◌}
-use mathlib.Core.Bool.{Bool}
 use mathlib.Core.List.{List}
 use lib.ListN.{length}
-use Rattle.bits.specs.declared.BitPlace.{BitPlace}
-use Rattle.bits.specs.declared.OctetCount.{OctetCount}
+use Rattle.std.specs.Prelude.{Result, Ok, Err}
 use Rattle.bits.specs.Places.{place, octet_count}
-use Rattle.tone_elements.specs.declared.Step.{Step}
-use Rattle.tone_elements.specs.declared.Step.TheVariants.{Good, Bad}
-use Rattle.tone_elements.specs.declared.Characters.{Characters}
-use Rattle.tone_elements.specs.declared.Characters.TheVariants.{Present, Faulty}
-use Rattle.tone_elements.specs.declared.Opening.TheVariants.{Opened, Closed}
-use Rattle.tone.specs.Tone.{Front}
+use Rattle.bits.specs.Refusals.{refusal}
+use Rattle.bits.specs.declared.OctetCount.{OctetCount}
+use Rattle.bits.specs.declared.refusal.Refusal.{Refusal}
+use Rattle.tone_elements.specs.declared.Seen.{Seen}
 use Rattle.tone.specs.Reading.{Got, got, bad, onward}
-use Rattle.tone_elements.specs.Answers.{step_as, step_of, characters_of, opening_of}
+use Rattle.tone_elements.specs.Answers.{seen_as, seen_of, characters_of}
+
+-- what the code answers of an element
+abbrev pub Step : Type 0
+Step = Result (Seen ℕ) Refusal
+
+-- a value, and the place behind it
+abbrev pub read : {A : Type 0} → A → ℕ → Result (Seen A) Refusal
+read v p = Ok (record { value = v; next = place p })
+
+-- a value was read there, and f made another of it
+pub seen_made : {A B : Type 0} (f : A → B) (x : Got A) {v : Seen B} → Ok v ≡ seen_as f x → (a : A) × (x ≡ got a v.next.0) × (v.value ≡ f a)
+seen_made f (got a p) {v} e =
+    let z : v ≡ record { value = f a; next = place p } = cc in
+    (a, rw z refl, rw z refl)
+seen_made f (bad n p e') e = let z : ◌≡◌ {A = ℕ} 0 1 = cc in absurd (omega arith)
 
 -- a value was read there
-pub step_good : {A : Type 0} (f : A → ℕ) (x : Got A) {v : ℕ} {q : BitPlace} → Good v q ≡ step_as f x → (a : A) × (x ≡ got a q.0) × (v ≡ f a)
-step_good f (got a p) {v} {q} e =
-    let e₁ : v ≡ f a = cc in
-    let e₂ : q ≡ place p = cc in
-    (a, ap (λ (y : ℕ). got a y) (sym (ap (λ (z : BitPlace). z.0) e₂)), e₁)
-step_good f (bad n p e') e = let z : ◌≡◌ {A = ℕ} 0 1 = cc in absurd (omega arith)
-
--- a number was read there
-pub step_there : (x : Got ℕ) {v : ℕ} {q : BitPlace} → Good v q ≡ step_of x → x ≡ got v q.0
-step_there x {v} {q} e = let b = step_good (λ v. v) x e in b.1 ∙ ap (λ (y : ℕ). got y q.0) (sym b.2)
+pub seen_there : {A : Type 0} (x : Got A) {v : Seen A} → Ok v ≡ seen_of x → x ≡ got v.value v.next.0
+seen_there x {v} e = let b = seen_made (λ v. v) x e in b.1 ∙ ap (λ y. got y v.next.0) (sym b.2)
 
 -- a refusal is there
-pub step_bad : {A : Type 0} (f : A → ℕ) (x : Got A) {n : ℕ} {q : BitPlace} → Bad n q ≡ step_as f x → (e : ℕ) × (x ≡ bad n q.0 e)
-step_bad f (got a p) e = let z : ◌≡◌ {A = ℕ} 0 1 = cc in absurd (omega arith)
-step_bad f (bad n' p e') {n} {q} e =
-    let e₁ : n ≡ n' = cc in
-    let e₂ : q ≡ place p = cc in
-    (e', rw (e₁, e₂) refl)
+pub record BadThere {A : Type 0} (x : Got A) (r : Refusal) : Type 0 where
+  pub number : ℕ
+  pub at : ℕ
+  pub end : ℕ
+  pub there : x ≡ bad number at end
+  pub told : r ≡ refusal number at
+
+pub seen_bad : {A B : Type 0} (f : A → B) (x : Got A) {r : Refusal} → Err r ≡ seen_as f x → BadThere x r
+seen_bad f (got a p) e = let z : ◌≡◌ {A = ℕ} 0 1 = cc in absurd (omega arith)
+seen_bad f (bad n p e') {r} e = record { number = n; at = p; end = e'; there = refl; told = cc }
+
+-- and what the code answers then
+pub told_as : {B : Type 0} {r : Refusal} (n p : ℕ) → r ≡ refusal n p → ◌≡◌ {A = Result (Seen B) Refusal} (Err r) (Err (refusal n p))
+told_as n p e = rw e refl
+
+-- it is the answer to all that goes on from there
+pub passed_on : {A B C D : Type 0} (f : A → B) (g : C → D) (x : Got A) (h : A → ℕ → Got C) {r : Refusal} → Err r ≡ seen_as f x → Err r ≡ seen_as g (onward x h bad)
+passed_on f g (got a p) h e = let z : ◌≡◌ {A = ℕ} 0 1 = cc in absurd (omega arith)
+passed_on f g (bad n p e') h {r} e = let z : r ≡ refusal n p = cc in rw z refl
 
 -- two ways to count agree
-pub step_cong : {A : Type 0} {f g : A → ℕ} (x : Got A) → ((a : A) → f a ≡ g a) → step_as f x ≡ step_as g x
-step_cong (got a p) h = ap (λ (v : ℕ). Good v (place p)) (h a)
+pub step_cong : {A B : Type 0} {f g : A → B} (x : Got A) → ((a : A) → f a ≡ g a) → seen_as f x ≡ seen_as g x
+step_cong (got a p) h = rw (h a) refl
 step_cong (bad n p e) h = refl
 
 -- what is made of a value can be counted at once
-pub step_map : {A B : Type 0} (f : B → ℕ) (h : A → B) (x : Got A) → step_as f (onward x (λ a p. got (h a) p) bad) ≡ step_as (λ a. f (h a)) x
+pub step_map : {A B C : Type 0} (f : B → C) (h : A → B) (x : Got A) → seen_as f (onward x (λ a p. got (h a) p) bad) ≡ seen_as (λ a. f (h a)) x
 step_map f h (got a p) = refl
 step_map f h (bad n p e) = refl
 
@@ -60,55 +76,15 @@ onward_made (got a p) f {c} {q} e =
     (a, ap (λ (y : ℕ). got a y) e₁, e₂)
 onward_made (bad n p e') f e = let z : ◌≡◌ {A = ℕ} 0 1 = cc in absurd (omega arith)
 
--- ---- the characters of a title
-
 -- a number that was counted, as octets of a title
-abbrev as_characters : Step → Characters
-as_characters (Good v p) = Present p (octet_count v)
-as_characters (Bad n p) = Faulty p n
+abbrev as_octets : Step → Result (Seen OctetCount) Refusal
+as_octets (Ok v) = Ok (record { value = octet_count v.value; next = v.next })
+as_octets (Err r) = Err r
 
 -- a title's octets are its length, counted
-pub characters_as : (x : Got (List ℕ)) (s : Step) → step_as length x ≡ s → as_characters s ≡ characters_of x
-characters_as x s e = sym (ap as_characters e) ∙ same x
+pub characters_as : (x : Got (List ℕ)) (s : Step) → seen_as length x ≡ s → as_octets s ≡ characters_of x
+characters_as x s e = sym (ap as_octets e) ∙ same x
   where
-    same : (x : Got (List ℕ)) → as_characters (step_as length x) ≡ characters_of x
+    same : (x : Got (List ℕ)) → as_octets (seen_as length x) ≡ characters_of x
     same (got t p) = refl
     same (bad n p e) = refl
-
--- a title was read there
-pub characters_good_lem : (x : Got (List ℕ)) {q : BitPlace} {o : OctetCount} → Present q o ≡ characters_of x → (t : List ℕ) × (x ≡ got t q.0) × (o ≡ octet_count (length t))
-characters_good_lem (got t p) {q} {o} e =
-    let e₁ : q ≡ place p = cc in
-    let e₂ : o ≡ octet_count (length t) = cc in
-    (t, ap (λ (y : ℕ). got t y) (sym (ap (λ (z : BitPlace). z.0) e₁)), e₂)
-characters_good_lem (bad n p e') e = let z : ◌≡◌ {A = ℕ} 0 1 = cc in absurd (omega arith)
-
--- a refusal is there
-pub characters_bad : (x : Got (List ℕ)) {q : BitPlace} {n : ℕ} → Faulty q n ≡ characters_of x → (e : ℕ) × (x ≡ bad n q.0 e)
-characters_bad (got t p) e = let z : ◌≡◌ {A = ℕ} 0 1 = cc in absurd (omega arith)
-characters_bad (bad n' p e') {q} {n} e =
-    let e₁ : n ≡ n' = cc in
-    let e₂ : q ≡ place p = cc in
-    (e', rw (e₁, e₂) refl)
-
--- ---- the front of a message
-
--- a front that was opened
-pub record FrontThere (x : Got Front) (s : ℕ) (u : Bool) (o c at : ℕ) : Type 0 where
-  pub front : Front
-  pub there : x ≡ got front at
-  pub song : s ≡ front.song
-  pub unicode : u ≡ front.unicode
-  pub octets : o ≡ length front.title
-  pub count : c ≡ front.count
-
-pub open_good : (x : Got Front) {s : ℕ} {u : Bool} {o : OctetCount} {c : ℕ} {q : BitPlace} → Opened s q o c u ≡ opening_of x → FrontThere x s u o.0 c q.0
-open_good (got f p) {s} {u} {o} {c} {q} e =
-    let z : q ≡ place p = cc in
-    let y : o ≡ octet_count (length f.title) = cc in
-    record { front = f; there = rw z refl; song = cc; unicode = cc; octets = ap (λ (x : OctetCount). x.0) y; count = cc }
-open_good (bad n p e') e = let z : ◌≡◌ {A = ℕ} 0 1 = cc in absurd (omega arith)
-
-pub open_bad : (x : Got Front) {n : ℕ} {q : BitPlace} → Closed n q ≡ opening_of x → (e : ℕ) × (x ≡ bad n q.0 e)
-open_bad (got f p) e = let z : ◌≡◌ {A = ℕ} 0 1 = cc in absurd (omega arith)
-open_bad (bad n' p e') {n} {q} e = let e₁ : n ≡ n' = cc in let e₂ : q ≡ place p = cc in (e', rw (e₁, e₂) refl)

@@ -13,7 +13,6 @@ use lib.Pow.{pow-add, pow_pos}
 use borrow.Author.Tests.{eqb-true, eqb-false, ne_eqb, leb-true}
 use Rattle.bits.specs.Choice.{pick}
 use Rattle.bits.specs.Bits.{bits_of}
-use Rattle.bits.specs.Places.{place}
 use Rattle.bits.specs.Window.{Sight}
 use Rattle.bits.proofs.Choice.{both, pick_elim}
 use Rattle.tone.specs.Table.{width}
@@ -22,11 +21,9 @@ use Rattle.tone_tell.specs.declared.Told.{Told}
 use Rattle.tone_tell.specs.Answers.{ToldOf}
 use Rattle.tone_tell.proofs.Packed.{bits_least}
 use Rattle.tone_tell.specs.Telling.{kind_on, kind_bits, bits_on, note_on, begins, fault_on, behind, over}
-use Rattle.tone_elements.specs.declared.Step.{Step}
-use Rattle.tone_elements.specs.declared.Step.TheVariants.{Good}
-use Rattle.tone_elements.specs.Answers.{step_as, note_in}
-use Rattle.tone_elements.proofs.Seeing.{Seen, instruction_width, seen_note, seen_other}
-use Rattle.tone_elements.proofs.Steps.{step_good}
+use Rattle.tone_elements.specs.Answers.{seen_as, note_in}
+use Rattle.tone_elements.proofs.Seeing.{OnTop, instruction_width, seen_note, seen_other}
+use Rattle.tone_elements.proofs.Steps.{Step, read, seen_made}
 use Rattle.tone_elements.proofs.Walks.{BodyWalk, body_begins, body_done, body_rest, goes_on, note_one, InSight, sight_begins, sight_near, sight_here, sight_next}
 
 -- ---- one instruction
@@ -71,7 +68,7 @@ fine_other z g n = go (eqb (z / 128) 3) refl
         (leb-true 1 (z / 128) b.0, leb-true (z / 128) 5 b.1, λ y. d (omega (arith, y)))
 
 -- an instruction without a fault is seen as it was told
-pub told_seen : (at x : ℕ) → fault_on x ≡ 0 → Seen at x (Good (note_on x) (place (at + bits_on x)))
+pub told_seen : (at x : ℕ) → fault_on x ≡ 0 → OnTop at x (read (note_on x) (at + bits_on x))
 unfolding fault_on note_on bits_on
 told_seen at x f = go (eqb (kind_on x) 1) refl
   where
@@ -81,7 +78,7 @@ told_seen at x f = go (eqb (kind_on x) 1) refl
     kind : x / 2 ^ 54 / 128 ≡ x / 2 ^ 61
     kind = omega arith
 
-    go : (t : Bool) → eqb (kind_on x) 1 ≡ t → Seen at x (Good (pick (eqb (kind_on x) 1) 1 0) (place (at + get_or kind_bits (kind_on x) 0)))
+    go : (t : Bool) → eqb (kind_on x) 1 ≡ t → OnTop at x (read (pick (eqb (kind_on x) 1) 1 0) (at + get_or kind_bits (kind_on x) 0))
     go true e =
         let k = eqb-true (kind_on x) 1 e in
         let a = fine_note (x / 2 ^ 54) fine (kind ∙ k) in
@@ -128,13 +125,13 @@ module _ (m : List ℕ) (at x : ℕ) (sees : Sight 57 (drop at (bits_of m)) x) w
     small = rw t.top (mod-lt (x * 2 ^ (p - at)) (pow_pos 64))
 
     -- the next one is the one that is due: it has five bits or more, so that with the end octet it has the twelve that are looked at
-    judged : Good (note_on y) (place (p + bits_on y)) ≡ step_as note_in (instruction_due (bits_of m) p)
+    judged : read (note_on y) (p + bits_on y) ≡ seen_as note_in (instruction_due (bits_of m) p)
     judged =
-        let s = subst (λ (z : ℕ). Seen p z (Good (note_on y) (place (p + bits_on y)))) t.top (told_seen p y f) in
+        let s = subst (λ (z : ℕ). OnTop p z (read (note_on y) (p + bits_on y))) t.top (told_seen p y f) in
         s.due m (57 - (p - at)) (omega (arith, sight_near t.seen (omega arith))) (sight_here t.seen (omega arith) m t.walk.inside sees) (omega (arith, bits_least y small, room))
 
-    read : (e : ℕ) × (instruction_due (bits_of m) p ≡ got e (p + bits_on y)) × (note_on y ≡ note_in e)
-    read = step_good note_in (instruction_due (bits_of m) p) judged
+    got_there : (e : ℕ) × (instruction_due (bits_of m) p ≡ got e (p + bits_on y)) × (note_on y ≡ note_in e)
+    got_there = seen_made note_in (instruction_due (bits_of m) p) judged
 
     one_more : Top due (p + bits_on y) (behind y) (left - 1) (c + note_on y) n
     one_more =
@@ -142,8 +139,8 @@ module _ (m : List ℕ) (at x : ℕ) (sees : Sight 57 (drop at (bits_of m)) x) w
         let e : p - at + bits_on y ≡ p + bits_on y - at = omega arith in
         let z : suc n - 1 ≡ n = omega arith in
         record {
-          walk = goes_on t.walk h read.1 read.2 (rw read.2 (note_one read.0));
-          seen = subst (λ (k : ℕ). InSight at (p + bits_on y) k) z (sight_next t.seen (omega arith) m t.walk.inside read.1);
+          walk = goes_on t.walk h got_there.1 got_there.2 (rw got_there.2 (note_one got_there.0));
+          seen = subst (λ (k : ℕ). InSight at (p + bits_on y) k) z (sight_next t.seen (omega arith) m t.walk.inside got_there.1);
           top = shifted_on x (p - at) y t.top ∙ ap (λ (d : ℕ). x * 2 ^ d % 2 ^ 64) e;
         }
 

@@ -15,9 +15,8 @@ use mir.Val.{Fits, bits}
 use mir.Syntax.{Width, w64}
 use Rattle.bits.specs.Choice.{pick}
 use Rattle.bits.specs.Bits.{bits_of, field}
-use Rattle.bits.specs.Places.{place, octet_count}
+use Rattle.bits.specs.Places.{octet_count}
 use Rattle.bits.specs.Window.{Sight, fills}
-use Rattle.bits.specs.declared.BitPlace.{BitPlace}
 use Rattle.bits.proofs.Below.{passes, at_each}
 use Rattle.bits.proofs.Choice.{both}
 use Rattle.bits.proofs.Lanes.{lane, or_lane, and_lane, xor_lane, and_lane_l, and_lane_r, suits, none_empty, top_and, top_mask, fills_top, lanes_same}
@@ -29,11 +28,13 @@ use Rattle.tone.specs.Reading.{Got, got, element, any_of, character, text}
 use Rattle.tone.proofs.Exact.{element_good, element_inside}
 use Rattle.tone.proofs.Fronts.{or_true}
 use Rattle.tone.proofs.Titles.{refused_low, allowed_low, refused_high, allowed_high}
-use Rattle.tone_elements.specs.declared.Step.{Step}
-use Rattle.tone_elements.specs.declared.Step.TheVariants.{Good, Bad}
-use Rattle.tone_elements.specs.declared.Characters.TheVariants.{Present, Faulty}
-use Rattle.tone_elements.specs.Answers.{Within, step_as, step_of, characters_of, Sure, Complete, BothAllowed, AllowedAt}
-use Rattle.tone_elements.proofs.Steps.{step_there, step_bad, step_cong, step_map, characters_as}
+use Rattle.std.specs.Prelude.{Ok, Err}
+use Rattle.bits.specs.Refusals.{on}
+use Rattle.bits.specs.declared.refusal.Ground.TheVariants.{Character}
+use Rattle.bits.specs.declared.refusal.Refusal.{Refusal}
+use Rattle.tone_elements.specs.declared.Seen.{Seen}
+use Rattle.tone_elements.specs.Answers.{Within, seen_as, seen_of, characters_of, Sure, Complete, BothAllowed, AllowedAt}
+use Rattle.tone_elements.proofs.Steps.{Step, read, seen_there, seen_bad, told_as, step_cong, step_map, characters_as}
 use Rattle.tone_elements.proofs.Walks.{one_less}
 use Rattle.tone_elements.proofs.Openings.{cut_there, good_there, bad_there}
 
@@ -57,19 +58,19 @@ module _ {c : ℕ} where
 abbrev due : Bool → List ℕ → ℕ → Got ℕ
 due unicode m at = element (character_bits unicode) allowed_character 21 (bits_of m) at
 
-module _ (m : List ℕ) (at : ℕ) (unicode : Bool) {s : Step} {b : ℕ} (hb : (b ≡ character_bits unicode) × (b ≤ 16) × (1 ≤ b)) (q : s ≡ step_of (any_of b (bits_of m) at)) where
-  wide : s ≡ step_of (any_of (character_bits unicode) (bits_of m) at)
-  wide = q ∙ ap (λ (w : ℕ). step_of (any_of w (bits_of m) at)) hb.0
+module _ (m : List ℕ) (at : ℕ) (unicode : Bool) {s : Step} {b : ℕ} (hb : (b ≡ character_bits unicode) × (b ≤ 16) × (1 ≤ b)) (q : s ≡ seen_of (any_of b (bits_of m) at)) where
+  wide : s ≡ seen_of (any_of (character_bits unicode) (bits_of m) at)
+  wide = q ∙ ap (λ (w : ℕ). seen_of (any_of w (bits_of m) at)) hb.0
 
-  pub character_cut : {n : ℕ} {f : BitPlace} → s ≡ Bad n f → Bad n f ≡ step_of (due unicode m at)
-  character_cut g = rw (cut_there (character_bits unicode) 21 allowed_character m at wide g).1
+  pub character_cut : {r : Refusal} → s ≡ Err r → Err r ≡ seen_of (due unicode m at)
+  character_cut g = let b = cut_there (character_bits unicode) 21 allowed_character m at wide g in rw b.there (told_as b.number b.at b.told)
 
-  module _ {v : ℕ} {f : BitPlace} {t : Bool} (g : s ≡ Good v f) (e : t ≡ allowed_character v) where
-    pub character_good : t ≡ true → Good v f ≡ step_of (due unicode m at)
+  module _ {v : Seen ℕ} {t : Bool} (g : s ≡ Ok v) (e : t ≡ allowed_character v.value) where
+    pub character_good : t ≡ true → Ok v ≡ seen_of (due unicode m at)
     character_good h = rw (good_there (character_bits unicode) 21 allowed_character m at wide g (sym e ∙ h))
 
-    pub character_bad : {p : BitPlace} → p.0 ≡ at → t ≡ false → Bad 21 p ≡ step_of (due unicode m at)
-    character_bad l h = rw (bad_there (character_bits unicode) 21 allowed_character m at wide g (sym e ∙ h), ← l)
+    pub character_bad : {r : Refusal} → r ≡ on Character at → t ≡ false → Err r ≡ seen_of (due unicode m at)
+    character_bad f h = rw (f, bad_there (character_bits unicode) 21 allowed_character m at wide g (sym e ∙ h))
 
 pub ruleset characters = (character_low, character_between, character_high, character_cut, character_good, character_bad)
 
@@ -77,7 +78,7 @@ pub ruleset characters = (character_low, character_between, character_high, char
 
 -- one character more, with c octets ahead of it
 text_step : (unicode : Bool) (n c : ℕ) (m : List ℕ) (p : ℕ) {v q : ℕ} → due unicode m p ≡ got v q
-    → step_as (λ t. c + length t) (text unicode (suc n) (bits_of m) p) ≡ step_as (λ t. c + per_character unicode + length t) (text unicode n (bits_of m) q)
+    → seen_as (λ t. c + length t) (text unicode (suc n) (bits_of m) p) ≡ seen_as (λ t. c + per_character unicode + length t) (text unicode n (bits_of m) q)
 unfolding text character
 text_step true n c m p {v} {q} h =
     rw h (step_map (λ t. c + length t) (λ t. v / 256 ∷ v % 256 ∷ t) (text true n (bits_of m) q) ∙ step_cong (text true n (bits_of m) q) (λ t. omega arith))
@@ -88,7 +89,7 @@ text_step false n c m p {v} {q} h =
 pub record TextWalk (m : List ℕ) (unicode : Bool) (n at p more : ℕ) : Type 0 where
   pub inside : p ≤ 8 * length m
   pub fewer : more ≤ n
-  pub goes : step_as length (text unicode n (bits_of m) at) ≡ step_as (λ t. (n - more) * per_character unicode + length t) (text unicode more (bits_of m) p)
+  pub goes : seen_as length (text unicode n (bits_of m) at) ≡ seen_as (λ t. (n - more) * per_character unicode + length t) (text unicode more (bits_of m) p)
 
 pub text_begins : (m : List ℕ) (unicode : Bool) (n at : ℕ) → at ≤ 8 * length m → TextWalk m unicode n at at n
 text_begins m unicode n at h =
@@ -99,11 +100,11 @@ text_begins m unicode n at h =
     none false k = omega arith
 
 module _ {m : List ℕ} {unicode : Bool} {n at p more : ℕ} (w : TextWalk m unicode n at p more) where
-  pub text_done : {o : ℕ} {f : BitPlace} → (o ≡ per_character unicode) × (o ≤ 2) × (1 ≤ o) → p ≡ f.0 → more ≤ 0 → Present f (octet_count (n * o)) ≡ characters_of (text unicode n (bits_of m) at)
+  pub text_done : {o f : ℕ} → (o ≡ per_character unicode) × (o ≤ 2) × (1 ≤ o) → p ≡ f → more ≤ 0 → read (octet_count (n * o)) f ≡ characters_of (text unicode n (bits_of m) at)
   unfolding text
   text_done {o} {f} ho e h =
       let z : more ≡ 0 = omega arith in
-      characters_as (text unicode n (bits_of m) at) (Good (n * o) f) (w.goes ∙ (rw (z, e, ho.0) (ap (λ (x : ℕ). Good x f) (whole unicode))))
+      characters_as (text unicode n (bits_of m) at) (read (n * o) f) (w.goes ∙ (rw (z, e, ho.0) (ap (λ (x : ℕ). read x f) (whole unicode))))
     where
       whole : (unicode : Bool) → (n - 0) * per_character unicode + 0 ≡ n * per_character unicode
       whole true = omega arith
@@ -115,7 +116,7 @@ module _ {m : List ℕ} {unicode : Bool} {n at p more : ℕ} (w : TextWalk m uni
         record {
           inside = rw (← length_bits_of m) (element_inside (character_bits unicode) allowed_character 21 (bits_of m) p d);
           fewer = omega (arith, w.fewer);
-          goes = w.goes ∙ ap (λ (x : ℕ). step_as (λ t. (n - more) * per_character unicode + length t) (text unicode x (bits_of m) p)) (one_less more h)
+          goes = w.goes ∙ ap (λ (x : ℕ). seen_as (λ t. (n - more) * per_character unicode + length t) (text unicode x (bits_of m) p)) (one_less more h)
               ∙ text_step unicode (more - 1) ((n - more) * per_character unicode) m p d
               ∙ step_cong (text unicode (more - 1) (bits_of m) q) (λ t. ap (λ (x : ℕ). x + length t) (more_octets unicode));
         }
@@ -124,15 +125,15 @@ module _ {m : List ℕ} {unicode : Bool} {n at p more : ℕ} (w : TextWalk m uni
         more_octets true = omega (arith, w.fewer)
         more_octets false = omega (arith, w.fewer)
 
-    module _ {s : Step} (q : s ≡ step_of (due unicode m p)) where
-      pub text_bad : {k : ℕ} {f : BitPlace} → s ≡ Bad k f → Faulty f k ≡ characters_of (text unicode n (bits_of m) at)
+    module _ {s : Step} (q : s ≡ seen_of (due unicode m p)) where
+      pub text_bad : {r : Refusal} → s ≡ Err r → Err r ≡ characters_of (text unicode n (bits_of m) at)
       unfolding text character
-      text_bad {k} {f} g =
-          let b = step_bad (λ v. v) (due unicode m p) (sym g ∙ q) in
-          characters_as (text unicode n (bits_of m) at) (Bad k f) (w.goes ∙ (rw (one_less more h, b.1)))
+      text_bad {r} g =
+          let b = seen_bad (λ v. v) (due unicode m p) (sym g ∙ q) in
+          characters_as (text unicode n (bits_of m) at) (Err r) (w.goes ∙ (rw (one_less more h, b.there) (sym (told_as b.number b.at b.told))))
 
-      pub text_on : {v : ℕ} {f : BitPlace} → s ≡ Good v f → TextWalk m unicode n at f.0 (more - 1)
-      text_on g = goes_on (step_there (due unicode m p) (sym g ∙ q))
+      pub text_on : {v : Seen ℕ} → s ≡ Ok v → TextWalk m unicode n at v.next.0 (more - 1)
+      text_on g = goes_on (seen_there (due unicode m p) (sym g ∙ q))
 
 -- all of them, where they are there and allowed
 text_all : (m : List ℕ) (unicode : Bool) (n at p k : ℕ) → TextWalk m unicode n at p k → p + k * character_bits unicode ≤ 8 * length m → AllowedAt m p unicode k
@@ -155,7 +156,22 @@ text_all m unicode n at p (suc k) w h a =
 pub product_fits : (w : Width) (n b p q : ℕ) → n ≤ p → b ≤ q → T (ltb (p * q) (2 ^ bits w)) → Fits w (n * b)
 product_fits w n b p q h k t = record { fits = lt_of_le_of_lt (mul-le-mul h k) (ltb→lt (p * q) (2 ^ bits w) t) }
 
-pub ruleset lettering = (text_begins, text_done, text_bad, text_on, product_fits)
+-- the same, where those that are done are counted
+pub counting_begins : (m : List ℕ) (unicode : Bool) (n at : ℕ) → at ≤ 8 * length m → TextWalk m unicode n at at (n - 0)
+counting_begins m unicode n at h = let z : n ≡ n - 0 = omega arith in subst (λ (k : ℕ). TextWalk m unicode n at at k) z (text_begins m unicode n at h)
+
+module _ {m : List ℕ} {unicode : Bool} {n at p i : ℕ} (w : TextWalk m unicode n at p (n - i)) where
+  pub counting_done : {o f : ℕ} → (o ≡ per_character unicode) × (o ≤ 2) × (1 ≤ o) → p ≡ f → n ≤ i → read (octet_count (n * o)) f ≡ characters_of (text unicode n (bits_of m) at)
+  counting_done ho e h = text_done w ho e (omega arith)
+
+  module _ (h : i < n) {s : Step} (q : s ≡ seen_of (due unicode m p)) where
+    pub counting_bad : {r : Refusal} → s ≡ Err r → Err r ≡ characters_of (text unicode n (bits_of m) at)
+    counting_bad g = text_bad w (omega arith) q g
+
+    pub counting_more : {v : Seen ℕ} → s ≡ Ok v → TextWalk m unicode n at v.next.0 (n - (i + 1))
+    counting_more {v} g = let z : n - i - 1 ≡ n - (i + 1) = omega arith in subst (λ (k : ℕ). TextWalk m unicode n at v.next.0 k) z (text_on w (omega arith) q g)
+
+pub ruleset lettering = (counting_begins, counting_done, counting_bad, counting_more, product_fits)
 
 -- ---- so many characters, told at once
 
@@ -614,7 +630,7 @@ pub ruleset alls = (all_none, all_few, all_there, all_many, all_cut, always, uns
 
 -- so they are read
 pub text_told : (m : List ℕ) (at : ℕ) (unicode : Bool) (n : ℕ) {s o : ℕ} {t : Bool} → (s ≡ n * character_bits unicode) × (s ≤ 240) → (o ≡ per_character unicode) × (o ≤ 2) × (1 ≤ o) → Within m at
-    → Sure t (AllowedAt m at unicode n) → t ≡ true → Present (place (at + s)) (octet_count (n * o)) ≡ characters_of (text unicode n (bits_of m) at)
+    → Sure t (AllowedAt m at unicode n) → t ≡ true → read (octet_count (n * o)) (at + s) ≡ characters_of (text unicode n (bits_of m) at)
 text_told m at unicode n hs ho i a t =
     text_done (text_all m unicode n at at n (text_begins m unicode n at i.inside) (a.so t).there (a.so t)) ho (ap (λ (x : ℕ). at + x) (sym hs.0)) (omega arith)
 

@@ -2,27 +2,27 @@
 use Prim.Native.Nat.{ℕ, zero, suc, ◌+◌, ◌-◌, ◌*◌, ◌%◌, ◌^◌, ◌≤◌, ◌<◌}
 use native.Mathlib.Omega.{arith}
 use native.Mathlib.Nat.{zero-add, add_assoc}
-use mathlib.Core.Path.{◌≡◌, refl, sym, ap, ◌∙◌}
+use mathlib.Core.Path.{◌≡◌, refl, sym, ap, subst, ◌∙◌}
 use mathlib.Core.Bool.{Bool}
 use mathlib.Core.List.{List, [], ◌∷◌, ◌++◌}
 use lib.ListN.{length, drop}
 use lib.Seq.{drop-drop}
 use lib.Dec.{eqb}
 use Rattle.bits.specs.Bits.{bits_of}
-use Rattle.bits.specs.declared.BitPlace.{BitPlace}
 use Rattle.bits.specs.Window.{Sight}
 use Rattle.bits.proofs.Choice.{pick_elim}
 use Rattle.bits.proofs.Octets.{length_bits_of}
 use Rattle.bits.proofs.Looking.{sight_on, length_left_lem}
-use Rattle.tone_elements.specs.declared.Step.{Step}
-use Rattle.tone_elements.specs.declared.Step.TheVariants.{Good, Bad}
 use Rattle.tone.specs.Table.{kind}
 use Rattle.tone.specs.Reading.{Got, got, bad, onward, instruction_due, body_due}
-use Rattle.tone_elements.specs.Answers.{step_as, step_of, note_in, notes}
+use Rattle.std.specs.Prelude.{Ok, Err}
+use Rattle.bits.specs.declared.refusal.Refusal.{Refusal}
+use Rattle.tone_elements.specs.declared.Seen.{Seen}
+use Rattle.tone_elements.specs.Answers.{seen_as, seen_of, note_in, notes}
 use Rattle.tone.proofs.Exact.{Exact}
 use Rattle.tone.proofs.Rows.{instruction_exact, length_entry_bits}
 use Rattle.tone_elements.proofs.Seeing.{instruction_width}
-use Rattle.tone_elements.proofs.Steps.{step_there, step_bad, step_cong, step_map}
+use Rattle.tone_elements.proofs.Steps.{Step, BadThere, read, seen_there, seen_bad, told_as, step_cong, step_map}
 
 -- a reader stays within the message
 pub stays : {A : Type 0} {r : List Bool → ℕ → Got A} {G : A → Type 0} {b : ℕ → A → List Bool} → Exact r G b
@@ -36,17 +36,17 @@ one_less n h = omega arith
 -- ---- the instructions of a body
 
 -- one instruction
-body_step : (k c : ℕ) (l : List Bool) (p : ℕ) {e q : ℕ} → instruction_due l p ≡ got e q → step_as (λ b. c + notes b) (body_due (suc k) l p) ≡ step_as (λ b. c + note_in e + notes b) (body_due k l q)
+body_step : (k c : ℕ) (l : List Bool) (p : ℕ) {e q : ℕ} → instruction_due l p ≡ got e q → seen_as (λ b. c + notes b) (body_due (suc k) l p) ≡ seen_as (λ b. c + note_in e + notes b) (body_due k l q)
 unfolding body_due
 body_step k c l p {e} {q} h =
     rw h (step_map (λ b. c + notes b) (λ b. e ∷ b) (body_due k l q) ∙ step_cong (body_due k l q) (λ b. sym (add_assoc c (note_in e) (notes b))))
 
 -- what is due of n instructions, and where c notes were counted before them
 abbrev pub counted : List ℕ → ℕ → ℕ → Step
-counted m n at = step_as notes (body_due n (bits_of m) at)
+counted m n at = seen_as notes (body_due n (bits_of m) at)
 
 abbrev pub counted_on : List ℕ → ℕ → ℕ → ℕ → Step
-counted_on m n at c = step_as (λ b. c + notes b) (body_due n (bits_of m) at)
+counted_on m n at c = seen_as (λ b. c + notes b) (body_due n (bits_of m) at)
 
 -- with `left` instructions to come at p, and c notes so far; `due` is what is due of all of them
 pub record BodyWalk (m : List ℕ) (due : Step) (p left c : ℕ) : Type 0 where
@@ -60,7 +60,7 @@ body_begins m n at h l = record { inside = h; fewer = omega arith; goes = step_c
 pub body_resumes : (m : List ℕ) (n at c : ℕ) → at ≤ 8 * length m → c + n ≤ 255 → BodyWalk m (counted_on m n at c) at n c
 body_resumes m n at c h l = record { inside = h; fewer = l; goes = refl }
 
-pub body_done : {m : List ℕ} {due : Step} {left c : ℕ} {q : BitPlace} → BodyWalk m due q.0 left c → left ≤ 0 → Good c q ≡ due
+pub body_done : {m : List ℕ} {due : Step} {left c q : ℕ} → BodyWalk m due q left c → left ≤ 0 → read c q ≡ due
 unfolding body_due
 body_done {left = left} {c = c} w h =
     let e : left ≡ 0 = omega arith in
@@ -74,9 +74,9 @@ module _ {m : List ℕ} {due : Step} {p left c : ℕ} (w : BodyWalk m due p left
 
   -- one instruction more, as the tone has it
   module _ (h : 0 < left) where
-    refuses : {k : ℕ} {f : BitPlace} {e : ℕ} → instruction_due (bits_of m) p ≡ bad k f.0 e → Bad k f ≡ due
+    refuses : {r : Refusal} → BadThere (instruction_due (bits_of m) p) r → Err r ≡ due
     unfolding body_due
-    refuses b = sym (w.goes ∙ (rw (one_less left h, b)))
+    refuses b = sym (w.goes ∙ (rw (one_less left h, b.there) (sym (told_as b.number b.at b.told))))
 
     pub goes_on : {e q t : ℕ} → instruction_due (bits_of m) p ≡ got e q → t ≡ note_in e → t ≤ 1 → BodyWalk m due q (left - 1) (c + t)
     goes_on {e} {q} {t} there v l =
@@ -88,14 +88,32 @@ module _ {m : List ℕ} {due : Step} {p left c : ℕ} (w : BodyWalk m due p left
         }
 
     -- and as the code answers it
-    module _ {s : Step} (q : s ≡ step_of (instruction_due (bits_of m) p)) where
-      pub body_bad : {k : ℕ} {f : BitPlace} → s ≡ Bad k f → Bad k f ≡ due
-      body_bad g = refuses (step_bad (λ v. v) (instruction_due (bits_of m) p) (sym g ∙ q)).1
+    module _ {s : Step} (q : s ≡ seen_of (instruction_due (bits_of m) p)) where
+      pub body_bad : {r : Refusal} → s ≡ Err r → Err r ≡ due
+      body_bad g = refuses (seen_bad (λ v. v) (instruction_due (bits_of m) p) (sym g ∙ q))
 
-      pub body_on : {v t : ℕ} {f : BitPlace} → s ≡ Good v f → (t ≡ note_in v) × (t ≤ 1) → BodyWalk m due f.0 (left - 1) (c + t)
-      body_on g e = goes_on (step_there (instruction_due (bits_of m) p) (sym g ∙ q)) e.0 e.1
+      pub body_on : {v : Seen ℕ} {t : ℕ} → s ≡ Ok v → (t ≡ note_in v.value) × (t ≤ 1) → BodyWalk m due v.next.0 (left - 1) (c + t)
+      body_on g e = goes_on (seen_there (instruction_due (bits_of m) p) (sym g ∙ q)) e.0 e.1
 
-pub ruleset bodies = (body_resumes, body_done, body_bad, body_on)
+-- the same, where those that are done are counted
+module _ {m : List ℕ} {due : Step} {p n i c : ℕ} (w : BodyWalk m due p (n - i) c) where
+  pub counted_done : {q : ℕ} → p ≡ q → n ≤ i → read c q ≡ due
+  counted_done e h = rw (← e) (body_done w (omega arith))
+
+  pub counted_fits : {t : ℕ} → i < n → t ≤ 1 → c + t ≤ 255
+  counted_fits h k = omega (arith, w.fewer)
+
+  module _ (h : i < n) {s : Step} (q : s ≡ seen_of (instruction_due (bits_of m) p)) where
+    pub counted_bad : {r : Refusal} → s ≡ Err r → Err r ≡ due
+    counted_bad g = body_bad w (omega arith) q g
+
+    pub counted_more : {v : Seen ℕ} {t : ℕ} → s ≡ Ok v → (t ≡ note_in v.value) × (t ≤ 1) → BodyWalk m due v.next.0 (n - (i + 1)) (c + t)
+    counted_more {v} {t} g e = let z : n - i - 1 ≡ n - (i + 1) = omega arith in subst (λ (k : ℕ). BodyWalk m due v.next.0 k (c + t)) z (body_on w (omega arith) q g e)
+
+pub counted_begins : (m : List ℕ) (n at c : ℕ) → at ≤ 8 * length m → c + n ≤ 255 → BodyWalk m (counted_on m n at c) at (n - 0) c
+counted_begins m n at c h l = let z : n ≡ n - 0 = omega arith in subst (λ (k : ℕ). BodyWalk m (counted_on m n at c) at k c) z (body_resumes m n at c h l)
+
+pub ruleset bodies = (counted_begins, counted_done, counted_fits, counted_bad, counted_more)
 
 -- ---- a place in a sight
 

@@ -1,16 +1,13 @@
 -- What the code answers of an element that was due.
-use Rattle.std.specs.Prelude.{ℕ, ◌+◌, ◌*◌, ◌/◌, ◌%◌, ◌^◌, ◌≤◌, ◌<◌, Bool, true, ◌≡◌, List, [], ◌∷◌, ◌++◌, length, drop, eqb}
+use Rattle.std.specs.Prelude.{ℕ, ◌+◌, ◌*◌, ◌/◌, ◌%◌, ◌^◌, ◌≤◌, ◌<◌, Bool, true, ◌≡◌, List, [], ◌∷◌, ◌++◌, length, drop, eqb, Result, Ok, Err}
 use Rattle.bits.specs.Choice.{pick}
 use Rattle.bits.specs.Bits.{bits_of, field, place_after}
 use Rattle.bits.specs.Places.{place, octet_count}
-use Rattle.tone_elements.specs.declared.Step.{Step}
-use Rattle.tone_elements.specs.declared.Step.TheVariants.{Good, Bad}
-use Rattle.tone_elements.specs.declared.Command.{Command}
-use Rattle.tone_elements.specs.declared.Command.TheVariants.{Announced, Withheld}
-use Rattle.tone_elements.specs.declared.Characters.{Characters}
-use Rattle.tone_elements.specs.declared.Characters.TheVariants.{Present, Faulty}
+use Rattle.bits.specs.Refusals.{refusal}
+use Rattle.bits.specs.declared.refusal.Refusal.{Refusal}
+use Rattle.bits.specs.declared.OctetCount.{OctetCount}
+use Rattle.tone_elements.specs.declared.Seen.{Seen}
 use Rattle.tone_elements.specs.declared.Opening.{Opening}
-use Rattle.tone_elements.specs.declared.Opening.TheVariants.{Opened, Closed}
 use Rattle.tone.specs.Table.{kind, InTable}
 use Rattle.tone.specs.Tone.{Front, character_bits, allowed_character}
 use Rattle.tone.specs.Writing.{entry_bits}
@@ -25,14 +22,14 @@ pub record Within (m : List ℕ) (at : ℕ) : Type 0 where
 abbrev pub all_known : List Bool
 all_known = true ∷ true ∷ true ∷ true ∷ []
 
--- what was read, as the number that f makes of it, or the refusal
-abbrev pub step_as : {A : Type 0} → (A → ℕ) → Got A → Step
-step_as f (got a p) = Good (f a) (place p)
-step_as f (bad n p e) = Bad n (place p)
+-- what was read, as the value that f makes of it, or the refusal
+abbrev pub seen_as : {A B : Type 0} → (A → B) → Got A → Result (Seen B) Refusal
+seen_as f (got a p) = Ok (record { value = f a; next = place p })
+seen_as f (bad n p e) = Err (refusal n p)
 
--- a number that was read, or the refusal
-abbrev pub step_of : Got ℕ → Step
-step_of g = step_as (λ v. v) g
+-- what was read as it is, or the refusal
+abbrev pub seen_of : {A : Type 0} → Got A → Result (Seen A) Refusal
+seen_of g = seen_as (λ v. v) g
 
 -- 1 for a note or pause, 0 for any other instruction
 abbrev pub note_in : ℕ → ℕ
@@ -43,15 +40,9 @@ abbrev pub notes : List ℕ → ℕ
 notes [] = 0
 notes (e ∷ b) = note_in e + notes b
 
--- whether UNICODE is announced, or the refusal
-abbrev pub command_of : Got Bool → Command
-command_of (got u p) = Announced u (place p)
-command_of (bad n p e) = Withheld n (place p)
-
 -- how many octets a title's characters are, or the refusal
-abbrev pub characters_of : Got (List ℕ) → Characters
-characters_of (got t p) = Present (place p) (octet_count (length t))
-characters_of (bad n p e) = Faulty (place p) n
+abbrev pub characters_of : Got (List ℕ) → Result (Seen OctetCount) Refusal
+characters_of g = seen_as (λ t. octet_count (length t)) g
 
 -- a test that is sure where it passes
 pub record Sure (r : Bool) (P : Type 0) : Type 0 where
@@ -71,10 +62,13 @@ pub record AllowedAt (m : List ℕ) (at : ℕ) (unicode : Bool) (n : ℕ) : Type
   pub there : at + n * character_bits unicode ≤ place_after (length m)
   pub each : (i : ℕ) → i < n → allowed_character (field (bits_of m) (at + i * character_bits unicode) (character_bits unicode)) ≡ true
 
--- the front as the code answers it, or the refusal
-abbrev pub opening_of : Got Front → Opening
-opening_of (got f p) = Opened f.song (place p) (octet_count (length f.title)) f.count f.unicode
-opening_of (bad n p e) = Closed n (place p)
+-- the front as the code answers it
+abbrev pub opening : Front → Opening
+opening f = record { song = f.song; octets = octet_count (length f.title); count = f.count; unicode = f.unicode }
+
+-- the same, or the refusal
+abbrev pub opening_of : Got Front → Result (Seen Opening) Refusal
+opening_of g = seen_as opening g
 
 -- ---- what stands at a place of a message that was judged
 

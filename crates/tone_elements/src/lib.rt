@@ -3,52 +3,31 @@
 ghost use Rattle.std.specs.Prelude.{◌≡◌, ℕ, ◌+◌, ◌-◌, ◌*◌, ◌/◌, ◌%◌, ◌^◌, ◌≤◌, ◌<◌, length, drop, eqb, Bool, List};
 ghost use Rattle.std.specs.Int.Bits.{bit_and, bit_xor};
 ghost use Rattle.bits.specs.Bits.{bits_of, place_after};
+ghost use Rattle.bits.specs.Refusals.{number_of};
 ghost use Rattle.bits.specs.Window.{Look, fills};
 ghost use Rattle.tone.specs.Table.{width as width_of, allowed as allowedOf};
 ghost use Rattle.tone.specs.Tone.{per_character, character_bits, allowed_character};
 ghost use Rattle.tone.specs.Reading.{element, any_of, filled, sound_part, parts as partsDue, command, text as textDue, title as titleDue, titled as titledDue, front};
 ghost use Rattle.tone.specs.Reading.{header_due, instruction_due, body_due, ending as endingDue};
-ghost use Rattle.tone_elements.specs.Answers.{Within, all_known, step_as, step_of, command_of, note_in, notes as notes_of, characters_of, opening_of, SomeEntry, EntryAt, Passed};
+ghost use Rattle.tone_elements.specs.Answers.{Within, all_known, seen_as, seen_of, note_in, notes as notes_of, characters_of, opening_of, SomeEntry, EntryAt, Passed};
 ghost use Rattle.tone_elements.specs.Answers.{Sure, Complete, BothAllowed, AllowedAt};
 
-use bits::{BitPlace, OctetCount};
+use bits::{BitPlace, Ground, OctetCount, Refusal};
 
-// An element that was due: its number and the place behind it, or the refusal's number and place.
+// What was read at a place, and the place behind it.
 #[derive(Clone, Copy)]
-pub enum Step {
-    Good { value: u32, next: BitPlace },
-    Bad { number: u32, at: BitPlace },
+pub struct Seen<T> {
+    pub value: T,
+    pub next: BitPlace,
 }
 
-// A message's command: UNICODE or not, and the place behind it; or the refusal.
+// The front of a message: song type, the title's octets, the pattern count, UNICODE or not.
 #[derive(Clone, Copy)]
-pub enum Command {
-    Announced { unicode: bool, next: BitPlace },
-    Withheld { number: u32, at: BitPlace },
-}
-
-// The characters of a title: the place behind them and how many octets they are; or the refusal.
-#[derive(Clone, Copy)]
-pub enum Characters {
-    Present { next: BitPlace, octets: OctetCount },
-    Faulty { at: BitPlace, number: u32 },
-}
-
-// The front of a message: song type, the place behind it, the title's octets, the pattern count, UNICODE or not; or the
-// refusal. The first fields of the cases are alike, so that an answer is copied whole.
-#[derive(Clone, Copy)]
-pub enum Opening {
-    Opened {
-        song: u32,
-        next: BitPlace,
-        octets: OctetCount,
-        count: u32,
-        unicode: bool,
-    },
-    Closed {
-        number: u32,
-        at: BitPlace,
-    },
+pub struct Opening {
+    pub song: u32,
+    pub octets: OctetCount,
+    pub count: u32,
+    pub unicode: bool,
 }
 
 // An entry that stands at a place, and the place behind it.
@@ -67,39 +46,32 @@ fn left(msg: &[u8], at: BitPlace) -> usize
 }
 
 // An element of `w` bits in which any code is allowed.
-pub fn any(msg: &[u8], at: BitPlace, w: u32) -> Step
+pub fn any(msg: &[u8], at: BitPlace, w: u32) -> Result<Seen<u32>, Refusal>
     requires within { Within msg.now at.0 }
     requires le_w { (1 ≤ w) × (w ≤ 24) }
-    ensures { result ≡ step_of (any_of w (bits_of msg.now) at.0) }
+    ensures { result ≡ seen_of (any_of w (bits_of msg.now) at.0) }
 {
     if left(msg, at) < w as usize {
-        return Step::Bad { number: 2, at };
+        return Err(Ground::CutShort.at(at));
     }
     let x = bits::look(msg, at);
-    Step::Good {
+    Ok(Seen {
         value: bits::part(x, 0, w),
         next: BitPlace(at.0 + w as usize),
-    }
+    })
 }
 
-// An element of `w` bits in which one code is due, and any other is the refusal `number`.
-pub fn due(msg: &[u8], at: BitPlace, w: u32, code: u32, number: u32) -> Step
+// An element of `w` bits in which one code is due, and any other is refused on a ground.
+fn due(msg: &[u8], at: BitPlace, w: u32, code: u32, why: Ground) -> Result<Seen<u32>, Refusal>
     requires within { Within msg.now at.0 }
     requires le_w { (1 ≤ w) × (w ≤ 24) }
-    ensures { result ≡ step_of (element w (eqb code) number (bits_of msg.now) at.0) }
+    ensures { result ≡ seen_of (element w (eqb code) (number_of why) (bits_of msg.now) at.0) }
 {
-    if left(msg, at) < w as usize {
-        return Step::Bad { number: 2, at };
+    let seen = any(msg, at, w)?;
+    if seen.value == code {
+        return Ok(seen);
     }
-    let x = bits::look(msg, at);
-    let value = bits::part(x, 0, w);
-    if code == value {
-        return Step::Good {
-            value,
-            next: BitPlace(at.0 + w as usize),
-        };
-    }
-    Step::Bad { number, at }
+    Err(why.at(at))
 }
 
 // How many payload bits a kind has: 14, 9, 2, 2, 5, 4, four bits of one number for each, kind 0 lowest. An array would be
@@ -128,40 +100,34 @@ pub fn allowed(kind: u32, payload: u32) -> bool
 }
 
 // The rest of an instruction, `w` bits behind its id. `x` was seen at its place.
-fn payload(msg: &[u8], at: BitPlace, x: u32, kind: u32, w: u32) -> Step
+fn payload(msg: &[u8], at: BitPlace, x: u32, kind: u32, w: u32) -> Result<Seen<u32>, Refusal>
     requires within { Within msg.now at.0 }
     requires look { Look (drop at.0 (bits_of msg.now)) x }
     requires at_bound { (at.0 + 3 ≤ place_after (length msg.now)) × (kind ≡ x / 2097152) × (1 ≤ kind) × (kind ≤ 5) }
     requires w_value { (w ≡ width_of kind) × (w ≤ 14) }
-    ensures { result ≡ step_of (instruction_due (bits_of msg.now) at.0) }
+    ensures { result ≡ seen_of (instruction_due (bits_of msg.now) at.0) }
 {
     let rest = BitPlace(at.0 + 3);
     if left(msg, at) < 3 + w as usize {
-        return Step::Bad {
-            number: 2,
-            at: rest,
-        };
+        return Err(Ground::CutShort.at(rest));
     }
     let code = bits::part(x, 3, w);
     if allowed(kind, code) {
-        return Step::Good {
+        return Ok(Seen {
             value: kind * 65536 + code,
             next: BitPlace(at.0 + 3 + w as usize),
-        };
+        });
     }
-    Step::Bad {
-        number: 6,
-        at: rest,
-    }
+    Err(Ground::Code.at(rest))
 }
 
 // An instruction: its id, and then the rest of it. Most are notes: told first, the next place does not wait for a width.
-pub fn instruction(msg: &[u8], at: BitPlace) -> Step
+pub fn instruction(msg: &[u8], at: BitPlace) -> Result<Seen<u32>, Refusal>
     requires { Within msg.now at.0 }
-    ensures { result ≡ step_of (instruction_due (bits_of msg.now) at.0) }
+    ensures { result ≡ seen_of (instruction_due (bits_of msg.now) at.0) }
 {
     if left(msg, at) < 3 {
-        return Step::Bad { number: 2, at };
+        return Err(Ground::CutShort.at(at));
     }
     let x = bits::look(msg, at);
     let kind = x / 2097152;
@@ -169,37 +135,34 @@ pub fn instruction(msg: &[u8], at: BitPlace) -> Step
         return payload(msg, at, x, 1, 9);
     }
     if kind == 0 {
-        return Step::Bad { number: 6, at };
+        return Err(Ground::Code.at(at));
     }
     if 5 < kind {
-        return Step::Bad { number: 6, at };
+        return Err(Ground::Code.at(at));
     }
     payload(msg, at, x, kind, width(kind))
 }
 
 // A header: its id, and then the rest of it. Whether it may recall what it recalls is not told here.
-pub fn header(msg: &[u8], at: BitPlace) -> Step
+pub fn header(msg: &[u8], at: BitPlace) -> Result<Seen<u32>, Refusal>
     requires { Within msg.now at.0 }
-    ensures { result ≡ step_of (header_due all_known (bits_of msg.now) at.0) }
+    ensures { result ≡ seen_of (header_due all_known (bits_of msg.now) at.0) }
 {
     let rest = left(msg, at);
     if rest < 3 {
-        return Step::Bad { number: 2, at };
+        return Err(Ground::CutShort.at(at));
     }
     let x = bits::look(msg, at);
     if x / 2097152 != 0 {
-        return Step::Bad { number: 6, at };
+        return Err(Ground::Code.at(at));
     }
     if rest < 17 {
-        return Step::Bad {
-            number: 2,
-            at: BitPlace(at.0 + 3),
-        };
+        return Err(Ground::CutShort.at(BitPlace(at.0 + 3)));
     }
-    Step::Good {
+    Ok(Seen {
         value: x / 128,
         next: BitPlace(at.0 + 17),
-    }
+    })
 }
 
 // ---- the patterns
@@ -212,30 +175,22 @@ pub fn note_in(cell: u32) -> u32
 }
 
 // `n` instructions one by one, with `c` notes so far. The number is how many notes and pauses there are then.
-fn singly(msg: &[u8], at: BitPlace, n: u32, c: u32) -> Step
+fn singly(msg: &[u8], at: BitPlace, n: u32, c: u32) -> Result<Seen<u32>, Refusal>
     requires within { Within msg.now at.0 }
     requires n_bound { c + n ≤ 255 }
-    ensures { result ≡ step_as (λ b. c + notes_of b) (body_due n (bits_of msg.now) at.0) }
+    ensures { result ≡ seen_as (λ b. c + notes_of b) (body_due n (bits_of msg.now) at.0) }
 {
     let mut place = at;
-    let mut left = n;
     let mut notes = c;
-    while 0 < left {
-        match instruction(msg, place) {
-            Step::Bad { number, at: fault } => {
-                return Step::Bad { number, at: fault };
-            }
-            Step::Good { value, next } => {
-                notes += note_in(value);
-                place = next;
-                left -= 1;
-            }
-        }
+    for _ in 0..n {
+        let seen = instruction(msg, place)?;
+        notes += note_in(seen.value);
+        place = seen.next;
     }
-    Step::Good {
+    Ok(Seen {
         value: notes,
         next: place,
-    }
+    })
 }
 
 // How many of the instructions to come one sight holds.
@@ -249,10 +204,10 @@ pub fn turn(more: u32) -> u32
 // `n` instructions. The number is how many of them are notes or pauses. Four are told at a turn, from one load and without a
 // branch for their kinds. Where one of them is faulty, or where less than the end octet is left behind them, those to come
 // are judged one by one.
-pub fn body(msg: &[u8], at: BitPlace, n: u32) -> Step
+pub fn body(msg: &[u8], at: BitPlace, n: u32) -> Result<Seen<u32>, Refusal>
     requires within { Within msg.now at.0 }
     requires n_bound { n ≤ 255 }
-    ensures { result ≡ step_as notes_of (body_due n (bits_of msg.now) at.0) }
+    ensures { result ≡ seen_as notes_of (body_due n (bits_of msg.now) at.0) }
 {
     let mut place = at;
     let mut more = n;
@@ -270,91 +225,77 @@ pub fn body(msg: &[u8], at: BitPlace, n: u32) -> Step
         notes += told.notes;
         more -= k;
     }
-    Step::Good {
+    Ok(Seen {
         value: notes,
         next: place,
-    }
+    })
 }
 
 // ---- the front
 
 // A command part of seven bits, and the filler bit behind it.
-fn filled_part(msg: &[u8], at: BitPlace, code: u32) -> Step
+fn filled_part(msg: &[u8], at: BitPlace, code: u32) -> Result<Seen<u32>, Refusal>
     requires { Within msg.now at.0 }
-    ensures { result ≡ step_of (filled code (bits_of msg.now) at.0) }
+    ensures { result ≡ seen_of (filled code (bits_of msg.now) at.0) }
 {
-    match due(msg, at, 7, code, 3) {
-        Step::Bad { number, at: fault } => Step::Bad { number, at: fault },
-        Step::Good { value: _, next } => due(msg, next, 1, 0, 8),
-    }
+    let part = due(msg, at, 7, code, Ground::Command)?;
+    due(msg, part.next, 1, 0, Ground::Filler)
 }
 
 // The sound part, with no filler behind it.
-fn sound_part(msg: &[u8], at: BitPlace, unicode: bool) -> Command
+fn sound_part(msg: &[u8], at: BitPlace, unicode: bool) -> Result<Seen<bool>, Refusal>
     requires { Within msg.now at.0 }
-    ensures { result ≡ command_of (sound_part unicode (bits_of msg.now) at.0) }
+    ensures { result ≡ seen_of (sound_part unicode (bits_of msg.now) at.0) }
 {
-    match due(msg, at, 7, 29, 3) {
-        Step::Bad { number, at: fault } => Command::Withheld { number, at: fault },
-        Step::Good { value: _, next } => Command::Announced { unicode, next },
-    }
+    let part = due(msg, at, 7, 29, Ground::Command)?;
+    Ok(Seen {
+        value: unicode,
+        next: part.next,
+    })
 }
 
-// The parts that a command length of 2 or 3 announces.
-fn parts(msg: &[u8], at: BitPlace, length: u32) -> Command
+// The parts that a command length of 2 or 3 announces: UNICODE or not.
+fn parts(msg: &[u8], at: BitPlace, length: u32) -> Result<Seen<bool>, Refusal>
     requires { Within msg.now at.0 }
-    ensures { result ≡ command_of (partsDue length (bits_of msg.now) at.0) }
+    ensures { result ≡ seen_of (partsDue length (bits_of msg.now) at.0) }
 {
-    match filled_part(msg, at, 37) {
-        Step::Bad { number, at: fault } => Command::Withheld { number, at: fault },
-        Step::Good { value: _, next } => {
-            if length != 3 {
-                return sound_part(msg, next, false);
-            }
-            match filled_part(msg, next, 34) {
-                Step::Bad { number, at: fault } => Command::Withheld { number, at: fault },
-                Step::Good {
-                    value: _,
-                    next: behind,
-                } => sound_part(msg, behind, true),
-            }
-        }
+    let programming = filled_part(msg, at, 37)?;
+    if length != 3 {
+        return sound_part(msg, programming.next, false);
     }
+    let unicode = filled_part(msg, programming.next, 34)?;
+    sound_part(msg, unicode.next, true)
 }
 
 // The command, element by element.
-fn spelled(msg: &[u8], at: BitPlace) -> Command
+fn spelled(msg: &[u8], at: BitPlace) -> Result<Seen<bool>, Refusal>
     requires { Within msg.now at.0 }
-    ensures { result ≡ command_of (command (bits_of msg.now) at.0) }
+    ensures { result ≡ seen_of (command (bits_of msg.now) at.0) }
 {
-    match any(msg, at, 8) {
-        Step::Bad { number, at: fault } => Command::Withheld { number, at: fault },
-        Step::Good { value, next } => {
-            if value == 2 {
-                return parts(msg, next, value);
-            }
-            if value == 3 {
-                return parts(msg, next, value);
-            }
-            Command::Withheld { number: 3, at }
-        }
+    let length = any(msg, at, 8)?;
+    if length.value == 2 {
+        return parts(msg, length.next, length.value);
     }
+    if length.value == 3 {
+        return parts(msg, length.next, length.value);
+    }
+    Err(Ground::Command.at(at))
 }
 
-// The command up to the sound part. Without UNICODE it is 23 bits that can be told at once: 00000010 for the length,
-// 0100101 for the programming part, a filler bit, 0011101 for the sound part.
-pub fn announced(msg: &[u8], at: BitPlace) -> Command
+// The command up to the sound part: UNICODE or not. Without UNICODE it is 23 bits that can be told at once: 00000010 for the
+// length, 0100101 for the programming part, a filler bit, 0011101 for the sound part.
+pub fn announced(msg: &[u8], at: BitPlace) -> Result<Seen<bool>, Refusal>
     requires { Within msg.now at.0 }
-    ensures { result ≡ command_of (command (bits_of msg.now) at.0) }
+    ensures { result ≡ seen_of (command (bits_of msg.now) at.0) }
 {
     if left(msg, at) < 23 {
         return spelled(msg, at);
     }
     if bits::look(msg, at) / 2 == 75037 {
-        return Command::Announced {
-            unicode: false,
+        return Ok(Seen {
+            value: false,
             next: BitPlace(at.0 + 23),
-        };
+        });
     }
     spelled(msg, at)
 }
@@ -399,44 +340,36 @@ fn allowed_character(c: u32) -> bool
 }
 
 // A title's character, judged once it is complete.
-fn character(msg: &[u8], at: BitPlace, unicode: bool) -> Step
+fn character(msg: &[u8], at: BitPlace, unicode: bool) -> Result<Seen<u32>, Refusal>
     requires { Within msg.now at.0 }
-    ensures { result ≡ step_of (element (character_bits unicode) allowed_character 21 (bits_of msg.now) at.0) }
+    ensures { result ≡ seen_of (element (character_bits unicode) allowed_character 21 (bits_of msg.now) at.0) }
 {
-    match any(msg, at, character_bits(unicode)) {
-        Step::Bad { number, at: fault } => Step::Bad { number, at: fault },
-        Step::Good { value, next } => {
-            if allowed_character(value) {
-                return Step::Good { value, next };
-            }
-            Step::Bad { number: 21, at }
-        }
+    let seen = any(msg, at, character_bits(unicode))?;
+    if allowed_character(seen.value) {
+        return Ok(seen);
     }
+    Err(Ground::Character.at(at))
 }
 
-// `n` characters one by one.
-pub fn lettered(msg: &[u8], at: BitPlace, unicode: bool, n: u32) -> Characters
+// `n` characters one by one. The number is how many octets they are.
+pub fn lettered(
+    msg: &[u8],
+    at: BitPlace,
+    unicode: bool,
+    n: u32,
+) -> Result<Seen<OctetCount>, Refusal>
     requires within { Within msg.now at.0 }
     requires n_bound { n ≤ 15 }
     ensures { result ≡ characters_of (textDue unicode n (bits_of msg.now) at.0) }
 {
     let mut place = at;
-    let mut more = n;
-    while 0 < more {
-        match character(msg, place, unicode) {
-            Step::Bad { number, at: fault } => {
-                return Characters::Faulty { at: fault, number };
-            }
-            Step::Good { value: _, next } => {
-                place = next;
-                more -= 1;
-            }
-        }
+    for _ in 0..n {
+        place = character(msg, place, unicode)?.next;
     }
-    Characters::Present {
+    Ok(Seen {
+        value: OctetCount(n as usize * character_octets(unicode).0),
         next: place,
-        octets: OctetCount(n as usize * character_octets(unicode).0),
-    }
+    })
 }
 
 // Lanes of a number, told at once: the highest bit of each is set where it has a bit of `some` and differs from `other`.
@@ -532,129 +465,100 @@ pub fn all_allowed(msg: &[u8], at: BitPlace, unicode: bool, n: u32) -> bool
 }
 
 // `n` characters. Most titles are told a few characters at a time.
-fn text(msg: &[u8], at: BitPlace, unicode: bool, n: u32) -> Characters
+fn text(msg: &[u8], at: BitPlace, unicode: bool, n: u32) -> Result<Seen<OctetCount>, Refusal>
     requires within { Within msg.now at.0 }
     requires n_bound { n ≤ 15 }
     ensures { result ≡ characters_of (textDue unicode n (bits_of msg.now) at.0) }
 {
     if all_allowed(msg, at, unicode, n) {
-        return Characters::Present {
+        return Ok(Seen {
+            value: OctetCount(n as usize * character_octets(unicode).0),
             next: BitPlace(at.0 + span(unicode, n)),
-            octets: OctetCount(n as usize * character_octets(unicode).0),
-        };
+        });
     }
     lettered(msg, at, unicode, n)
 }
 
 // The title of a basic song; a temporary one has none.
-fn title(msg: &[u8], at: BitPlace, song: u32, unicode: bool) -> Characters
+fn title(msg: &[u8], at: BitPlace, song: u32, unicode: bool) -> Result<Seen<OctetCount>, Refusal>
     requires { Within msg.now at.0 }
     ensures { result ≡ characters_of (titleDue song unicode (bits_of msg.now) at.0) }
 {
     if song != 1 {
-        return Characters::Present {
+        return Ok(Seen {
+            value: OctetCount(0),
             next: at,
-            octets: OctetCount(0),
-        };
+        });
     }
-    match any(msg, at, 4) {
-        Step::Bad { number, at: fault } => Characters::Faulty { at: fault, number },
-        Step::Good { value, next } => text(msg, next, unicode, value),
-    }
+    let length = any(msg, at, 4)?;
+    text(msg, length.next, unicode, length.value)
 }
 
 // The title and the pattern count behind it.
-fn titled(msg: &[u8], at: BitPlace, song: u32, unicode: bool) -> Opening
+fn titled(msg: &[u8], at: BitPlace, song: u32, unicode: bool) -> Result<Seen<Opening>, Refusal>
     requires { Within msg.now at.0 }
     ensures { result ≡ opening_of (titledDue song unicode (bits_of msg.now) at.0) }
 {
-    match title(msg, at, song, unicode) {
-        Characters::Faulty { at: fault, number } => Opening::Closed { number, at: fault },
-        Characters::Present {
-            next: behind,
-            octets,
-        } => match any(msg, behind, 8) {
-            Step::Bad { number, at: fault } => Opening::Closed { number, at: fault },
-            Step::Good { value, next } => {
-                if value == 0 {
-                    return Opening::Closed {
-                        number: 5,
-                        at: behind,
-                    };
-                }
-                Opening::Opened {
-                    song,
-                    next,
-                    octets,
-                    count: value,
-                    unicode,
-                }
-            }
-        },
+    let title = title(msg, at, song, unicode)?;
+    let count = any(msg, title.next, 8)?;
+    if count.value == 0 {
+        return Err(Ground::NoPattern.at(title.next));
     }
+    Ok(Seen {
+        value: Opening {
+            song,
+            octets: title.value,
+            count: count.value,
+            unicode,
+        },
+        next: count.next,
+    })
 }
 
 // The command, the song type, the title and the pattern count.
-pub fn open(msg: &[u8], at: BitPlace) -> Opening
+pub fn open(msg: &[u8], at: BitPlace) -> Result<Seen<Opening>, Refusal>
     requires { Within msg.now at.0 }
     ensures { result ≡ opening_of (front (bits_of msg.now) at.0) }
 {
-    match announced(msg, at) {
-        Command::Withheld { number, at: fault } => Opening::Closed { number, at: fault },
-        Command::Announced { unicode, next } => match any(msg, next, 3) {
-            Step::Bad { number, at: fault } => Opening::Closed { number, at: fault },
-            Step::Good {
-                value,
-                next: behind,
-            } => {
-                if value == 0 {
-                    return Opening::Closed {
-                        number: 4,
-                        at: next,
-                    };
-                }
-                if 2 < value {
-                    return Opening::Closed {
-                        number: 4,
-                        at: next,
-                    };
-                }
-                titled(msg, behind, value, unicode)
-            }
-        },
+    let command = announced(msg, at)?;
+    let song = any(msg, command.next, 3)?;
+    if song.value == 0 {
+        return Err(Ground::SongType.at(command.next));
     }
+    if 2 < song.value {
+        return Err(Ground::SongType.at(command.next));
+    }
+    titled(msg, song.next, song.value, command.value)
 }
 
 // ---- the end
 
 // Filler to an octet's boundary, and the end octet, element by element.
-fn ended(msg: &[u8], at: BitPlace) -> Step
+fn ended(msg: &[u8], at: BitPlace) -> Result<Seen<u32>, Refusal>
     requires { Within msg.now at.0 }
-    ensures { result ≡ step_of (endingDue (bits_of msg.now) at.0) }
+    ensures { result ≡ seen_of (endingDue (bits_of msg.now) at.0) }
 {
     let reached = bits::place_after(bits::octets_to(at));
     let filler = (reached.0 - at.0) as u32;
     if filler == 0 {
-        return due(msg, at, 8, 0, 9);
+        return due(msg, at, 8, 0, Ground::EndOctet);
     }
-    match due(msg, at, filler, 0, 8) {
-        Step::Bad { number, at: fault } => Step::Bad { number, at: fault },
-        Step::Good { value: _, next } => due(msg, next, 8, 0, 9),
-    }
+    let run = due(msg, at, filler, 0, Ground::Filler)?;
+    due(msg, run.next, 8, 0, Ground::EndOctet)
 }
 
 // The same. Where both are there and 0, it is told by two octets.
-pub fn ending(msg: &[u8], at: BitPlace) -> Step
+pub fn ending(msg: &[u8], at: BitPlace) -> Result<Seen<u32>, Refusal>
     requires { Within msg.now at.0 }
-    ensures { result ≡ step_of (endingDue (bits_of msg.now) at.0) }
+    ensures { result ≡ seen_of (endingDue (bits_of msg.now) at.0) }
 {
     let reached = bits::octets_to(at).0;
     if reached < msg.len() {
         if bits::through_octet(msg, at) == 0 {
-            return Step::Good {
+            return Ok(Seen {
                 value: 0,
                 next: bits::place_after(OctetCount(reached + 1)),
-            };
+            });
         }
     }
     ended(msg, at)

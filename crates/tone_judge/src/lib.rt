@@ -4,15 +4,15 @@ ghost use Rattle.std.specs.Prelude.{◌≡◌, ◌+◌, ◌%◌, ◌≤◌};
 ghost use Rattle.bits.specs.Bits.{bits_of};
 ghost use Rattle.tone.specs.Tone.{none_known};
 ghost use Rattle.tone.specs.Reading.{read_tone, front as frontDue, patterns_due, ending as endingDue, whole_tone};
-ghost use Rattle.tone_elements.specs.Answers.{Within, step_of, opening_of, notes as notes_of};
+ghost use Rattle.tone_elements.specs.Answers.{Within, seen_as, seen_of, opening_of, notes as notes_of};
 ghost use Rattle.tone_elements.specs.Standing.{body_in, behind_in, BodyAt, PartAt};
 ghost use Rattle.tone_judge.specs.Wishes.{no_cut, left_at, OwnOf, Owned};
-ghost use Rattle.tone_judge.specs.Answers.{single_of, total_to, total_of, tally_as, whole_of, judged_for, judged_of};
+ghost use Rattle.tone_judge.specs.Answers.{single_of, total_to, total_of, whole_of, judged_for, judged_of};
 
-use bits::{BitPlace, OctetCount};
+use bits::{BitPlace, Ground, OctetCount, Refusal};
 use edit_change::Edit;
-use list_count::{Count, Part};
-use tone_elements::{Opening, Step};
+use list_count::Count;
+use tone_elements::{Opening, Seen};
 
 // A message and the place reached in it.
 #[derive(Clone, Copy)]
@@ -50,57 +50,23 @@ pub struct Total {
     pub cut: Cut,
 }
 
-// A pattern that was judged by itself: its header, the place behind it, and the notes of its own instructions; or the
-// refusal.
+// A pattern that was judged by itself: its header, and the notes of its own instructions.
 #[derive(Clone, Copy)]
-pub enum Single {
-    Fine { cell: u32, next: BitPlace, own: u32 },
-    Fault { number: u32, at: BitPlace },
+pub struct Single {
+    pub cell: u32,
+    pub own: u32,
 }
 
-// Patterns that were judged: the place behind what was read, and what they come to; or the refusal. Here and below the
-// cases of an answer have their first fields alike, so that it is copied whole.
+// A tone that was judged: song type, the place of the first pattern, the title's octets, the patterns, what they come to,
+// UNICODE or not.
 #[derive(Clone, Copy)]
-pub enum Tally {
-    Counted { next: BitPlace, total: Total },
-    Stopped { at: BitPlace, number: u32 },
-}
-
-// A message that was judged: song type, the place of the first pattern, the title's octets, the patterns, what they come
-// to, UNICODE or not; or the refusal.
-#[derive(Clone, Copy)]
-pub enum Judged {
-    Sound {
-        song: u32,
-        at: BitPlace,
-        octets: OctetCount,
-        patterns: u32,
-        total: Total,
-        unicode: bool,
-    },
-    Faulty {
-        number: u32,
-        at: BitPlace,
-    },
-}
-
-// A tone that was judged where it stands, through its own end octet: the place behind it, and what a message that was judged
-// has; or the refusal.
-#[derive(Clone, Copy)]
-pub enum Whole {
-    Ended {
-        next: BitPlace,
-        song: u32,
-        at: BitPlace,
-        octets: OctetCount,
-        patterns: u32,
-        total: Total,
-        unicode: bool,
-    },
-    Broken {
-        at: BitPlace,
-        number: u32,
-    },
+pub struct Judged {
+    pub song: u32,
+    pub at: BitPlace,
+    pub octets: OctetCount,
+    pub patterns: u32,
+    pub total: Total,
+    pub unicode: bool,
 }
 
 // ---- an edit in mind
@@ -212,24 +178,19 @@ fn left_at(n: u32, k: usize) -> u32
 // ---- judging
 
 // Judges the pattern at a place: its header, whatever part that recalls, and its instructions.
-fn pattern(msg: &[u8], at: BitPlace) -> Single
+fn pattern(msg: &[u8], at: BitPlace) -> Result<Seen<Single>, Refusal>
     requires { Within msg.now at.0 }
     ensures { result ≡ single_of (bits_of msg.now) at.0 }
 {
-    match tone_elements::header(msg, at) {
-        Step::Bad { number, at: fault } => Single::Fault { number, at: fault },
-        Step::Good { value, next } => match tone_elements::body(msg, next, value % 256) {
-            Step::Bad { number, at: fault } => Single::Fault { number, at: fault },
-            Step::Good {
-                value: own,
-                next: behind,
-            } => Single::Fine {
-                cell: value,
-                next: behind,
-                own,
-            },
+    let header = tone_elements::header(msg, at)?;
+    let body = tone_elements::body(msg, header.next, header.value % 256)?;
+    Ok(Seen {
+        value: Single {
+            cell: header.value,
+            own: body.value,
         },
-    }
+        next: body.next,
+    })
 }
 
 impl Total {
@@ -249,51 +210,41 @@ impl Total {
 
 // Judges `n` patterns and counts what they come to. The four parts, A to D, are kept as they are counted: a recall of one that
 // is not yet defined is refused at its payload, behind the three bits of its id.
-fn patterns(msg: &[u8], at: BitPlace, n: u32, wish: Wish) -> Tally
+fn patterns(msg: &[u8], at: BitPlace, n: u32, wish: Wish) -> Result<Seen<Total>, Refusal>
     requires within { Within msg.now at.0 }
     requires n_bound { n ≤ 255 }
-    ensures { result ≡ tally_as (total_of wish at.0) (patterns_due n none_known (bits_of msg.now) at.0) }
+    ensures { result ≡ seen_as (total_of wish at.0) (patterns_due n none_known (bits_of msg.now) at.0) }
 {
     let named = left_at(n, wish.pattern);
-    let mut parts = [Part::Unknown; 4];
+    let mut parts = [None; 4];
     let mut place = at;
     let mut left = n;
     let mut table: u32 = 0;
     let mut count = Count::none();
     let mut cut = Cut::none();
     while 0 < left {
-        match pattern(msg, place) {
-            Single::Fault { number, at: fault } => {
-                return Tally::Stopped { at: fault, number };
-            }
-            Single::Fine { cell, next, own } => {
-                let wished = own_part(msg, left == named, place, cell, own, wish, cut);
-                let id = (cell / 4096 % 4) as usize;
-                let part = list_count::part_after(parts[id], cell, wished.notes);
-                // A recall's part stays as it is: a store that is not needed makes the next read of it wait.
-                if cell % 256 != 0 {
-                    parts[id] = part;
-                }
-                match part {
-                    Part::Unknown => {
-                        return Tally::Stopped {
-                            at: BitPlace(place.0 + 3),
-                            number: 7,
-                        };
-                    }
-                    Part::Known { notes } => {
-                        count = count.with(notes, cell / 256 % 16);
-                    }
-                }
-                table += 1 + cell % 256;
-                cut = wished.cut;
-                place = next;
-                left -= 1;
-            }
+        let single = pattern(msg, place)?;
+        let cell = single.value.cell;
+        let wished = own_part(msg, left == named, place, cell, single.value.own, wish, cut);
+        let id = (cell / 4096 % 4) as usize;
+        let part = list_count::part_after(parts[id], cell, wished.notes);
+        // A recall's part stays as it is: a store that is not needed makes the next read of it wait.
+        if cell % 256 != 0 {
+            parts[id] = part;
         }
+        let Some(notes) = part else {
+            return Err(Ground::NoRecall.at(BitPlace(place.0 + 3)));
+        };
+        count = count.with(notes, cell / 256 % 16);
+        table += 1 + cell % 256;
+        cut = wished.cut;
+        place = single.next;
+        left -= 1;
     }
-    let total = Total::up_to(place, table, count, cut);
-    Tally::Counted { next: place, total }
+    Ok(Seen {
+        value: Total::up_to(place, table, count, cut),
+        next: place,
+    })
 }
 
 // ---- a reader on its way
@@ -316,7 +267,7 @@ pub fn behind<'a>(r: Reader<'a>, at: BitPlace) -> Reader<'a>
 }
 
 // The front that stands at a reader's place.
-pub fn front<'a>(r: Reader<'a>) -> Opening
+pub fn front<'a>(r: Reader<'a>) -> Result<Seen<Opening>, Refusal>
     requires { Within r.msg.now r.at.0 }
     ensures { result ≡ opening_of (frontDue (bits_of r.entry.msg.now) r.entry.at.0) }
 {
@@ -324,55 +275,46 @@ pub fn front<'a>(r: Reader<'a>) -> Opening
 }
 
 // The `n` patterns that stand there, and what they come to.
-pub fn patterns_at<'a>(r: Reader<'a>, n: u32, wish: Wish) -> Tally
+pub fn patterns_at<'a>(r: Reader<'a>, n: u32, wish: Wish) -> Result<Seen<Total>, Refusal>
     requires { Within r.msg.now r.at.0 × (n ≤ 255) }
-    ensures { result ≡ tally_as (total_of wish r.entry.at.0) (patterns_due n none_known (bits_of r.entry.msg.now) r.entry.at.0) }
+    ensures { result ≡ seen_as (total_of wish r.entry.at.0) (patterns_due n none_known (bits_of r.entry.msg.now) r.entry.at.0) }
 {
     patterns(r.msg, r.at, n, wish)
 }
 
 // The filler and the end octet that stand there.
-pub fn ending<'a>(r: Reader<'a>) -> Step
+pub fn ending<'a>(r: Reader<'a>) -> Result<Seen<u32>, Refusal>
     requires { Within r.msg.now r.at.0 }
-    ensures { result ≡ step_of (endingDue (bits_of r.entry.msg.now) r.entry.at.0) }
+    ensures { result ≡ seen_of (endingDue (bits_of r.entry.msg.now) r.entry.at.0) }
 {
     tone_elements::ending(r.msg, r.at)
 }
 
 // Judges the tone that stands at a reader's place, with an edit in mind: its front, its patterns and its end, the reader
 // behind each in turn. What follows is not looked at.
-pub fn judge_at<'a>(r: Reader<'a>, wish: Wish) -> Whole
+pub fn judge_at<'a>(r: Reader<'a>, wish: Wish) -> Result<Seen<Judged>, Refusal>
     requires { Within r.msg.now r.at.0 }
     ensures { result ≡ whole_of wish r.entry.at.0 (whole_tone (bits_of r.entry.msg.now) r.entry.at.0) }
 {
-    match front(r) {
-        Opening::Closed { number, at: fault } => Whole::Broken { at: fault, number },
-        Opening::Opened {
-            song,
-            next: first,
-            octets,
-            count,
-            unicode,
-        } => match patterns_at(behind(r, first), count, wish) {
-            Tally::Stopped { at: fault, number } => Whole::Broken { at: fault, number },
-            Tally::Counted { next: last, total } => match ending(behind(r, last)) {
-                Step::Bad { number, at: fault } => Whole::Broken { at: fault, number },
-                Step::Good { value: _, next } => Whole::Ended {
-                    next,
-                    song,
-                    at: first,
-                    octets,
-                    patterns: count,
-                    total,
-                    unicode,
-                },
-            },
+    let opening = front(r)?;
+    let front = opening.value;
+    let tally = patterns_at(behind(r, opening.next), front.count, wish)?;
+    let end = ending(behind(r, tally.next))?;
+    Ok(Seen {
+        value: Judged {
+            song: front.song,
+            at: opening.next,
+            octets: front.octets,
+            patterns: front.count,
+            total: tally.value,
+            unicode: front.unicode,
         },
-    }
+        next: end.next,
+    })
 }
 
 // Judges the tone at the start of a message.
-pub fn judge_start(msg: &[u8], wish: Wish) -> Whole
+pub fn judge_start(msg: &[u8], wish: Wish) -> Result<Seen<Judged>, Refusal>
     requires { Within msg.now 0 }
     ensures { result ≡ whole_of wish 0 (whole_tone (bits_of msg.now) 0) }
 {
@@ -382,46 +324,21 @@ pub fn judge_start(msg: &[u8], wish: Wish) -> Whole
 // ---- a message
 
 // Judges a whole message with an edit in mind, and changes nothing.
-pub fn judge_for(msg: &[u8], wish: Wish) -> Judged
+pub fn judge_for(msg: &[u8], wish: Wish) -> Result<Judged, Refusal>
     ensures { result ≡ judged_for wish (read_tone msg.now) }
 {
     if 4096 < msg.len() {
-        return Judged::Faulty {
-            number: 1,
-            at: BitPlace(0),
-        };
+        return Err(Ground::TooLong.into());
     }
-    match judge_start(msg, wish) {
-        Whole::Broken { at: fault, number } => Judged::Faulty { number, at: fault },
-        Whole::Ended {
-            next,
-            song,
-            at,
-            octets,
-            patterns,
-            total,
-            unicode,
-        } => {
-            if next.0 != bits::place_after(OctetCount(msg.len())).0 {
-                return Judged::Faulty {
-                    number: 10,
-                    at: next,
-                };
-            }
-            Judged::Sound {
-                song,
-                at,
-                octets,
-                patterns,
-                total,
-                unicode,
-            }
-        }
+    let whole = judge_start(msg, wish)?;
+    if whole.next.0 != bits::place_after(OctetCount(msg.len())).0 {
+        return Err(Ground::AfterEnd.at(whole.next));
     }
+    Ok(whole.value)
 }
 
 // Judges a whole message with no edit in mind: no message has a pattern at position 255.
-pub fn judge(msg: &[u8]) -> Judged
+pub fn judge(msg: &[u8]) -> Result<Judged, Refusal>
     ensures { result ≡ judged_of (read_tone msg.now) }
 {
     let wish = Wish {

@@ -8,16 +8,12 @@ use Rattle.std.specs.Prelude.{Ok, Err}
 use Rattle.bits.specs.Lent.{over}
 use Rattle.bits.specs.Outcome.{Outcome, accepted, refused}
 use Rattle.bits.specs.Places.{octet_count}
-use Rattle.bits.specs.Refusals.{number_of, refusal}
-use Rattle.bits.proofs.Refusals.{grounded}
+use Rattle.bits.specs.Refusals.{number_of}
+pub use Rattle.bits.proofs.Answered.{by_number}
 use Rattle.bits.specs.declared.OctetCount.{OctetCount}
 use Rattle.bits.specs.declared.refusal.Refusal.{Refusal}
 use Rattle.written.specs.declared.WrittenAnswer.{WrittenAnswer}
 use Rattle.written.specs.Written.{Writing, Numbers, numbers, write_answer, write_numbers, octets_after, Fills, answer_as, FillsNumbers}
-
--- a refusal, by its number and its place
-pub by_number : (r : Refusal) → refusal (number_of r.why) r.place.0 ≡ r
-by_number r = rw (grounded r.why) refl
 
 module _ {o : Outcome (List ℕ)} {out : List ℕ} where
   -- two outcomes that satisfy it coincide

@@ -9,8 +9,5 @@ returns-then-from-to c = search (insides, rules)
 pub moved-requires : goal.moved-requires
 moved-requires c = search (insides, rules)
 
-pub returns-in-Sound : goal.returns-in-Sound
-returns-in-Sound c = search (insides, rules)
-
-pub returns-in-Faulty : goal.returns-in-Faulty
-returns-in-Faulty c = search (insides, rules)
+pub returns-in-Err : goal.returns-in-Err
+returns-in-Err c = search (insides, rules)

@@ -34,17 +34,8 @@ offset_bounds-parts-id-in-loop-left c = search (listings, rules)
 pub bounds-parts-id-in-loop-left : goal.bounds-parts-id-in-loop-left
 bounds-parts-id-in-loop-left c = search (listings, rules)
 
-pub enum_told-1 : goal.enum_told-1
-enum_told-1 c = search (listings, rules)
-
-pub shape_of-list-in-Unknown : goal.shape_of-list-in-Unknown
-shape_of-list-in-Unknown c = search (listings, rules)
-
-pub returns-in-Unknown : goal.returns-in-Unknown
-returns-in-Unknown c = search (listings, rules)
-
-pub enum_known-part : goal.enum_known-part
-enum_known-part c = search (listings, rules)
+pub returns-in_default : goal.returns-in_default
+returns-in_default c = search (listings, rules)
 
 pub fill_passes-walk-requires : goal.fill_passes-walk-requires
 fill_passes-walk-requires c =

@@ -1,25 +1,20 @@
 -- `pack::find` meets its contract.
 use borrow.Author.Rules.{rules}
+use Rattle.std.proofs.lemmas.Result.{err_from_is_err_and}
 use Rattle.pack.proofs.Exits.{findings}
 use Rattle.pack.proofs.find.Goals as goal
 
-pub returns-then-messages-n : goal.returns-then-messages-n
-returns-then-messages-n c = search (findings, rules)
+pub returns-in_err-sound : goal.returns-in_err-sound
+returns-in_err-sound c = let p = err_from_is_err_and c.from_residual.result c.from_residual.ensures.1 in rw (p.1, p.2) (search (findings, c.in_err-sound.was, rules))
 
-pub overflow_add-row : goal.overflow_add-row
-overflow_add-row c = search (findings, rules)
+pub returns-then-sound-n : goal.returns-then-sound-n
+returns-then-sound-n c = search (findings, c.in_ok-sound.was, rules)
 
 pub number_at-requires : goal.number_at-requires
-number_at-requires c = search (findings, rules)
+number_at-requires c = search (findings, c.in_ok-sound.was, rules)
 
-pub overflow_add-row-in-Sound : goal.overflow_add-row-in-Sound
-overflow_add-row-in-Sound c = search (findings, rules)
+pub number_at-requires-2 : goal.number_at-requires-2
+number_at-requires-2 c = search (findings, c.in_ok-sound.was, rules)
 
-pub number_at-requires-in-Sound : goal.number_at-requires-in-Sound
-number_at-requires-in-Sound c = search (findings, rules)
-
-pub returns-in-Faulty : goal.returns-in-Faulty
-returns-in-Faulty c = search (findings, rules)
-
-pub returns-else-messages-n : goal.returns-else-messages-n
-returns-else-messages-n c = search (findings, rules)
+pub returns : goal.returns
+returns c = search (findings, c.in_ok-sound.was, rules)

@@ -6,11 +6,5 @@ use Rattle.pack.proofs.message.Goals as goal
 pub overflow_add-to : goal.overflow_add-to
 overflow_add-to c = search (handings, rules)
 
-pub returns-in-Refused : goal.returns-in-Refused
-returns-in-Refused c = search (handings, rules)
-
-pub returns-in-Found : goal.returns-in-Found
-returns-in-Found c = search (handings, rules)
-
-pub slice_bounds-result-end-in-Found : goal.slice_bounds-result-end-in-Found
-slice_bounds-result-end-in-Found c = search (handings, rules)
+pub slice_bounds-result-end-in-Ok : goal.slice_bounds-result-end-in-Ok
+slice_bounds-result-end-in-Ok c = search (handings, rules)

@@ -3,11 +3,11 @@ use borrow.Author.Rules.{rules}
 use Rattle.tone_elements.proofs.Titles.{characters}
 use Rattle.tone_elements.proofs.character.Goals as goal
 
+pub returns-in_err-seen : goal.returns-in_err-seen
+returns-in_err-seen c = search (characters, rules)
+
 pub returns-then-allowed_character : goal.returns-then-allowed_character
 returns-then-allowed_character c = search (characters, rules)
 
-pub returns-in-Bad : goal.returns-in-Bad
-returns-in-Bad c = search (characters, rules)
-
-pub returns-else-allowed_character : goal.returns-else-allowed_character
-returns-else-allowed_character c = search (characters, rules)
+pub returns : goal.returns
+returns c = search (characters, rules)

@@ -1,16 +1,16 @@
 -- `tone_elements::ended` meets its contract.
 use borrow.Author.Rules.{rules}
-use Rattle.tone_elements.proofs.Openings.{endings}
+use Rattle.tone_elements.proofs.Openings.{endings, ending_bad, ending_next}
 use Rattle.tone_elements.proofs.ended.Goals as goal
 
 pub returns-then-filler-eq0 : goal.returns-then-filler-eq0
 returns-then-filler-eq0 c = search (endings, rules)
 
-pub due-requires-in-Good : goal.due-requires-in-Good
-due-requires-in-Good c = search (endings, rules)
+pub returns-in_err-run : goal.returns-in_err-run
+returns-in_err-run c = search (ending_bad c.args.msg.now c.args.at.0 c.place_after-reached.ensures c.octets_to.ensures c.due-2.ensures c.in_err-run.was, rules)
 
-pub returns-in-Bad : goal.returns-in-Bad
-returns-in-Bad c = search (endings, rules)
+pub due-requires-3-clause-within : goal.due-requires-3-clause-within
+due-requires-3-clause-within c = search (endings, rules)
 
-pub returns-in-Good : goal.returns-in-Good
-returns-in-Good c = search (endings, rules)
+pub returns : goal.returns
+returns c = ending_next c.args.msg.now c.args.at.0 c.place_after-reached.ensures c.octets_to.ensures c.due-2.ensures c.in_ok-run.was c.due-3.ensures

@@ -1,13 +1,13 @@
 -- `tone_elements::filled_part` meets its contract.
 use borrow.Author.Rules.{rules}
-use Rattle.tone_elements.proofs.Openings.{commands}
+use Rattle.tone_elements.proofs.Openings.{commands, filled_next}
 use Rattle.tone_elements.proofs.filled_part.Goals as goal
 
-pub due-requires-in-Good : goal.due-requires-in-Good
-due-requires-in-Good c = search (commands, rules)
+pub returns-in_err-part : goal.returns-in_err-part
+returns-in_err-part c = search (commands, rules)
 
-pub returns-in-Bad : goal.returns-in-Bad
-returns-in-Bad c = search (commands, rules)
+pub due-requires-2-clause-within : goal.due-requires-2-clause-within
+due-requires-2-clause-within c = search (commands, rules)
 
-pub returns-in-Good : goal.returns-in-Good
-returns-in-Good c = search (commands, rules)
+pub returns : goal.returns
+returns c = filled_next c.args.msg.now c.args.at.0 c.args.code c.due.ensures c.in_ok-part.was c.due-2.ensures

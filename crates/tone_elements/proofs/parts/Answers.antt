@@ -1,8 +1,10 @@
 -- `tone_elements::parts` meets its contract.
 use borrow.Author.Rules.{rules}
-use Rattle.tone_elements.proofs.Openings.{commands}
-use Rattle.tone_elements.proofs.Openings.{filled_within}
+use Rattle.tone_elements.proofs.Openings.{commands, parts_unicode_bad, parts_unicode}
 use Rattle.tone_elements.proofs.parts.Goals as goal
+
+pub returns-in_err-programming : goal.returns-in_err-programming
+returns-in_err-programming c = search (commands, rules)
 
 pub sound_part-requires : goal.sound_part-requires
 sound_part-requires c = search (commands, rules)
@@ -10,17 +12,16 @@ sound_part-requires c = search (commands, rules)
 pub returns-then-length-ne3 : goal.returns-then-length-ne3
 returns-then-length-ne3 c = search (commands, rules)
 
-pub filled_part-requires-in-Good : goal.filled_part-requires-in-Good
-filled_part-requires-in-Good c = search (commands, rules)
+pub filled_part-requires-2 : goal.filled_part-requires-2
+filled_part-requires-2 c = search (commands, rules)
 
-pub sound_part-requires-in-Good-filled_part : goal.sound_part-requires-in-Good-filled_part
-sound_part-requires-in-Good-filled_part c = search filled_within
+pub returns-in_err-unicode : goal.returns-in_err-unicode
+returns-in_err-unicode c =
+    search (parts_unicode_bad c.args.msg.now c.args.at.0 c.args.length c.filled_part.ensures c.in_ok-programming.was c.if-length-ne3.false c.filled_part-2.ensures c.in_err-unicode.was, rules)
 
-pub returns-in-Bad : goal.returns-in-Bad
-returns-in-Bad c = search (commands, rules)
+pub sound_part-requires-2 : goal.sound_part-requires-2
+sound_part-requires-2 c = search (commands, rules)
 
-pub returns-in-Bad-filled_part : goal.returns-in-Bad-filled_part
-returns-in-Bad-filled_part c = search (commands, rules)
-
-pub returns-in-Good-filled_part : goal.returns-in-Good-filled_part
-returns-in-Good-filled_part c = search (commands, rules)
+pub returns : goal.returns
+returns c =
+    parts_unicode c.args.msg.now c.args.at.0 c.args.length c.filled_part.ensures c.in_ok-programming.was c.if-length-ne3.false c.filled_part-2.ensures c.in_ok-unicode.was c.sound_part-2.ensures

@@ -6,9 +6,6 @@ use Rattle.tone_elements.proofs.payload.Goals as goal
 pub returns-then-left-w : goal.returns-then-left-w
 returns-then-left-w c = search (payloads, rules)
 
-pub overflow_add-result : goal.overflow_add-result
-overflow_add-result c = search (payloads, rules)
-
 pub returns-then-allowed : goal.returns-then-allowed
 returns-then-allowed c = search (payloads, rules)
 

@@ -6,15 +6,14 @@ use Rattle.tone_elements.proofs.title.Goals as goal
 pub returns-then-song-ne1 : goal.returns-then-song-ne1
 returns-then-song-ne1 c = search (titles, rules)
 
-pub text-requires : goal.text-requires
-text-requires c =
-    record {
-      within = search (titles, rules);
-      n_bound = search (titles, rules);
-    }
+pub returns-in_err-length : goal.returns-in_err-length
+returns-in_err-length c = search (titles, rules)
 
-pub returns-in-Bad : goal.returns-in-Bad
-returns-in-Bad c = search (titles, rules)
+pub text-requires-clause-within : goal.text-requires-clause-within
+text-requires-clause-within c = search (titles, rules)
 
-pub returns-in-Good : goal.returns-in-Good
-returns-in-Good c = search (titles, rules)
+pub text-requires-clause-n_bound : goal.text-requires-clause-n_bound
+text-requires-clause-n_bound c = search (titles, rules)
+
+pub returns : goal.returns
+returns c = search (titles, rules)

@@ -1,5 +1,5 @@
 -- `tone_judge::patterns` meets its contract. Each turn judges one pattern.
-use Rattle.tone_judge.proofs.Tallies.{kept_part, kept_recall, tally_counts, tally_fits, tally_notes, tallies}
+use Rattle.tone_judge.proofs.Tallies.{kept_part, kept_recall, tally_bad, tally_counts, tally_done, tally_notes, tally_on, tally_part, tally_unknown, tallies}
 use borrow.Author.Rules.{rules}
 use Rattle.tone_judge.proofs.patterns.Goals as goal
 use Rattle.tone_judge.proofs.patterns.Goals.{then-cell-ne0, else-cell-ne0}
@@ -19,17 +19,8 @@ loop-left-init c = search (tallies, rules)
 pub pattern-requires : goal.pattern-requires
 pattern-requires c = search (tallies, rules)
 
-pub enum_known-number : goal.enum_known-number
-enum_known-number c = search (tallies, rules)
-
-pub returns-in-Fault : goal.returns-in-Fault
-returns-in-Fault c = search (tallies, rules)
-
-pub enum_known-cell : goal.enum_known-cell
-enum_known-cell c = search (tallies, rules)
-
 pub own_part-wished-requires : goal.own_part-wished-requires
-own_part-wished-requires c = search (tallies, rules)
+own_part-wished-requires c = tally_part c.loop-left.invariant c.loop-left-test.true c.pattern.ensures c.in_ok-single.was
 
 pub overflow_cast-id : goal.overflow_cast-id
 overflow_cast-id c = search (tallies, rules)
@@ -52,23 +43,11 @@ bounds-parts-id-then-cell-ne0 c = search (tallies, rules)
 pub enum_told-1 : goal.enum_told-1
 enum_told-1 c = search (tallies, rules)
 
-pub overflow_add-result : goal.overflow_add-result
-overflow_add-result c = search (tallies, rules)
-
-pub returns-in-Unknown : goal.returns-in-Unknown
-returns-in-Unknown c = search (tallies, rules)
-
-pub enum_known-part : goal.enum_known-part
-enum_known-part c = search (tallies, rules)
-
 pub with-count-requires : goal.with-count-requires
-with-count-requires c = (search (tally_counts, rules), search (tally_notes, rules), search rules)
+with-count-requires c = (search (tally_counts, rules), tally_notes c.loop-left.invariant c.loop-left-test.true c.pattern.ensures c.in_ok-single.was c.own_part-wished.ensures c.part_after-part.ensures c.in-Some.is, search rules)
 
 pub overflow_add-table : goal.overflow_add-table
 overflow_add-table c = search (tallies, rules)
-
-pub overflow_add-table-in-Fine : goal.overflow_add-table-in-Fine
-overflow_add-table-in-Fine c = search (tally_fits, rules)
 
 pub overflow_sub-left : goal.overflow_sub-left
 overflow_sub-left c = search (tallies, rules)
@@ -79,12 +58,15 @@ loop-left-smaller c = search (tallies, rules)
 pub loop-left-preserved : goal.loop-left-preserved
 loop-left-preserved c =
     elim c.if-cell-ne0.branch [
-      | then-cell-ne0 w ↦ let told = kept_part c.in-Fine.cell c.part_after-part.result w.if-cell-ne0.true w.parts-is in search (tallies, told, rules)
-      | else-cell-ne0 w ↦ let told = kept_recall c.in-Fine.cell c.part_after-part.result w.if-cell-ne0.false w.parts-is in search (tallies, told, rules)
+      | then-cell-ne0 w ↦ let told = kept_part c.in_ok-single.single.value.cell c.part_after-part.result w.if-cell-ne0.true w.parts-is in tally_on c.loop-left.invariant c.loop-left-test.true c.pattern.ensures c.in_ok-single.was c.own_part-wished.ensures c.part_after-part.ensures c.in-Some.is c.with-count.ensures told
+      | else-cell-ne0 w ↦ let told = kept_recall c.in_ok-single.single.value.cell c.part_after-part.result w.if-cell-ne0.false w.parts-is in tally_on c.loop-left.invariant c.loop-left-test.true c.pattern.ensures c.in_ok-single.was c.own_part-wished.ensures c.part_after-part.ensures c.in-Some.is c.with-count.ensures told
     ]
 
-pub up_to-total-requires : goal.up_to-total-requires
-up_to-total-requires c = search (tallies, rules)
-
 pub returns : goal.returns
-returns c = search (tallies, rules)
+returns c = tally_done c.loop-left.invariant c.loop-left-test.false c.up_to.ensures
+
+pub returns-in_err-single : goal.returns-in_err-single
+returns-in_err-single c = search (tally_bad c.loop-left.invariant c.loop-left-test.true c.pattern.ensures c.in_err-single.was, rules)
+
+pub returns-in_default : goal.returns-in_default
+returns-in_default c = tally_unknown c.loop-left.invariant c.loop-left-test.true c.pattern.ensures c.in_ok-single.was c.own_part-wished.ensures c.part_after-part.ensures c.at.ensures c.in_default.is

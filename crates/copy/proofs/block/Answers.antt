@@ -1,7 +1,0 @@
--- `copy::block` meets its contract.
-use borrow.Author.Rules.{rules}
-use Rattle.copy.proofs.Copies.{at_place}
-use Rattle.copy.proofs.block.Goals as goal
-
-pub returns : goal.returns
-returns c = search (at_place, rules)
