@@ -28,7 +28,7 @@ use Rattle.tone.specs.Writing.{table_bits, front_bits, song_bits, tone_length, t
 use Rattle.tone.specs.Reading.{text}
 use Rattle.tone.proofs.Fronts.{song_fine_lem, own_reads, own_allowed}
 use Rattle.tone_elements.specs.Answers.{Within, Sure, Complete, AllowedAt}
-use Rattle.tone_elements.proofs.Steps.{characters_good_lem}
+use Rattle.tone_elements.proofs.Steps.{seen_made}
 use Rattle.tone_elements.proofs.Titles.{text_told}
 use Rattle.tone_sound.proofs.Dues.{text_read}
 use Rattle.tone_table.specs.declared.Judged.{Judged}
@@ -121,7 +121,7 @@ module _ (u : Bool) (title : List ℕ) (n : ℕ) (h : (n ≤ 15) × (length titl
         allows : t ≡ true → allowed_title u title ≡ true
         allows e =
             let q = text_told title 0 u n (refl, bits u) (refl, (octets u).0, (octets u).1) legible_within a.0 e in
-            own_allowed u n title (octets_of_lem title each) h.1 (characters_good_lem (text u n (bits_of title) 0) q).1
+            own_allowed u n title (octets_of_lem title each) h.1 (seen_made (λ t. octet_count (length t)) (text u n (bits_of title) 0) q).1
 
         go : (x y : Bool) → t ≡ x → allowed_title u title ≡ y → t ≡ allowed_title u title
         go true y e f = e ∙ sym (allows e)
