@@ -12,6 +12,7 @@ use lib.Dec.{leb, eqb, lit≤}
 use lib.Pow.{shr-shr}
 use borrow.Author.Tests.{le-leb, leb-true, eqb-true, eq-eqb}
 use Rattle.bits.specs.Bits.{bits_n, bits_of, field}
+use Rattle.bits.specs.Places.{octet_count}
 use Rattle.bits.specs.Window.{Look, Sight}
 use Rattle.bits.proofs.Numbers.{length_bits, field_drop}
 use Rattle.bits.proofs.Looking.{seen, length_left_lem, sight_on}
@@ -22,7 +23,7 @@ use Rattle.tone.specs.Reading.{Reader, got, bad, onward, element, filled, whethe
 use Rattle.tone.proofs.Exact.{element_good}
 use Rattle.tone.proofs.Fronts.{or_true, front_exact}
 use Rattle.tone_elements.specs.Answers.{Within, Sure, Complete, AllowedAt}
-use Rattle.tone_elements.proofs.Steps.{characters_good_lem, onward_got, onward_made}
+use Rattle.tone_elements.proofs.Steps.{seen_made, onward_got, onward_made}
 use Rattle.tone_elements.proofs.Titles.{text_told}
 use Rattle.tone_sound.specs.Answers.{Tells, CommandOn, CommandSeen, FrontStands, Starts}
 use Rattle.tone_sound.proofs.Dues.{element_read, element_seen, Called, command_seen, text_read}
@@ -205,7 +206,7 @@ module _ (m : List ℕ) (at : ℕ) (u : Bool) {x : ℕ} (i : Within m at) (s : S
     text_seen : (t : List ℕ) × (text u n (bits_of m) (at + 7) ≡ got t (at + 7 + width))
     text_seen =
         let v : Within m (at + 7) = record { inside = omega arith; counted = i.counted } in
-        let t = characters_good_lem (text u n (bits_of m) (at + 7)) (text_told m (at + 7) u n {o = per_character u} w (refl, (one_or_two u).0, (one_or_two u).1) v a (was_sure b sure)) in
+        let t = seen_made (λ c. octet_count (length c)) (text u n (bits_of m) (at + 7)) (text_told m (at + 7) u n {o = per_character u} w (refl, (one_or_two u).0, (one_or_two u).1) v a (was_sure b sure)) in
         (t.0, t.1)
 
     -- no count is behind them

@@ -8,16 +8,16 @@ use lib.ListN.{length, get_or, set}
 use borrow.Author.Tests.{eq-eqb, ne_eqb}
 use Rattle.bits.specs.Choice.{pick}
 use Rattle.bits.specs.Bits.{bits_of}
-use Rattle.bits.specs.declared.BitPlace.{BitPlace}
+use Rattle.std.specs.Prelude.{Ok, Err}
+use Rattle.bits.specs.declared.refusal.Refusal.{Refusal}
 use Rattle.bits.proofs.Octets.{length_bits_of}
 use Rattle.tone.specs.Tone.{Pattern, specifier, pattern, none_known, recallable, learn}
 use Rattle.tone.proofs.Recalls.{learn_set}
 use Rattle.tone.proofs.Rows.{header_exact, body_exact, patterns_exact}
 use Rattle.tone.specs.Reading.{got, bad, onward, header_due, body_due, patterns_due}
-use Rattle.tone_elements.specs.declared.Step.{Step}
-use Rattle.tone_elements.specs.declared.Step.TheVariants.{Good, Bad}
-use Rattle.tone_elements.specs.Answers.{Within, all_known, step_of}
-use Rattle.tone_elements.proofs.Steps.{step_there, step_bad, onward_got, onward_made}
+use Rattle.tone_elements.specs.declared.Seen.{Seen}
+use Rattle.tone_elements.specs.Answers.{Within, all_known, seen_of}
+use Rattle.tone_elements.proofs.Steps.{Step, seen_there, seen_bad, onward_got, onward_made}
 use Rattle.tone_elements.proofs.Headers.{header_apart}
 use Rattle.tone_elements.proofs.Walks.{stays}
 use Rattle.tone_sound.specs.Answers.{Tells, Past, Stand, PatternsPast, PatternsStand}
@@ -100,56 +100,56 @@ module _ (m : List ℕ) (at n : ℕ) where
         let c = onward_made (patterns_due k (learn known v) (bits_of m) t) (λ qs. pattern v b ∷ qs) (sym u ∙ l) in
         (c.0, c.1)
 
-    pub row_on : {s : Step} {v : ℕ} {q : BitPlace} {w : Bool} {t : ℕ} {stands : Bool} → 0 < left → s ≡ step_of (header_due all_known (bits_of m) p) → s ≡ Good v q
-        → stands ≡ recallable known v → not stands ≡ false → Tells w (Past m q.0 (v % 256) t) (Stand m q.0 (v % 256)) → not w ≡ false → Row m at n (set known (v / 4096 % 4) true) t (left - 1)
-    row_on {s} {v} {q} {w} {t} {stands} h e g f y u x =
+    pub row_on : {s : Step} {v : Seen ℕ} {w : Bool} {t : ℕ} {stands : Bool} → 0 < left → s ≡ seen_of (header_due all_known (bits_of m) p) → s ≡ Ok v
+        → stands ≡ recallable known v.value → not stands ≡ false → Tells w (Past m v.next.0 (v.value % 256) t) (Stand m v.next.0 (v.value % 256)) → not w ≡ false → Row m at n (set known (v.value / 4096 % 4) true) t (left - 1)
+    row_on {s} {v} {w} {t} {stands} h e g f y u x =
         let b = u.so (was_sure w x) in
-        let d = step_there (header_due all_known (bits_of m) p) (sym g ∙ e) in
+        let d = seen_there (header_due all_known (bits_of m) p) (sym g ∙ e) in
         let z : left ≡ suc (left - 1) = omega arith in
         let a = sym f ∙ was_sure stands y in
         record {
           inside = b.inside;
-          resumes = λ ps i l. r.resumes (pattern v b.body ∷ ps) i
-              (row_one z d a b.reads ps i (subst (λ (k : List Bool). patterns_due (left - 1) k (bits_of m) t ≡ got ps i) (sym (learn_set known v a)) l));
+          resumes = λ ps i l. r.resumes (pattern v.value b.body ∷ ps) i
+              (row_one z d a b.reads ps i (subst (λ (k : List Bool). patterns_due (left - 1) k (bits_of m) t ≡ got ps i) (sym (learn_set known v.value a)) l));
           rests = λ all i l.
               let o = r.rests all i l in
               let c = row_back z d a b.reads o.0 i o.1 in
-              (c.0, subst (λ (k : List Bool). patterns_due (left - 1) k (bits_of m) t ≡ got c.0 i) (learn_set known v a) c.1);
+              (c.0, subst (λ (k : List Bool). patterns_due (left - 1) k (bits_of m) t ≡ got c.0 i) (learn_set known v.value a) c.1);
         }
 
     -- the next of those that stand
-    module _ (h : 0 < left) {s : Step} (e : s ≡ step_of (header_due all_known (bits_of m) p)) where
+    module _ (h : 0 < left) {s : Step} (e : s ≡ seen_of (header_due all_known (bits_of m) p)) where
       next_of : (u : PatternsStand m at n) → First m known p left u.end
       next_of u = let o = r.rests u.past.patterns u.end u.past.reads in first_of m known p left h o.1
 
       -- none begins there
-      pub row_cut : {k z : ℕ} {q : BitPlace} {y : Bool} → s ≡ Bad k q → y ≡ false → Tells y (PatternsPast m at n z) (PatternsStand m at n)
+      pub row_cut : {e : Refusal} {z : ℕ} {y : Bool} → s ≡ Err e → y ≡ false → Tells y (PatternsPast m at n z) (PatternsStand m at n)
       row_cut g f = nowhere f (λ u.
-          let b = step_bad (λ v. v) (header_due all_known (bits_of m) p) (sym g ∙ e) in
-          let c = sym b.1 ∙ (next_of u).header in
+          let b = seen_bad (λ v. v) (header_due all_known (bits_of m) p) (sym g ∙ e) in
+          let c = sym b.there ∙ (next_of u).header in
           let z : ◌≡◌ {A = ℕ} 0 1 = cc in
           omega (arith, z))
 
-      module _ {v : ℕ} {q : BitPlace} (g : s ≡ Good v q) where
+      module _ {v : Seen ℕ} (g : s ≡ Ok v) where
         -- its header and its body
-        there : (u : PatternsStand m at n) → (recallable known v ≡ true) × Stand m q.0 (v % 256)
+        there : (u : PatternsStand m at n) → (recallable known v.value ≡ true) × Stand m v.next.0 (v.value % 256)
         there u =
             let o = next_of u in
-            let d : got v q.0 ≡ got o.value o.behind = sym (step_there (header_due all_known (bits_of m) p) (sym g ∙ e)) ∙ o.header in
-            let ev : o.value ≡ v = cc in
-            let eq : o.behind ≡ q.0 = cc in
+            let d : got v.value v.next.0 ≡ got o.value o.behind = sym (seen_there (header_due all_known (bits_of m) p) (sym g ∙ e)) ∙ o.header in
+            let ev : o.value ≡ v.value = cc in
+            let eq : o.behind ≡ v.next.0 = cc in
             let i : o.behind ≤ 8 * length m = stays (header_exact all_known) m p r.inside o.header in
             let j : o.next ≤ 8 * length m = stays (body_exact (o.value % 256)) m o.behind i o.body in
             let l = ((patterns_exact (left - 1) (learn known o.value)).sound (bits_of m) o.next (rw (length_bits_of m) j) o.rest).end in
             let b : Stand m o.behind (o.value % 256) = record { end = o.next; past = record { body = o.own; reads = o.body; inside = j }; room = omega (arith, l, u.room) } in
-            (subst (λ (x : ℕ). recallable known x ≡ true) ev o.recalls, subst (λ (x : ℕ). Stand m q.0 (x % 256)) ev (subst (λ (x : ℕ). Stand m x (o.value % 256)) eq b))
+            (subst (λ (x : ℕ). recallable known x ≡ true) ev o.recalls, subst (λ (x : ℕ). Stand m v.next.0 (x % 256)) ev (subst (λ (x : ℕ). Stand m x (o.value % 256)) eq b))
 
         -- it recalls what is not known
-        pub row_barred : {stands y : Bool} {z : ℕ} → stands ≡ recallable known v → not stands ≡ true → y ≡ false → Tells y (PatternsPast m at n z) (PatternsStand m at n)
+        pub row_barred : {stands y : Bool} {z : ℕ} → stands ≡ recallable known v.value → not stands ≡ true → y ≡ false → Tells y (PatternsPast m at n z) (PatternsStand m at n)
         row_barred {stands} f x l = nowhere l (λ u. nothing_sure stands x (f ∙ (there u).0))
 
         -- its body does not stand
-        pub row_lost : {w y : Bool} {t z : ℕ} → Tells w (Past m q.0 (v % 256) t) (Stand m q.0 (v % 256)) → not w ≡ true → y ≡ false → Tells y (PatternsPast m at n z) (PatternsStand m at n)
+        pub row_lost : {w y : Bool} {t z : ℕ} → Tells w (Past m v.next.0 (v.value % 256) t) (Stand m v.next.0 (v.value % 256)) → not w ≡ true → y ≡ false → Tells y (PatternsPast m at n z) (PatternsStand m at n)
         row_lost {w} b x l = nowhere l (λ u. nothing_sure w x (b.back (there u).1))
 
     pub row_done : left ≤ 0 → PatternsPast m at n p
@@ -160,8 +160,8 @@ module _ (m : List ℕ) (at n : ℕ) where
         record { patterns = a.0; reads = a.1; inside = r.inside }
 
 -- the place behind a header is within the message
-pub header_within : {m : List ℕ} {p : ℕ} {s : Step} {v : ℕ} {q : BitPlace} → length m < 2 ^ 60 → p ≤ 8 * length m → s ≡ step_of (header_due all_known (bits_of m) p) → s ≡ Good v q → Within m q.0
-header_within {m} {p} c i e g = record { inside = stays (header_exact all_known) m p i (step_there (header_due all_known (bits_of m) p) (sym g ∙ e)); counted = c }
+pub header_within : {m : List ℕ} {p : ℕ} {s : Step} {v : Seen ℕ} → length m < 2 ^ 60 → p ≤ 8 * length m → s ≡ seen_of (header_due all_known (bits_of m) p) → s ≡ Ok v → Within m v.next.0
+header_within {m} {p} c i e g = record { inside = stays (header_exact all_known) m p i (seen_there (header_due all_known (bits_of m) p) (sym g ∙ e)); counted = c }
 
 pub row_inside : {m : List ℕ} {at n : ℕ} {known : List Bool} {p left : ℕ} → Row m at n known p left → p ≤ 8 * length m
 row_inside r = r.inside

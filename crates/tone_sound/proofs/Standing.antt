@@ -10,7 +10,6 @@ use lib.Dec.{eqb, lit<}
 use lib.Pow.{shr-shr, shr_mod}
 use borrow.Author.Tests.{eqb-true}
 use Rattle.bits.specs.Bits.{bits_of, place_after, octets_to, filler_to}
-use Rattle.bits.specs.Places.{place}
 use Rattle.bits.specs.Window.{Sight}
 use Rattle.bits.proofs.Octets.{length_bits_of}
 use Rattle.tone.specs.Tone.{Front, Pattern, Tone, none_known}
@@ -18,7 +17,7 @@ use Rattle.tone.specs.Reading.{Got, got, bad, onward, element, front as frontDue
 use Rattle.tone.proofs.Fronts.{front_exact}
 use Rattle.tone.proofs.Rows.{header_exact, header_wide, body_exact, patterns_exact}
 use Rattle.tone_elements.specs.Answers.{Within, all_known}
-use Rattle.tone_elements.proofs.Steps.{step_there, onward_got, onward_made}
+use Rattle.tone_elements.proofs.Steps.{seen_there, onward_got, onward_made}
 use Rattle.tone_elements.proofs.Openings.{ending_told}
 use Rattle.tone_sound.specs.Answers.{Tells, PatternsPast, PatternsStand, FrontAt, Starts, SongPast, ToneFrom}
 use Rattle.tone_sound.proofs.Dues.{element_read, element_seen}
@@ -91,7 +90,7 @@ module _ (m : List ℕ) (at : ℕ) where
       -- what is 0 there is one
       pub end_there : y < length m → x / 2 ^ (56 - (z - at)) ≡ 0 → y + 1 ≡ octets_read 0 (ending (bits_of m) at)
       end_there h e =
-          let d = step_there (ending (bits_of m) at) (ending_told m at ey h zeros refl {p = place (place_after (y + 1))} refl) in
+          let d = seen_there (ending (bits_of m) at) (ending_told m at ey h zeros refl {p = place_after (y + 1)} refl) in
           rw d (omega arith)
         where
           -- nothing but zeros

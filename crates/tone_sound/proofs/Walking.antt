@@ -20,7 +20,7 @@ use Rattle.tone.proofs.Rows.{instruction_exact}
 use Rattle.tone_tell.specs.Telling.{kind_bits, begins, bits_on, fault_on}
 use Rattle.tone_tell.proofs.Packed.{bits_packed, bits_least}
 use Rattle.tone_elements.specs.Answers.{note_in}
-use Rattle.tone_elements.proofs.Steps.{step_good}
+use Rattle.tone_elements.proofs.Steps.{seen_made}
 use Rattle.tone_elements.proofs.Telling.{told_seen}
 use Rattle.tone_elements.proofs.Walks.{stays}
 use Rattle.tone_sound.specs.Turning.{turn, clear, mark_of, mark_in, packed, wide_in, width_in, onward, along, AllClear}
@@ -112,7 +112,7 @@ module _ (m : List ℕ) where
   one_due : {k : ℕ} (p : ℕ) {z : ℕ} → Sight k (drop p (bits_of m)) z → 12 ≤ k → fault_on z ≡ 0 → p + bits_on z + 8 ≤ 8 * length m → (e : ℕ) × (instruction_due (bits_of m) p ≡ got e (p + bits_on z))
   one_due {k} p {z} s h f room =
       let d = (told_seen p z f).due m k h s (omega (arith, bits_least z s.small, room)) in
-      let g = step_good note_in (instruction_due (bits_of m) p) d in
+      let g = seen_made note_in (instruction_due (bits_of m) p) d in
       (g.0, g.1)
 
   -- one instruction, and then n more

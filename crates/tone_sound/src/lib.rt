@@ -14,7 +14,6 @@ ghost use Rattle.tone_sound.specs.Turning.{turn, onward, wide_in, mark_in, Mark,
 ghost use Rattle.tone_sound.specs.Answers.{Tells, ToldOf, Past, Stand, Gone, CommandOn, CommandSeen, PatternsPast, PatternsStand, Starts, SongPast, ToneFrom};
 
 use bits::{BitPlace, OctetCount, TwoSights};
-use tone_elements::Step;
 
 // ---- instructions
 
@@ -362,23 +361,19 @@ fn patterns(whole: &[u8], at: BitPlace, n: u32, marks: &[u8; 512]) -> Way
     let mut place = at;
     let mut left = n;
     while 0 < left {
-        match tone_elements::header(whole, place) {
-            Step::Bad { number: _, at: _ } => {
-                return lost(place);
-            }
-            Step::Good { value, next } => {
-                if !may_stand(known, value) {
-                    return lost(place);
-                }
-                let way = body(whole, next, value % 256, marks);
-                if !way.sure {
-                    return lost(place);
-                }
-                known[(value / 4096 % 4) as usize] = true;
-                place = way.at;
-                left -= 1;
-            }
+        let Ok(header) = tone_elements::header(whole, place) else {
+            return lost(place);
+        };
+        if !may_stand(known, header.value) {
+            return lost(place);
         }
+        let way = body(whole, header.next, header.value % 256, marks);
+        if !way.sure {
+            return lost(place);
+        }
+        known[(header.value / 4096 % 4) as usize] = true;
+        place = way.at;
+        left -= 1;
     }
     Way {
         at: place,
