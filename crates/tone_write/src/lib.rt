@@ -120,6 +120,7 @@ fn put_front(out: &mut [u8], song: u32, unicode: bool, title: &[u8], count: u32)
 }
 
 // Writes a tone that has room.
+#[tactic(auto, using(crate::proofs::Filling::fills))]
 fn fill(
     out: &mut [u8],
     song: u32,
@@ -156,6 +157,7 @@ fn titled(song: u32, unicode: bool, title: &[u8]) -> bool
 }
 
 // Where the patterns begin, behind so many octets of title.
+#[tactic(auto, using(crate::proofs::Told::fronts))]
 fn front_end(song: u32, unicode: bool, octets: OctetCount) -> BitPlace
     requires { octets.0 < 2 ^ 60 }
     ensures { result.0 ≡ front_length song unicode octets.0 }
