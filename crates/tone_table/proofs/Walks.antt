@@ -210,7 +210,10 @@ module _ {table : List ℕ} {known : List Bool} {patterns bits i : ℕ} (w : Row
     pub row_header_fault : {m : Ground} → s ≡ Err m → Err m ≡ judged_of table (judge_table table)
     row_header_fault g = stopped table (header_length known (get_or table i 0)) _ (w.goes ∙ next) q g
 
-    module _ {own : ℕ} {t : Result ℕ Ground} (g : s ≡ Ok own) (q' : t ≡ weighed_of (body_length (specifier (get_or table i 0)) (drop (i + 1) table))) where
+    module _ {own : ℕ} {t : Result ℕ Ground} (g : s ≡ Ok own) (all : t ≡ weighed_of (body_length (specifier (get_or table i 0)) (take (length table - (i + 1)) (drop (i + 1) table)))) where
+      q' : t ≡ weighed_of (body_length (specifier (get_or table i 0)) (drop (i + 1) table))
+      q' = rw (take_all (length table - (i + 1)) (drop (i + 1) table) (omega (arith, length-drop (i + 1) table))) at all
+
       own_told : header_length known (get_or table i 0) ≡ accepted own
       own_told = weighed_bits (header_length known (get_or table i 0)) (sym g ∙ q)
 

@@ -1,13 +1,14 @@
 -- An entry, an instruction and a body that are judged, and how many bits they take.
-use Prim.Native.Nat.{ℕ, suc, ◌+◌, ◌-◌, ◌*◌, ◌/◌, ◌%◌, ◌^◌, ◌≤◌, ◌<◌}
+use Prim.Native.Nat.{ℕ, suc, min, ◌+◌, ◌-◌, ◌*◌, ◌/◌, ◌%◌, ◌^◌, ◌≤◌, ◌<◌}
 use native.Mathlib.Omega.{arith}
 use native.Mathlib.Nat.{zero-add, add_assoc}
 use native.Mathlib.Numerals.{add-one}
-use mathlib.Core.Path.{◌≡◌, refl, sym, ap, ◌∙◌}
+use mathlib.Core.Path.{◌≡◌, refl, sym, ap, ap₂, ◌∙◌}
 use mathlib.Core.Bool.{Bool, true, false, ◌&&◌}
 use mathlib.Core.List.{List, ◌∷◌}
-use lib.ListN.{length, get_or, drop, drop_of_length-le}
-use lib.Seq.{drop-cons}
+use lib.ListN.{length, get_or, take, drop, drop_of_length-le}
+use lib.Seq.{drop-cons, length-take-le}
+use Rattle.std.proofs.lemmas.List.{get_or-take}
 use lib.Dec.{leb, ltb}
 use borrow.Author.Tests.{le-leb, lt-leb, lt-ltb, eq-eqb, ne_eqb, leb-true, ltb-true}
 use Rattle.std.specs.Prelude.{Option, Some, None, Result, Ok, Err}
@@ -20,7 +21,6 @@ use Rattle.tone.specs.Table.{kind, payload, width, allowed, InTable}
 use Rattle.tone.specs.Tone.{specifier, part_of, recallable}
 use Rattle.tone.proofs.Rows.{width_most}
 use Rattle.tone.proofs.Instructions.{header_in_table}
-use Rattle.tone_elements.proofs.Walks.{one_less}
 use mir.Val.{Fits}
 use mir.Syntax.{w32}
 use Rattle.tone_table.specs.Judging.{entry_fine}
@@ -191,53 +191,73 @@ instruction_most e {b} q = go (entry_fine e) (leb 1 (kind e)) q
     go true false h = let z : ◌≡◌ {A = ℕ} 0 1 = cc in absurd (omega arith)
     go false t h = let z : ◌≡◌ {A = ℕ} 0 1 = cc in absurd (omega arith)
 
--- with `left` instructions due at i, and so many bits so far
-pub record BodyWalk (table : List ℕ) (at n i left bits : ℕ) : Type 0 where
-  pub inside : i ≤ length table
-  pub fewer : bits + 17 * left ≤ 17 * n
-  pub goes : body_length n (drop at table) ≡ plus bits (body_length left (drop i table))
+-- with i of the instructions judged that are there, and so many bits so far
+pub record BodyWalk (rest : List ℕ) (n i bits : ℕ) : Type 0 where
+  pub fewer : i ≤ n
+  pub inside : i ≤ length rest
+  pub most : bits ≤ 17 * i
+  pub goes : body_length n rest ≡ plus bits (body_length (n - i) (drop i rest))
 
-pub body_begins : (table : List ℕ) (at n : ℕ) → at ≤ length table → BodyWalk table at n at n 0
-body_begins table at n h = record { inside = h; fewer = omega arith; goes = sym (plus_zero (body_length n (drop at table))) }
+pub body_begins : (rest : List ℕ) (n : ℕ) → BodyWalk rest n 0 0
+body_begins rest n =
+    let z : n - 0 ≡ n = omega arith in
+    record { fewer = omega arith; inside = omega arith; most = omega arith; goes = rw z (sym (plus_zero (body_length n rest))) }
 
-module _ {table : List ℕ} {at n i left bits : ℕ} (w : BodyWalk table at n i left bits) where
-  pub body_done : left ≤ 0 → Ok bits ≡ weighed_of (body_length n (drop at table))
-  unfolding body_length
-  body_done h =
-      let e : left ≡ 0 = omega arith in
-      let z : bits + 0 ≡ bits = omega arith in
-      sym (ap weighed_of w.goes ∙ (rw (e, z)))
+-- as far as the instructions are there
+module _ {rest : List ℕ} {n i bits due : ℕ} (w : BodyWalk rest n i bits) (d : due ≡ min (length rest) n) where
+  all_there : length (take due rest) ≡ due
+  all_there = length-take-le due rest (omega arith)
 
-  module _ (h : 0 < left) where
-    pub body_cut : length table ≤ i → Err TableShape ≡ weighed_of (body_length n (drop at table))
+  module _ (end : length (take due rest) ≤ i) where
+    pub body_done : n ≤ due → Ok bits ≡ weighed_of (body_length n rest)
     unfolding body_length
-    body_cut k = sym (ap weighed_of w.goes ∙ (rw (one_less left h, drop_of_length-le table {i = i} k)))
+    body_done h =
+        let e : n - i ≡ 0 = omega (arith, all_there) in
+        let z : bits + 0 ≡ bits = omega arith in
+        sym (ap weighed_of w.goes ∙ (rw (e, z)))
 
-    module _ {s : Result ℕ Ground} (k : i < length table) (q : s ≡ weighed_of (instruction_length (get_or table i 0))) where
-      next : drop i table ≡ get_or table i 0 ∷ drop (suc i) table
-      next = drop-cons table i 0 k
+    pub body_cut : due < n → Err TableShape ≡ weighed_of (body_length n rest)
+    unfolding body_length
+    body_cut h =
+        let k : length rest ≤ i = omega (arith, all_there) in
+        let e : n - i ≡ suc (n - suc i) = omega (arith, w.inside) in
+        sym (ap weighed_of w.goes ∙ (rw (e, drop_of_length-le rest {i = i} k)))
 
-      pub body_fault : {g : Ground} → s ≡ Err g → Err g ≡ weighed_of (body_length n (drop at table))
+  module _ {s : Result ℕ Ground} (h : i < length (take due rest)) (q : s ≡ weighed_of (instruction_length (get_or (take due rest) i 0))) where
+    abbrev e : ℕ
+    e = get_or (take due rest) i 0
+
+    before : i < due
+    before = omega (arith, all_there)
+
+    next : drop i rest ≡ e ∷ drop (suc i) rest
+    next = drop-cons rest i 0 (omega (arith, before)) ∙ ap (λ (x : ℕ). x ∷ drop (suc i) rest) (sym (get_or-take due rest i 0 before))
+
+    goes_on : body_length n rest ≡ plus bits (body_length (suc (n - suc i)) (e ∷ drop (suc i) rest))
+    goes_on =
+        let m : n - i ≡ suc (n - suc i) = omega (arith, before) in
+        w.goes ∙ ap₂ (λ (x : ℕ) (y : List ℕ). plus bits (body_length x y)) m next
+
+    pub body_fault : {g : Ground} → s ≡ Err g → Err g ≡ weighed_of (body_length n rest)
+    unfolding body_length
+    body_fault g =
+        let f : ℕ → Outcome ℕ = λ b. and_then (body_length (n - suc i) (drop (suc i) rest)) (λ c. accepted (b + c)) in
+        weighed_fault (and_then (instruction_length e) f) (λ c. accepted (bits + c)) (weighed_fault (instruction_length e) f (sym g ∙ q)) ∙ sym (ap weighed_of goes_on)
+
+    module _ {more : ℕ} (g : s ≡ Ok more) where
+      there : instruction_length e ≡ accepted more
+      there = weighed_bits (instruction_length e) (sym g ∙ q)
+
+      pub body_small : n ≤ 255 → Fits w32 (bits + more)
+      body_small l = record { fits = omega (arith, w.most, before, instruction_most e there) }
+
+      pub body_on : BodyWalk rest n (i + 1) (bits + more)
       unfolding body_length
-      body_fault g =
-          let x = instruction_length (get_or table i 0) in
-          let f : ℕ → Outcome ℕ = λ b. and_then (body_length (left - 1) (drop (suc i) table)) (λ c. accepted (b + c)) in
-          weighed_fault (and_then x f) (λ c. accepted (bits + c)) (weighed_fault x f (sym g ∙ q))
-          ∙ sym (ap weighed_of (w.goes ∙ ap (λ (x : ℕ). plus bits (body_length x (drop i table))) (one_less left h)) ∙ (rw next))
-
-      module _ {more : ℕ} (g : s ≡ Ok more) where
-        there : instruction_length (get_or table i 0) ≡ accepted more
-        there = weighed_bits (instruction_length (get_or table i 0)) (sym g ∙ q)
-
-        pub body_small : n ≤ 255 → Fits w32 (bits + more)
-        body_small l = record { fits = omega (arith, w.fewer, instruction_most (get_or table i 0) there) }
-
-        pub body_on : BodyWalk table at n (i + 1) (left - 1) (bits + more)
-        unfolding body_length
-        body_on = record {
-          inside = omega arith;
-          fewer = omega (arith, w.fewer, instruction_most (get_or table i 0) there);
-          goes = w.goes ∙ ap (λ (x : ℕ). plus bits (body_length x (drop i table))) (one_less left h) ∙ (rw (next, there, add-one i) (plus_plus bits more (body_length (left - 1) (drop (suc i) table))));
-        }
+      body_on = record {
+        fewer = omega (arith, before);
+        inside = omega (arith, before);
+        most = omega (arith, w.most, instruction_most e there);
+        goes = goes_on ∙ (rw (there, add-one i) (plus_plus bits more (body_length (n - suc i) (drop (suc i) rest))));
+      }
 
 pub ruleset bodies = (body_begins, body_done, body_cut, body_fault, body_small, body_on)

@@ -71,22 +71,19 @@ fn header(known: [bool; 4], e: u32) -> Result<u32, Ground>
     Ok(17)
 }
 
-// The bits of the `n` instructions that are due at `at`.
+// The bits of the `n` instructions that are due at the front of `rest`.
 #[tactic(auto, using(crate::proofs::Weights::bodies))]
-fn body(table: &[u32], at: usize, n: u32) -> Result<u32, Ground>
-    requires { (at ≤ length table.now) × (n ≤ 255) }
-    ensures { result ≡ weighed_of (body_length n (drop at table.now)) }
+fn body(rest: &[u32], n: u32) -> Result<u32, Ground>
+    requires { n ≤ 255 }
+    ensures { result ≡ weighed_of (body_length n rest.now) }
 {
-    let mut i = at;
-    let mut left = n;
+    let due = rest.len().min(n as usize);
     let mut bits: u32 = 0;
-    while 0 < left {
-        if table.len() <= i {
-            return Err(Ground::TableShape);
-        }
-        bits += instruction(table[i])?;
-        i += 1;
-        left -= 1;
+    for &e in &rest[..due] {
+        bits += instruction(e)?;
+    }
+    if due < n as usize {
+        return Err(Ground::TableShape);
     }
     Ok(bits)
 }
@@ -96,11 +93,7 @@ fn longer(bits: usize, more: u32) -> usize
     requires { bits ≤ 32769 }
     ensures { result ≡ at_most (bits + more) }
 {
-    let sum = bits + more as usize;
-    if 32769 < sum {
-        return 32769;
-    }
-    sum
+    (bits + more as usize).min(32769)
 }
 
 // Judges a whole table.
@@ -115,7 +108,7 @@ pub fn judge(table: &[u32]) -> Result<Judged, Ground>
     while i < table.len() {
         let e = table[i];
         let own = header(known, e)?;
-        let more = body(table, i + 1, e % 256)?;
+        let more = body(&table[i + 1..], e % 256)?;
         known[(e / 4096 % 4) as usize] = true;
         bits = longer(bits, own + more);
         patterns += 1;

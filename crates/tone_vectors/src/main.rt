@@ -21,6 +21,7 @@
 //   NAME: refusal place octets: output                                            of a writing
 ghost use Rattle.std.specs.Prelude.{◌≤◌, ◌<◌, length};
 
+use bits::Refusal;
 use tone_read::Reading;
 use written::Writing;
 
@@ -33,26 +34,25 @@ struct InHand {
 
 // ---- printing
 
+// Prints a refusal's number and its place.
+fn show_refusal(refusal: Refusal) {
+    vectors::number(refusal.why.number() as u64);
+    vectors::number(refusal.place.0 as u64);
+}
+
 // Prints the numbers of a reading.
-fn show_reading(answer: Reading) {
+fn show_reading(answer: Result<Reading, Refusal>) {
     match answer {
-        Reading::Read {
-            song,
-            unicode,
-            characters,
-            patterns,
-            entries,
-        } => {
+        Ok(reading) => {
             io::write_all(1, b" 0 0");
-            vectors::number(song as u64);
-            vectors::number(unicode as u64);
-            vectors::number(characters as u64);
-            vectors::number(patterns as u64);
-            vectors::number(entries as u64);
+            vectors::number(reading.song as u64);
+            vectors::number(reading.unicode as u64);
+            vectors::number(reading.characters as u64);
+            vectors::number(reading.patterns as u64);
+            vectors::number(reading.entries as u64);
         }
-        Reading::Refused { number: no, place } => {
-            vectors::number(no as u64);
-            vectors::number(place.0 as u64);
+        Err(refusal) => {
+            show_refusal(refusal);
             io::write_all(1, b" 0 0 0 0 0");
         }
     }
@@ -66,8 +66,7 @@ fn show_writing(answer: Writing) {
             vectors::number(octets.0 as u64);
         }
         Err(refusal) => {
-            vectors::number(refusal.why.number() as u64);
-            vectors::number(refusal.place.0 as u64);
+            show_refusal(refusal);
             vectors::number(0);
         }
     }
@@ -153,10 +152,8 @@ fn add_times(line: &[u8], hand: InHand, octets: &mut [u8; 4100], cells: &mut [u3
 {
     let times = vectors::word(line, 2);
     let mut h = hand;
-    let mut i = 0;
-    while i < times.value {
+    for _ in 0..times.value {
         h = add(line, times.next, h, octets, cells);
-        i += 1;
     }
     h
 }

@@ -9,12 +9,13 @@ use lib.ListN.{length, take, drop}
 use lib.Seq.{take_at}
 use lib.Dec.{leb}
 use borrow.Author.Tests.{leb-true}
-use Rattle.std.specs.Prelude.{Ok}
+use Rattle.std.specs.Prelude.{Result, Ok}
 use Rattle.bits.specs.Choice.{pick}
 use Rattle.bits.specs.Bits.{Octets}
 use Rattle.bits.specs.Lent.{over}
 use Rattle.bits.specs.Outcome.{Outcome, accepted, refused}
 use Rattle.bits.specs.declared.OctetCount.{OctetCount}
+use Rattle.bits.specs.declared.refusal.Refusal.{Refusal}
 use Rattle.bits.specs.Places.{octet_count}
 use Rattle.bits.proofs.Choice.{both}
 use Rattle.tone.specs.Tone.{Tone, cells, patterns_of, characters, per_character, entries}
@@ -23,8 +24,7 @@ use Rattle.tone.specs.Reading.{read_tone}
 use Rattle.tone.proofs.Tables.{patterns_of_cells}
 use Rattle.tone.proofs.Demand2.{accepted_is_written, written_is_accepted, length_tone_octets}
 use Rattle.tone_read.specs.declared.Reading.{Reading}
-use Rattle.tone_read.specs.declared.Reading.TheVariants.{Read}
-use Rattle.tone_read.specs.Promise.{roomed, read_into, read_answer, ReadPromise}
+use Rattle.tone_read.specs.Promise.{roomed, read_into, reading, read_answer, ReadPromise}
 use Rattle.tone_read.proofs.Order.{room_enough}
 use Rattle.tone_table.proofs.Walks.{not_refused}
 use Rattle.written.specs.Written.{Writing}
@@ -42,8 +42,8 @@ pub record Readable (m table title : List ℕ) (t : Tone) : Type 0 where
   pub table_room : entries t.patterns ≤ length table
 
 -- a call of `read` that gave the tone t
-pub record ReadAs (t : Tone) (table title table' title' : List ℕ) (r : Reading) : Type 0 where
-  pub answer : r ≡ Read t.song t.unicode (characters t.unicode t.title) (length t.patterns) (entries t.patterns)
+pub record ReadAs (t : Tone) (table title table' title' : List ℕ) (r : Result Reading Refusal) : Type 0 where
+  pub answer : r ≡ Ok (reading t)
   pub its_table : table' ≡ over (cells t.patterns) table
   pub its_title : title' ≡ over t.title title
 
@@ -67,7 +67,7 @@ module _ (m table title : List ℕ) where
       go (accepted x) e r = roomy x e (leb (length x.title) (length title) && leb (entries x.patterns) (length table)) refl r
       go (refused n p) e r = absurd (not_refused r)
 
-  module _ {table' title' : List ℕ} {r : Reading} (h : ReadPromise m table title table' title' r) where
+  module _ {table' title' : List ℕ} {r : Result Reading Refusal} (h : ReadPromise m table title table' title' r) where
     -- given room, the writing of a well-formed tone is read as that tone
     pub read_gives : (t : Tone) → Readable m table title t → ReadAs t table title table' title' r
     read_gives t w =
@@ -75,35 +75,17 @@ module _ (m table title : List ℕ) where
         record { answer = rw e at h.answer; its_table = rw e at h.leaves_table; its_title = rw e at h.leaves_title }
 
     -- and nothing else is read
-    pub read_only : Octets m → {s : ℕ} {u : Bool} {c p e : ℕ} → r ≡ Read s u c p e → (t : Tone) × Readable m table title t × ReadAs t table title table' title' r
-    read_only o {s} {u} {c} {p} {e} g = go (read_into m (length title) (length table)) refl (sym g ∙ h.answer)
+    pub read_only : Octets m → {a : Reading} → r ≡ Ok a → (t : Tone) × Readable m table title t × ReadAs t table title table' title' r
+    read_only o {a} g = go (read_into m (length title) (length table)) refl (sym g ∙ h.answer)
       where
-        go : (x : Outcome Tone) → read_into m (length title) (length table) ≡ x → Read s u c p e ≡ read_answer x → (t : Tone) × Readable m table title t × ReadAs t table title table' title' r
+        go : (x : Outcome Tone) → read_into m (length title) (length table) ≡ x → Ok a ≡ read_answer x → (t : Tone) × Readable m table title t × ReadAs t table title table' title' r
         go (accepted t) q k = let w = accepted_readable t o q in (t, w, read_gives t w)
-        go (refused n l) q k = let z : ◌≡◌ {A = ℕ} 0 1 = cc in absurd (omega arith)
-
--- a call of `read` that accepts
-pub record Reads (r : Reading) : Type 0 where
-  pub song : ℕ
-  pub unicode : Bool
-  pub characters : ℕ
-  pub patterns : ℕ
-  pub entries : ℕ
-  pub is : r ≡ Read song unicode characters patterns entries
+        go (refused n l) q k = cc
 
 -- `read` accepts exactly the writings of well-formed tones for which there is room
-pub read_exactly : {m table title table' title' : List ℕ} {r : Reading} → Octets m → ReadPromise m table title table' title' r → Reads r ↔ ((t : Tone) × Readable m table title t)
-read_exactly {m} {table} {title} o h = (
-  (λ a. let b = read_only m table title h o a.is in (b.0, b.1)),
-  (λ b. record {
-    song = b.0.song;
-    unicode = b.0.unicode;
-    characters = characters b.0.unicode b.0.title;
-    patterns = length b.0.patterns;
-    entries = entries b.0.patterns;
-    is = (read_gives m table title h b.0 b.1).answer;
-  }),
-)
+pub read_exactly : {m table title table' title' : List ℕ} {r : Result Reading Refusal} → Octets m → ReadPromise m table title table' title' r → ((a : Reading) × (r ≡ Ok a)) ↔ ((t : Tone) × Readable m table title t)
+read_exactly {m} {table} {title} o h =
+    (λ a. let b = read_only m table title h o a.1 in (b.0, b.1), λ b. (reading b.0, (read_gives m table title h b.0 b.1).answer))
 
 -- ---- writing
 
@@ -138,33 +120,33 @@ taken : (new old : List ℕ) {n : ℕ} → n ≡ length new → take n (over new
 taken new old {n} e = take_at new (drop (length new) old) n (sym e)
 
 -- write after read gives the same octets
-pub write_after_read : (m table title : List ℕ) {table' title' : List ℕ} {s : ℕ} {u : Bool} {c p e : ℕ} (out : List ℕ) {out' : List ℕ} {r : Writing} → Octets m
-    → ReadPromise m table title table' title' (Read s u c p e) → length m ≤ length out
-    → WritePromise s u (take (per_character u * c) title') (take e table') out out' r
+pub write_after_read : (m table title : List ℕ) {table' title' : List ℕ} {a : Reading} (out : List ℕ) {out' : List ℕ} {r : Writing} → Octets m
+    → ReadPromise m table title table' title' (Ok a) → length m ≤ length out
+    → WritePromise a.song a.unicode (take (per_character a.unicode * a.characters) title') (take a.entries table') out out' r
     → (r ≡ Ok (octet_count (length m))) × (out' ≡ over m out)
-write_after_read m table title {table'} {title'} {s} {u} {c} {p} {e} out o h room w =
+write_after_read m table title {table'} {title'} {a} out o h room w =
     let b = read_only m table title h o refl in
     let t = b.0 in
-    let a = b.2.answer in
-    let es : s ≡ t.song = cc in
-    let eu : u ≡ t.unicode = cc in
-    let ec : c ≡ characters t.unicode t.title = cc in
-    let ee : e ≡ entries t.patterns = cc in
+    let is : a ≡ reading t = let k = b.2.answer in cc in
+    let es : a.song ≡ t.song = ap (λ (x : Reading). x.song) is in
+    let eu : a.unicode ≡ t.unicode = ap (λ (x : Reading). x.unicode) is in
+    let ec : a.characters ≡ characters t.unicode t.title = ap (λ (x : Reading). x.characters) is in
+    let ee : a.entries ≡ entries t.patterns = ap (λ (x : Reading). x.entries) is in
     let f = b.1.well_formed.formed.front.titled in
-    let n : per_character u * c ≡ length t.title = ap₂ (λ (x : Bool) (y : ℕ). per_character x * y) eu ec ∙ f.whole in
-    let et : take (per_character u * c) title' ≡ t.title = ap (take (per_character u * c)) b.2.its_title ∙ taken t.title title n in
-    let el : take e table' ≡ cells t.patterns = ap (take e) b.2.its_table ∙ taken (cells t.patterns) table ee in
+    let n : per_character a.unicode * a.characters ≡ length t.title = ap₂ (λ (x : Bool) (y : ℕ). per_character x * y) eu ec ∙ f.whole in
+    let et : take (per_character a.unicode * a.characters) title' ≡ t.title = ap (take (per_character a.unicode * a.characters)) b.2.its_title ∙ taken t.title title n in
+    let el : take a.entries table' ≡ cells t.patterns = ap (take a.entries) b.2.its_table ∙ taken (cells t.patterns) table ee in
     let em = b.1.writing in
     let k : tone_length t ≡ length m = sym (length_tone_octets t) ∙ ap length em in
-    let g = write_gives s u (take (per_character u * c) title') (take e table') out w t
+    let g = write_gives a.song a.unicode (take (per_character a.unicode * a.characters) title') (take a.entries table') out w t
     (record { well_formed = b.1.well_formed; its_song = sym es; its_unicode = sym eu; its_title = sym et; its_table = sym el; fits = omega arith }) in
     (rw (← k) g.answer, rw (← em) g.its_octets)
 
 -- read after write gives the parts back
-pub read_after_write : (song : ℕ) (u : Bool) (title table out : List ℕ) {out' : List ℕ} {n : OctetCount} (table₂ title₂ : List ℕ) {table₂' title₂' : List ℕ} {r : Reading} → Octets title
+pub read_after_write : (song : ℕ) (u : Bool) (title table out : List ℕ) {out' : List ℕ} {n : OctetCount} (table₂ title₂ : List ℕ) {table₂' title₂' : List ℕ} {r : Result Reading Refusal} → Octets title
     → WritePromise song u title table out out' (Ok n) → length title ≤ length title₂ → length table ≤ length table₂
     → ReadPromise (take n.0 out') table₂ title₂ table₂' title₂' r
-    → (r ≡ Read song u (characters u title) (length (patterns_of table)) (length table)) × (table₂' ≡ over table table₂) × (title₂' ≡ over title title₂)
+    → (r ≡ Ok (record { song = song; unicode = u; characters = characters u title; patterns = length (patterns_of table); entries = length table })) × (table₂' ≡ over table table₂) × (title₂' ≡ over title title₂)
 read_after_write song u title table out {out'} {n} table₂ title₂ {r = r} o h kt kl q =
     let b = write_only song u title table out h o refl in
     let t = b.0 in

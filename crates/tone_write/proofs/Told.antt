@@ -1,39 +1,36 @@
--- What each return of `titled`, `fill`, `save` and `write` shows.
+-- What each return of `front_end`, `legible`, `save` and `write` shows.
 use Prim.Native.Nat.{ℕ, ◌+◌, ◌*◌, ◌/◌, ◌%◌, ◌^◌, ◌≤◌, ◌<◌}
 use native.Mathlib.Omega.{arith}
 use mathlib.Core.Path.{◌≡◌, refl, sym, ap, ap₂, subst, ◌∙◌}
 use mathlib.Core.Logic.{◌⊎◌, ⊎_elim}
-use mathlib.Core.Bool.{Bool, true, false, ◌&&◌}
+use mathlib.Core.Bool.{Bool, true, false}
 use mathlib.Core.List.{List}
 use lib.ListN.{length, get_or, length-append}
 use lib.Dec.{leb, eqb, lit≤}
-use borrow.Author.Tests.{le-leb, lt-leb, eq-eqb, ne_eqb, eqb-true, leb-true, leb-false}
+use borrow.Author.Tests.{le-leb, lt-leb, eq-eqb, ne_eqb, eqb-true, leb-true}
 use mir.Val.{Fits}
 use mir.Syntax.{w8, w64}
 use Rattle.std.specs.Prelude.{Result, Ok, Err}
 use Rattle.bits.specs.Choice.{pick}
 use Rattle.bits.specs.Bits.{bits_of, place_after, octets_to}
 use Rattle.bits.specs.Lent.{over}
-use Rattle.bits.specs.declared.BitPlace.{BitPlace}
 use Rattle.bits.specs.declared.OctetCount.{OctetCount}
 use Rattle.bits.specs.Outcome.{Outcome, accepted, refused}
 use Rattle.bits.specs.Places.{place, octet_count}
 use Rattle.bits.specs.Refusals.{ground_of, refusal}
 use Rattle.bits.specs.declared.refusal.Ground.{Ground}
 use Rattle.bits.specs.declared.refusal.Refusal.{Refusal}
-use Rattle.bits.proofs.Choice.{both, and_true}
+use Rattle.bits.proofs.Choice.{both}
 use Rattle.bits.proofs.Octets.{octets_of_lem}
 use Rattle.bits.proofs.Refusals.{GivenBy}
 use Rattle.tone.specs.Tone.{Tone, front_of, cells, patterns_of, per_character, character_bits, characters, allowed_title}
 use Rattle.tone.specs.Writing.{table_bits, front_bits, song_bits, tone_length, tone_octets, most_octets}
-use Rattle.tone.proofs.Rows.{and_false}
-use Rattle.tone.specs.Reading.{got, bad, text}
+use Rattle.tone.specs.Reading.{text}
 use Rattle.tone.proofs.Fronts.{song_fine_lem, own_reads, own_allowed}
-use Rattle.tone_elements.specs.declared.Characters.{Characters}
-use Rattle.tone_elements.specs.declared.Characters.TheVariants.{Present, Faulty}
-use Rattle.tone_elements.specs.Answers.{Within, characters_of, Sure, AllowedAt}
-use Rattle.tone_elements.proofs.Steps.{characters_good_lem, characters_bad}
+use Rattle.tone_elements.specs.Answers.{Within, Sure, Complete, AllowedAt}
+use Rattle.tone_elements.proofs.Steps.{seen_made}
 use Rattle.tone_elements.proofs.Titles.{text_told}
+use Rattle.tone_sound.proofs.Dues.{text_read}
 use Rattle.tone_table.specs.declared.Judged.{Judged}
 use Rattle.tone_table.specs.Judging.{judge_table}
 use Rattle.tone_table.specs.Answers.{at_most, judged_of}
@@ -47,45 +44,6 @@ use Rattle.tone_write.proofs.Pieces.{plus_ten}
 use Rattle.tone_write.proofs.Filling.{front_length_lem}
 use Rattle.tone_write.proofs.Accepting.{whole_characters, write_given}
 use Rattle.tone_write.proofs.Order.{table_fourth}
-
--- ---- the title
-
--- two tests that hold together
-same_test : (a b c d : ℕ) → (a ≤ b → c ≤ d) → (c ≤ d → a ≤ b) → leb a b ≡ leb c d
-same_test a b c d f g = go (leb a b) (leb c d) refl refl
-  where
-    go : (s t : Bool) → leb a b ≡ s → leb c d ≡ t → s ≡ t
-    go true true h k = refl
-    go true false h k = let x = f (leb-true a b h) in let y = leb-false c d k in let z : ⊥ = omega arith in absurd z
-    go false true h k = let x = g (leb-true c d k) in let y = leb-false a b h in let z : ⊥ = omega arith in absurd z
-    go false false h k = refl
-
-module _ (song : ℕ) (title : List ℕ) where
-  pub titled_temporary : (u : Bool) → (song ≡ 1 → ⊥) → eqb (length title) 0 ≡ title_fine song u title
-  titled_temporary u e = rw (ne_eqb song 1 e) (go (eqb (length title) 0) refl)
-    where
-      none : (u : Bool) → length title ≡ 0 → (leb (characters u title) 15 && (eqb (length title % per_character u) 0 && true)) ≡ true
-      none true h = rw h refl
-      none false h = rw h refl
-
-      go : (b : Bool) → eqb (length title) 0 ≡ b → b ≡ (leb (characters u title) 15 && (eqb (length title % per_character u) 0 && b))
-      go true h = sym (none u (eqb-true (length title) 0 h))
-      go false h = sym (ap (λ (x : Bool). leb (characters u title) 15 && x) (and_false (eqb (length title % per_character u) 0)) ∙ and_false (leb (characters u title) 15))
-
-  module _ {u : Bool} (e : song ≡ 1) where
-    pub titled_odd : u ≡ true → (length title % 2 ≡ 0 → ⊥) → false ≡ title_fine song u title
-    titled_odd t h = rw (t, ne_eqb (length title % 2) 0 h) (sym (and_false (leb (length title / 2) 15)))
-
-    pub titled_unicode : u ≡ true → length title % 2 ≡ 0 → leb (length title) 30 ≡ title_fine song u title
-    titled_unicode t h = rw (t, eq-eqb (length title % 2) 0 h, eq-eqb song 1 e) (same_test (length title) 30 (length title / 2) 15 (λ k. omega arith) (λ k. omega arith) ∙ sym (and_true (leb (length title / 2) 15)))
-
-    pub titled_plain : u ≡ false → leb (length title) 15 ≡ title_fine song u title
-    titled_plain f =
-        let z : length title % 1 ≡ 0 = omega arith in
-        let n : length title / 1 ≡ length title = omega arith in
-        rw (f, eq-eqb song 1 e, z, n) (sym (and_true (leb (length title) 15)))
-
-pub ruleset titlings = (titled_temporary, titled_odd, titled_unicode, titled_plain)
 
 -- ---- the front's bits
 
@@ -144,25 +102,10 @@ module _ (u : Bool) (title : List ℕ) (n : ℕ) (h : (n ≤ 15) × (length titl
       go true e = record { inside = omega arith; counted = omega (arith, h.0) }
       go false e = record { inside = omega arith; counted = omega (arith, h.0) }
 
-  module _ (each : (i : ℕ) → Fits w8 (get_or title i 0)) where
-    module _ {x : Characters} (q : x ≡ characters_of (text u n (bits_of title) 0)) where
-      pub legible_all : {f : BitPlace} {k : OctetCount} → x ≡ Present f k → true ≡ allowed_title u title
-      legible_all g = let t = characters_good_lem (text u n (bits_of title) 0) (sym g ∙ q) in sym (own_allowed u n title (octets_of_lem title each) h.1 t.1)
-
-      pub legible_not : {f : BitPlace} {k : ℕ} → x ≡ Faulty f k → false ≡ allowed_title u title
-      legible_not g = go (allowed_title u title) refl
-        where
-          go : (b : Bool) → allowed_title u title ≡ b → false ≡ b
-          go false e = refl
-          go true e =
-              let t = characters_bad (text u n (bits_of title) 0) (sym g ∙ q) in
-              let z : got title (0 + length (bits_of title)) ≡ bad _ _ _ = sym (own_reads u n title (octets_of_lem title each) h.1 e) ∙ t.1 in
-              let y : ◌≡◌ {A = ℕ} 0 1 = cc in
-              absurd (omega arith)
-
-    -- where it is told a few characters at a time
-    pub legible_told : {t : Bool} → Sure t (AllowedAt title 0 u n) → t ≡ true → true ≡ allowed_title u title
-    legible_told a t = legible_all (text_told title 0 u n (refl, bits u) (refl, (octets u).0, (octets u).1) legible_within a t) refl
+  -- the test passes where its characters are allowed, and nowhere else
+  module _ (each : (i : ℕ) → Fits w8 (get_or title i 0)) {t : Bool} (a : Sure t (AllowedAt title 0 u n) × Complete t (AllowedAt title 0 u n)) where
+    pub legible_is : t ≡ allowed_title u title
+    legible_is = go t (allowed_title u title) refl refl
       where
         bits : (u : Bool) → n * character_bits u ≤ 240
         bits true = omega (arith, h.0)
@@ -172,7 +115,20 @@ module _ (u : Bool) (title : List ℕ) (n : ℕ) (h : (n ≤ 15) × (length titl
         octets true = (lit≤ tt, lit≤ tt)
         octets false = (lit≤ tt, lit≤ tt)
 
-pub ruleset letters = (legible_within, legible_all, legible_not, legible_told)
+        passes : allowed_title u title ≡ true → t ≡ true
+        passes e = a.1.passes (text_read title u n 0 (omega arith) (own_reads u n title (octets_of_lem title each) h.1 e)).0
+
+        allows : t ≡ true → allowed_title u title ≡ true
+        allows e =
+            let q = text_told title 0 u n (refl, bits u) (refl, (octets u).0, (octets u).1) legible_within a.0 e in
+            own_allowed u n title (octets_of_lem title each) h.1 (seen_made (λ t. octet_count (length t)) (text u n (bits_of title) 0) q).1
+
+        go : (x y : Bool) → t ≡ x → allowed_title u title ≡ y → t ≡ allowed_title u title
+        go true y e f = e ∙ sym (allows e)
+        go false true e f = passes f ∙ sym f
+        go false false e f = e ∙ sym f
+
+pub ruleset letters = (legible_within, legible_is)
 
 -- ---- once the song type and the title are fine
 

@@ -16,7 +16,6 @@ ghost use Rattle.tone_write.specs.Appending.{reached, Appended, Begun, front_wit
 ghost use Rattle.tone_write.specs.Promise.{WritePromise};
 
 use bits::{BitPlace, Ground, OctetCount, Sink};
-use tone_elements::Characters;
 use written::Writing;
 
 // ---- writing
@@ -44,10 +43,8 @@ fn put_table(out: &mut [u8], from: Sink, table: &[u32]) -> Sink
     ensures { Appended from (table_bits table.now) out.old out.new result }
 {
     let mut s = from;
-    let mut i: usize = 0;
-    while i < table.len() {
-        s = put_entry(out, s, table[i]);
-        i += 1;
+    for &e in table {
+        s = put_entry(out, s, e);
     }
     s
 }
@@ -59,10 +56,8 @@ fn put_octets(out: &mut [u8], from: Sink, octets: &[u8]) -> Sink
     ensures { Appended from (bits_of octets.now) out.old out.new result }
 {
     let mut s = from;
-    let mut i: usize = 0;
-    while i < octets.len() {
-        s = bits::put(out, s, 8, octets[i] as u32);
-        i += 1;
+    for &octet in octets {
+        s = bits::put(out, s, 8, octet as u32);
     }
     s
 }
@@ -125,6 +120,7 @@ fn put_front(out: &mut [u8], song: u32, unicode: bool, title: &[u8], count: u32)
 }
 
 // Writes a tone that has room.
+#[tactic(auto, using(crate::proofs::Filling::fills))]
 fn fill(
     out: &mut [u8],
     song: u32,
@@ -154,15 +150,14 @@ fn titled(song: u32, unicode: bool, title: &[u8]) -> bool
         return n == 0;
     }
     if unicode {
-        if n % 2 != 0 {
-            return false;
-        }
-        return n <= 30;
+        n % 2 == 0 && n <= 30
+    } else {
+        n <= 15
     }
-    n <= 15
 }
 
 // Where the patterns begin, behind so many octets of title.
+#[tactic(auto, using(crate::proofs::Told::fronts))]
 fn front_end(song: u32, unicode: bool, octets: OctetCount) -> BitPlace
     requires { octets.0 < 2 ^ 60 }
     ensures { result.0 ≡ front_length song unicode octets.0 }
@@ -197,13 +192,7 @@ fn legible(unicode: bool, title: &[u8], n: u32) -> bool
     requires { (n ≤ 15) × (length title.now ≡ per_character unicode * n) }
     ensures { result ≡ allowed_title unicode title.now }
 {
-    if tone_elements::all_allowed(title, BitPlace(0), unicode, n) {
-        return true;
-    }
-    match tone_elements::lettered(title, BitPlace(0), unicode, n) {
-        Characters::Faulty { at: _, number: _ } => false,
-        Characters::Present { next: _, octets: _ } => true,
-    }
+    tone_elements::all_allowed(title, BitPlace(0), unicode, n)
 }
 
 // Writes a tone from its song type, its title and its table.

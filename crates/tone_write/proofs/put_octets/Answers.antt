@@ -3,33 +3,8 @@ use borrow.Author.Rules.{rules}
 use Rattle.tone_write.proofs.Pieces.{rows}
 use Rattle.tone_write.proofs.put_octets.Goals as goal
 
-pub loop-i-init : goal.loop-i-init
-loop-i-init c = search (rows, rules)
+pub put-s-requires-clause-w_bound : goal.put-s-requires-clause-w_bound
+put-s-requires-clause-w_bound c = search (rows, rules)
 
-pub bounds-octets-i : goal.bounds-octets-i
-bounds-octets-i c = search (rows, rules)
-
-pub overflow_cast-octets : goal.overflow_cast-octets
-overflow_cast-octets c = search (rows, c.type_inv.octets c.loop-i.i, rules)
-
-pub put-s-requires : goal.put-s-requires
-put-s-requires c =
-    record {
-      in_hand = search (rows, c.type_inv.octets c.loop-i.i, rules);
-      w_bound = search (rows, c.type_inv.octets c.loop-i.i, rules);
-    }
-
-pub overflow_add-i : goal.overflow_add-i
-overflow_add-i c = search (rows, rules)
-
-pub loop-i-smaller : goal.loop-i-smaller
-loop-i-smaller c = search (rows, rules)
-
-pub loop-i-preserved : goal.loop-i-preserved
-loop-i-preserved c = search (rows, rules)
-
-pub shape_of-out : goal.shape_of-out
-shape_of-out c = search (rows, rules)
-
-pub returns : goal.returns
-returns c = search (rows, rules)
+pub loop-octet-preserved : goal.loop-octet-preserved
+loop-octet-preserved c = search (rows, rules)

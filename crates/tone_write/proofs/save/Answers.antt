@@ -10,6 +10,12 @@ returns-in_err-judged c =
     let f = err_from_is_err_and c.from_residual.result c.from_residual.ensures.1 in
     rw f.1 (save_faulty a.song a.unicode a.title.now a.table.now a.out.now c.requires.0 c.requires.1 c.requires.2 c.judge.ensures c.in_err-judged.was f.2)
 
+pub overflow_add-end : goal.overflow_add-end
+overflow_add-end c = search (savings, c.in_ok-judged.was, rules)
+
+pub octets_to-octets-requires : goal.octets_to-octets-requires
+octets_to-octets-requires c = search (savings, c.in_ok-judged.was, rules)
+
 pub returns-then-octets-gt4096 : goal.returns-then-octets-gt4096
 returns-then-octets-gt4096 c = search (savings, c.in_ok-judged.was, rules)
 
