@@ -40,6 +40,7 @@ pub struct Walk {
 }
 
 // Puts an entry's cells into the list, and answers where the next entry's go.
+#[tactic(auto, using(crate::proofs::Stepping::puttings))]
 fn put_cells(list: &mut [u32], at: usize, sound: u32, microseconds: u32, origin: u32) -> usize
     requires { at + entry_cells ≤ length list.old }
     ensures value { result ≡ at + entry_cells }
@@ -72,6 +73,7 @@ impl Walk {
     }
 
     // A pass of a body that stands at a place, of a pattern with this loop value, begins: with loop 15 the fraction restarts.
+    #[tactic(auto, using(crate::proofs::Stepping::beginnings))]
     fn begun(self, from: BitPlace, value: u32) -> Walk
         requires { Ready self }
         ensures { Begun value from self result }
@@ -87,6 +89,7 @@ impl Walk {
     }
 
     // The next header is due.
+    #[tactic(auto, using(crate::proofs::Stepping::beginnings))]
     fn next_header(self) -> Walk
         requires { Ready self × (self.header < 255) }
         ensures { Headed self result }
