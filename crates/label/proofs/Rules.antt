@@ -13,7 +13,7 @@ use borrow.Author.Tests.{eqb-true, eqb-false, eq-eqb}
 use Rattle.bits.specs.Choice.{pick}
 use Rattle.tone.specs.Tone.{per_character}
 use Rattle.label.specs.Label.{number, character, trimmed, left_octets, trimmed_title, space, spaces, odd, stands_in, NoTitle, odd_octets, nothing_left}
-use Rattle.label.proofs.Trimming.{trimmed_space, trimmed_other, whole}
+use Rattle.label.proofs.Trimming.{trimmed_space, trimmed_other, whole, some_octet}
 use Rattle.label.proofs.Exits.{trimmed_most, left_inside}
 use Rattle.label.proofs.Spaces.{length_space, length_spaces, space_spells, spells_space, spaces_at}
 
@@ -60,10 +60,6 @@ shared : (unicode : Bool) (all few n : ℕ) → per_character unicode * all ≡ 
 shared true all few n e = (all - n, omega arith, omega arith)
 shared false all few n e = (all - n, omega arith, omega arith)
 
-some : (unicode : Bool) → 1 ≤ per_character unicode
-some true = omega arith
-some false = omega arith
-
 module _ (unicode : Bool) (title : List ℕ) (even : odd unicode title ≡ false) where
   -- the octets of a character, the title's characters, and how many of them are left
   abbrev w : ℕ
@@ -107,7 +103,7 @@ module _ (unicode : Bool) (title : List ℕ) (even : odd unicode title ≡ false
       size = sym (length-take-le (w * kept) title most) ∙ ap length e ∙ length-append a (space unicode) ∙ ap (λ (x : ℕ). length a + x) (length_space unicode)
 
       go : (t : ℕ) → kept ≡ t → ⊥
-      go zero q = let z = ap (λ (x : ℕ). w * x) q ∙ mul-zero w in omega (arith, some unicode, size)
+      go zero q = let z = ap (λ (x : ℕ). w * x) q ∙ mul-zero w in omega (arith, some_octet unicode, size)
       go (suc k) q =
           let z = ap (λ (x : ℕ). w * x) q ∙ mul-suc w k in
           let split = sym (take-add (w * k) w title) ∙ ap (λ (x : ℕ). take x title) (sym z) ∙ e in
@@ -154,7 +150,7 @@ stands_in_lem unicode title = (λ h. there (odd unicode title) refl h, back)
         nothing_left m.0 (m.1 ∙ ap (λ (x : ℕ). take x title ++ spaces unicode m.0) z)
 
     none : (b : List ℕ) → [] ≡ b ++ space unicode → ⊥
-    none b e = omega (arith, ap length e ∙ length-append b (space unicode), length_space unicode, some unicode)
+    none b e = omega (arith, ap length e ∙ length-append b (space unicode), length_space unicode, some_octet unicode)
 
     nothing : (n : ℕ) → title ≡ spaces unicode n → (b : Bool) → odd unicode title ≡ b → (b || eqb (left_octets (per_character unicode) title) 0) ≡ true
     nothing n e true q = refl

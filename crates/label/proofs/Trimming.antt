@@ -1,7 +1,7 @@
 -- Trailing spaces are left out, one after the other from the title's end.
 use Prim.Native.Nat.{ℕ, zero, suc, ◌+◌, ◌-◌, ◌*◌, ◌/◌, ◌%◌, ◌≤◌, ◌<◌}
 use native.Mathlib.Omega.{arith}
-use native.Mathlib.Nat.{mul-suc, mul-zero}
+use native.Mathlib.Nat.{mul-suc}
 use mathlib.Core.Path.{◌≡◌, refl, sym, ap, ◌∙◌}
 use mathlib.Core.Bool.{Bool, true, false}
 use mathlib.Core.List.{List}
@@ -35,17 +35,22 @@ pub record Trimming (unicode : Bool) (title : List ℕ) (w end : ℕ) : Type 0 w
   pub inside : end ≤ length title
   pub same : left_octets (per_character unicode) title ≡ w * trimmed w title n
 
-pub trim_begins : {unicode : Bool} {title : List ℕ} {w : ℕ} → (w ≡ per_character unicode) × (1 ≤ w) → odd unicode title ≡ false → Trimming unicode title w (length title)
+-- a character has an octet at least
+pub some_octet : (unicode : Bool) → 1 ≤ per_character unicode
+some_octet true = omega arith
+some_octet false = omega arith
+
+pub trim_begins : {unicode : Bool} {title : List ℕ} {w : ℕ} → w ≡ per_character unicode → odd unicode title ≡ false → Trimming unicode title w (length title)
 unfolding left_octets
 trim_begins {unicode} {title} {w} h o =
-    record { wide = h.0; some = h.1; n = length title / w; here = sym (rw h.0 (whole unicode title o)); inside = omega arith; same = rw h.0 refl }
+    record { wide = h; some = rw h (some_octet unicode); n = length title / w; here = sym (rw h (whole unicode title o)); inside = omega arith; same = rw h refl }
 
-pub trim_ends : {unicode : Bool} {title : List ℕ} {w end : ℕ} → Trimming unicode title w end → end ≤ 0 → 0 ≡ left_octets (per_character unicode) title
+pub trim_ends : {unicode : Bool} {title : List ℕ} {w end : ℕ} → Trimming unicode title w end → end ≤ 0 → end ≡ left_octets (per_character unicode) title
 unfolding trimmed
 trim_ends {unicode} {title} {w} {end} t h = go t.n t.here t.same
   where
-    go : (n : ℕ) → end ≡ w * n → left_octets (per_character unicode) title ≡ w * trimmed w title n → 0 ≡ left_octets (per_character unicode) title
-    go zero e s = sym (s ∙ mul-zero w)
+    go : (n : ℕ) → end ≡ w * n → left_octets (per_character unicode) title ≡ w * trimmed w title n → end ≡ left_octets (per_character unicode) title
+    go zero e s = e ∙ sym s
     go (suc n) e s = absurd (omega (arith, mul-suc w n, t.some))
 
 module _ {unicode : Bool} {title : List ℕ} {w end : ℕ} (t : Trimming unicode title w end) (h : 0 < end) where

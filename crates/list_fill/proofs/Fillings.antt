@@ -39,7 +39,7 @@ use Rattle.list_rules.proofs.Headers.{passes_header}
 use Rattle.list_rules.proofs.Joining.{play_last}
 use Rattle.list_rules.proofs.Restarts.{patterns_carry}
 use Rattle.list_rules.proofs.Packing.{length_numbers}
-use Rattle.list_fill.proofs.Walking.{and_then, advanced_long}
+use Rattle.list_fill.proofs.Walking.{and_then, advanced_long, one_more_done}
 
 -- ---- the four parts are the places of the bodies that are remembered
 
@@ -298,5 +298,9 @@ module _ {m : List ℕ} {ps : List Pattern} {old new : List ℕ} {parts : List (
 -- the list keeps its length in a turn
 pub list_long : {m : List ℕ} {ps : List Pattern} {old new new' : List ℕ} {parts : List (Option Kept)} {p : ℕ} {w w' : Walk} {left i q : ℕ} {d : Played} → ListWalk m ps old new parts p w left → Advanced i d q new new' w' → length new' ≡ length old
 list_long v a = advanced_long a ∙ list_same v
+
+-- the same, where those that are done are counted
+pub listed : (n k : ℕ) {m : List ℕ} {ps : List Pattern} {old new : List ℕ} {parts : List (Option Kept)} {p : ℕ} {w : Walk} → ListWalk m ps old new parts p w (n - k - 1) → ListWalk m ps old new parts p w (n - (k + 1))
+listed n k {m} {ps} {old} {new} {parts} {p} {w} v = subst (λ (l : ℕ). ListWalk m ps old new parts p w l) (one_more_done n k) v
 
 pub ruleset listings = (list_begins, list_same, list_long, list_done, list_entry, list_unknown, list_body, list_fits, list_ends, list_header, list_on)

@@ -115,6 +115,10 @@ split_of m k p left {b} {q} h e =
     let j = onward_made (body_due (left - k) l i.1) (λ t. i.0 ++ t) i.3 in
     record { front = i.0; others = j.0; behind = i.1; body = j.2; first = i.2; more = j.1 }
 
+-- one of n more is done
+pub one_more_done : (n k : ℕ) → n - k - 1 ≡ n - (k + 1)
+one_more_done n k = omega arith
+
 -- ---- one pass
 
 -- with `left` instructions to come at the walk's place, of the body b that began behind the first i cells from the state s
@@ -273,6 +277,13 @@ module _ {m : List ℕ} {s : State} {b : List ℕ} {at i q : ℕ} {old new : Lis
   pub few_done : left ≤ 0 → Advanced i (pass s b) q old new w
   few_done h = pass_done f.walked h
 
+-- the same, where those that are done are counted
+module _ {m : List ℕ} {s : State} {b : List ℕ} {at i q : ℕ} {old new : List ℕ} {w : Walk} {n k : ℕ} (f : FewWalk m s b at i q old new w (n - k)) where
+  pub few_counted : k < n → {x : ℕ} → Sight 57 (drop at (bits_of m)) x → {new' : List ℕ} {w' : Walk}
+      → Advanced w.cells (step (state_of w) (entry_seen (x * 2 ^ (w.at.0 - at) % 2 ^ 64))) (w.at.0 + length (entry_bits (entry_seen (x * 2 ^ (w.at.0 - at) % 2 ^ 64)))) new new' w'
+      → FewWalk m s b at i q old new' w' (n - (k + 1))
+  few_counted h sight {new'} {w'} a = subst (λ (l : ℕ). FewWalk m s b at i q old new' w' l) (one_more_done n k) (few_on f (omega arith) sight a)
+
 pub ruleset seeings = (few_begins, few_ready, few_long, few_back, few_near, few_position, few_place, few_instruction, few_room, few_on, few_done)
 
 -- ---- so many passes
@@ -365,5 +376,11 @@ times_body h g = rw g.place h
 -- with positions for all its instructions
 pub times_positions : {m : List ℕ} {value n q : ℕ} {b : List ℕ} {from : BitPlace} {w w₁ : Walk} → BodyAt m from.0 n b q → Begun value from w w₁ → w₁.position + n ≤ 255
 times_positions h g = omega (arith, h.short, ap (λ (r : State). r.position) g.state)
+
+-- the same, where those that are done are counted
+module _ {m : List ℕ} {from : BitPlace} {n value : ℕ} {s : State} {i : ℕ} {old new : List ℕ} {w : Walk} {times k : ℕ} (v : TimesWalk m from n value s i old new w (times - k)) where
+  pub times_counted : k < times → {w₁ : Walk} → Begun value from w w₁ → {new' : List ℕ} {w' : Walk}
+      → Advanced w₁.cells (pass (state_of w₁) (body_in m w₁.at.0 n)) (behind_in m w₁.at.0 n) new new' w' → TimesWalk m from n value s i old new' w' (times - (k + 1))
+  times_counted h g {new'} {w'} a = subst (λ (l : ℕ). TimesWalk m from n value s i old new' w' l) (one_more_done times k) (times_on v (omega arith) g a)
 
 pub ruleset timings = (times_begin, times_ready, times_long, times_body, times_positions, times_room, times_on, times_done)

@@ -40,6 +40,7 @@ pub struct Walk {
 }
 
 // Puts an entry's cells into the list, and answers where the next entry's go.
+#[tactic(auto, using(crate::proofs::Stepping::puttings))]
 fn put_cells(list: &mut [u32], at: usize, sound: u32, microseconds: u32, origin: u32) -> usize
     requires { at + entry_cells ≤ length list.old }
     ensures value { result ≡ at + entry_cells }
@@ -72,6 +73,7 @@ impl Walk {
     }
 
     // A pass of a body that stands at a place, of a pattern with this loop value, begins: with loop 15 the fraction restarts.
+    #[tactic(auto, using(crate::proofs::Stepping::beginnings))]
     fn begun(self, from: BitPlace, value: u32) -> Walk
         requires { Ready self }
         ensures { Begun value from self result }
@@ -87,6 +89,7 @@ impl Walk {
     }
 
     // The next header is due.
+    #[tactic(auto, using(crate::proofs::Stepping::beginnings))]
     fn next_header(self) -> Walk
         requires { Ready self × (self.header < 255) }
         ensures { Headed self result }
@@ -148,11 +151,9 @@ fn fill_few(msg: &[u8], n: u32, list: &mut [u32], w: Walk) -> Walk
     let at = w.at;
     let s = bits::sight(msg, at);
     let mut walk = w;
-    let mut left = n;
-    while 0 < left {
+    for _ in 0..n {
         let here = walk.at.0;
         walk = walk.step(s << (here - at.0) as u32, list);
-        left -= 1;
     }
     walk
 }
@@ -174,19 +175,17 @@ fn fill_pass(msg: &[u8], n: u32, list: &mut [u32], w: Walk) -> Walk
     walk
 }
 
-// Fills in the passes of a loop value, of the `n` instructions that stand at a place. The state carries on, but for the
-// restarts of a loop 15.
-fn fill_passes(msg: &[u8], from: BitPlace, n: u32, value: u32, list: &mut [u32], w: Walk) -> Walk
+// Fills in the passes of a loop value, of a body. The state carries on, but for the restarts of a loop 15.
+fn fill_passes(msg: &[u8], body: Body, value: u32, list: &mut [u32], w: Walk) -> Walk
     requires ready { Ready w × (value ≤ 15) }
-    requires body_at { BodyAt msg.now from.0 n (body_in msg.now from.0 n) (behind_in msg.now from.0 n) }
-    requires value_in_bounds { w.cells + entry_cells * (notes_of (body_in msg.now from.0 n) * passes_of value) ≤ length list.old }
-    ensures { Advanced w.cells (passes value (passes_of value) (state_of w) (body_in msg.now from.0 n)) (behind_in msg.now from.0 n) list.old list.new result }
+    requires body_at { BodyAt msg.now body.at.0 body.count (body_in msg.now body.at.0 body.count) (behind_in msg.now body.at.0 body.count) }
+    requires value_in_bounds { w.cells + entry_cells * (notes_of (body_in msg.now body.at.0 body.count) * passes_of value) ≤ length list.old }
+    ensures { Advanced w.cells (passes value (passes_of value) (state_of w) (body_in msg.now body.at.0 body.count)) (behind_in msg.now body.at.0 body.count) list.old list.new result }
 {
+    let times = list_count::passes_of(value);
     let mut walk = w;
-    let mut left = list_count::passes_of(value);
-    while 0 < left {
-        walk = fill_pass(msg, n, list, walk.begun(from, value));
-        left -= 1;
+    for _ in 0..times {
+        walk = fill_pass(msg, body.count, list, walk.begun(body.at, value));
     }
     walk
 }
@@ -207,8 +206,7 @@ pub fn fill_list(msg: &[u8], at: BitPlace, n: u32, list: &mut [u32])
     let mut parts = [None; 4];
     let mut place = at;
     let mut walk = Walk::start(at);
-    let mut left = n;
-    while 0 < left {
+    for _ in 0..n {
         let head = tone_elements::entry_at(msg, place);
         let header = head.cell;
         let id = (header / 4096 % 4) as usize;
@@ -222,12 +220,11 @@ pub fn fill_list(msg: &[u8], at: BitPlace, n: u32, list: &mut [u32])
         let Some(body) = part else {
             return;
         };
-        walk = fill_passes(msg, body.at, body.count, value, list, walk);
+        walk = fill_passes(msg, body, value, list, walk);
         if value == 15 {
             return;
         }
         place = behind_pattern(header, head.next, walk.at);
         walk = walk.next_header();
-        left -= 1;
     }
 }

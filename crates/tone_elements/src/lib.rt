@@ -308,7 +308,7 @@ fn character_bits(unicode: bool) -> u32
 }
 
 // The octets of a title's character.
-fn character_octets(unicode: bool) -> OctetCount
+pub fn character_octets(unicode: bool) -> OctetCount
     ensures { (result.0 ≡ per_character unicode) × (result.0 ≤ 2) × (1 ≤ result.0) }
 {
     if unicode {

@@ -3,14 +3,11 @@ use borrow.Author.Rules.{rules}
 use Rattle.label.proofs.Exits.{supplies}
 use Rattle.label.proofs.supplied.Goals as goal
 
-pub returns-then-odd : goal.returns-then-odd
-returns-then-odd c = search (supplies, rules)
+pub returns-then-n-ne0 : goal.returns-then-n-ne0
+returns-then-n-ne0 c = search (supplies, rules)
 
-pub left-n-requires : goal.left-n-requires
-left-n-requires c = search (supplies, rules)
+pub returns-else-n-ne0 : goal.returns-else-n-ne0
+returns-else-n-ne0 c = search (supplies, rules)
 
-pub returns-then-n-eq0 : goal.returns-then-n-eq0
-returns-then-n-eq0 c = search (supplies, rules)
-
-pub returns : goal.returns
-returns c = search (supplies, rules)
+pub returns-else-not-odd : goal.returns-else-not-odd
+returns-else-not-odd c = search (supplies, rules)

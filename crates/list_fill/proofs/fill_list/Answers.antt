@@ -1,75 +1,38 @@
--- `list_fill::fill_list` meets its contract. What is left to play falls with each turn.
-use borrow.Author.Rules.{rules}
-use Rattle.list_fill.proofs.Fillings.{list_begins, list_body, list_fits, list_header, list_on, listings}
+-- `list_fill::fill_list` meets its contract.
+use native.Mathlib.Omega.{arith}
+use native.Mathlib.Numerals.{unary_clauses}
+use Rattle.list_fill.proofs.Fillings.{list_begins, list_entry, list_unknown, list_body, list_fits, list_ends, list_header, list_on, list_done, listed}
 use Rattle.list_fill.proofs.fill_list.Goals as goal
 
-pub start-walk-requires : goal.start-walk-requires
-start-walk-requires c = search (listings, rules)
+pub loop-init : goal.loop-init
+loop-init c = let p = c.requires in simp unary_clauses (list_begins p.patterns_at p.n_in_bounds c.start-walk.ensures)
 
-pub loop-left-init : goal.loop-left-init
-loop-left-init c = let p = c.requires in list_begins p.patterns_at p.n_in_bounds c.start-walk.ensures
-
-pub entry_at-head-requires : goal.entry_at-head-requires
-entry_at-head-requires c =
-    record {
-      within = search (listings, rules);
-      some_entry = search (listings, rules);
-    }
-
-pub overflow_cast-id : goal.overflow_cast-id
-overflow_cast-id c = search (listings, rules)
-
-pub offset_bounds-parts-id : goal.offset_bounds-parts-id
-offset_bounds-parts-id c = search (listings, rules)
-
-pub bounds-parts-id : goal.bounds-parts-id
-bounds-parts-id c = search (listings, rules)
-
-pub part_after-part-requires : goal.part_after-part-requires
-part_after-part-requires c = search (listings, rules)
-
-pub offset_bounds-parts-id-in-loop-left : goal.offset_bounds-parts-id-in-loop-left
-offset_bounds-parts-id-in-loop-left c = search (listings, rules)
-
-pub bounds-parts-id-in-loop-left : goal.bounds-parts-id-in-loop-left
-bounds-parts-id-in-loop-left c = search (listings, rules)
+pub entry_at-head-requires-clause-some_entry : goal.entry_at-head-requires-clause-some_entry
+entry_at-head-requires-clause-some_entry c = list_entry c.loop.invariant (omega (arith, c.loop-test.true))
 
 pub returns-in_default : goal.returns-in_default
-returns-in_default c = search (listings, rules)
+returns-in_default c =
+    absurd (list_unknown c.loop.invariant (omega (arith, c.loop-test.true)) c.entry_at-head.ensures c.part_after-part.ensures c.in_default.is)
 
-pub fill_passes-walk-requires : goal.fill_passes-walk-requires
-fill_passes-walk-requires c =
-    record {
-      ready = (search rules, search rules);
-      body_at = search (list_body, rules);
-      value_in_bounds = search (list_fits, rules);
-    }
+pub fill_passes-walk-requires-clause-body_at : goal.fill_passes-walk-requires-clause-body_at
+fill_passes-walk-requires-clause-body_at c =
+    list_body c.loop.invariant (omega (arith, c.loop-test.true)) c.entry_at-head.ensures c.part_after-part.ensures c.in-Some.is
 
-pub shape_of-list-then-value-eq15 : goal.shape_of-list-then-value-eq15
-shape_of-list-then-value-eq15 c = search (listings, rules)
+pub fill_passes-walk-requires-clause-value_in_bounds : goal.fill_passes-walk-requires-clause-value_in_bounds
+fill_passes-walk-requires-clause-value_in_bounds c =
+    list_fits c.loop.invariant (omega (arith, c.loop-test.true)) c.entry_at-head.ensures c.part_after-part.ensures c.in-Some.is
 
 pub returns-then-value-eq15 : goal.returns-then-value-eq15
-returns-then-value-eq15 c = search (listings, rules)
-
-pub behind_pattern-place-requires : goal.behind_pattern-place-requires
-behind_pattern-place-requires c = search (listings, rules)
+returns-then-value-eq15 c =
+    list_ends c.loop.invariant (omega (arith, c.loop-test.true)) c.entry_at-head.ensures c.part_after-part.ensures c.in-Some.is c.fill_passes-walk.ensures c.if-value-eq15.true
 
 pub next_header-walk-requires : goal.next_header-walk-requires
 next_header-walk-requires c =
-    (c.fill_passes-walk.ensures.ready, list_header c.loop-left.invariant (search rules) c.entry_at-head.ensures c.part_after-part.ensures (search rules) c.fill_passes-walk.ensures)
+    (c.fill_passes-walk.ensures.ready, list_header c.loop.invariant (omega (arith, c.loop-test.true)) c.entry_at-head.ensures c.part_after-part.ensures c.in-Some.is c.fill_passes-walk.ensures)
 
-pub overflow_sub-left : goal.overflow_sub-left
-overflow_sub-left c = search (rules, c.loop-left-test.true)
-
-pub loop-left-smaller : goal.loop-left-smaller
-loop-left-smaller c = search (rules, c.loop-left-test.true)
-
-pub loop-left-preserved : goal.loop-left-preserved
-loop-left-preserved c =
-    list_on c.loop-left.invariant (search rules) c.entry_at-head.ensures c.part_after-part.ensures (search rules) c.fill_passes-walk.ensures (search rules) c.behind_pattern-place.ensures c.next_header-walk.ensures
-
-pub shape_of-list : goal.shape_of-list
-shape_of-list c = search (listings, rules)
+pub loop-preserved : goal.loop-preserved
+loop-preserved c =
+    listed c.args.n c.loop.counter (list_on c.loop.invariant (omega (arith, c.loop-test.true)) c.entry_at-head.ensures c.part_after-part.ensures c.in-Some.is c.fill_passes-walk.ensures c.if-value-eq15.false c.behind_pattern-place.ensures c.next_header-walk.ensures)
 
 pub returns : goal.returns
-returns c = search (listings, rules)
+returns c = list_done c.loop.invariant (omega (arith, c.loop-test.false))
