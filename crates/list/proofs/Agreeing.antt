@@ -13,12 +13,13 @@ use Rattle.bits.proofs.Choice.{pick_elim, then_elim, both}
 use Rattle.tone.specs.Reading.{read_tone}
 use Rattle.list_rules.specs.declared.Entry.{Entry}
 use Rattle.list.specs.declared.Listed.{Listed}
-use Rattle.list.specs.declared.Listed.TheVariants.{Made}
+use Rattle.std.specs.Prelude.{Result, Ok}
+use Rattle.bits.specs.declared.refusal.Refusal.{Refusal}
 use Rattle.list_rules.specs.Sounding.{packed, origin, entry_cells, numbers, entries_of}
 use Rattle.list_rules.specs.Ranges.{Bounded, AllBounded}
 use Rattle.list_rules.specs.Playing.{Listing, playing_list}
 use Rattle.list_rules.specs.Listing.{fits_numbers, fits_both, list_tone}
-use Rattle.list.specs.Promise.{numbers_of, list_numbers, entries_in, list_answer, cells_after, rows_after, ListPromise, RowsPromise}
+use Rattle.list.specs.Promise.{numbers_of, list_numbers, entries_in, made, list_answer, cells_after, rows_after, ListPromise, RowsPromise}
 use Rattle.list_rules.proofs.Bounds.{list_bounded}
 use Rattle.list_rules.proofs.Packing.{length_numbers, entries_numbers}
 use Rattle.list.proofs.Outcomes.{accepted_formed}
@@ -26,11 +27,11 @@ use Rattle.list.proofs.Outcomes.{accepted_formed}
 -- ---- one outcome
 
 -- any two outcomes that keep the promise of `list` coincide
-pub list_decided : {m : List ℕ} {fits : Listing → Bool} {list l l' : List ℕ} {r r' : Listed} → ListPromise m fits list l r → ListPromise m fits list l' r' → (r ≡ r') × (l ≡ l')
+pub list_decided : {m : List ℕ} {fits : Listing → Bool} {list l l' : List ℕ} {r r' : Result Listed Refusal} → ListPromise m fits list l r → ListPromise m fits list l' r' → (r ≡ r') × (l ≡ l')
 list_decided h k = (h.answer ∙ sym k.answer, h.leaves ∙ sym k.leaves)
 
 -- any two outcomes that keep the promise of `rows` coincide
-pub rows_decided : {m list : List ℕ} {rows : List Entry} {l l' : List ℕ} {w w' : List Entry} {r r' : Listed} → RowsPromise m list rows l w r → RowsPromise m list rows l' w' r' → (r ≡ r') × (l ≡ l') × (w ≡ w')
+pub rows_decided : {m list : List ℕ} {rows : List Entry} {l l' : List ℕ} {w w' : List Entry} {r r' : Result Listed Refusal} → RowsPromise m list rows l w r → RowsPromise m list rows l' w' r' → (r ≡ r') × (l ≡ l') × (w ≡ w')
 rows_decided h k = let d = list_decided h.listed k.listed in (d.0, d.1, h.leaves ∙ sym k.leaves)
 
 -- ---- a list that is made
@@ -76,7 +77,7 @@ module _ (m ys : List ℕ) (rs : List Entry) where
       }
   fill (refused n p) e = record { room = (omega arith, omega arith, refl); rows = refl }
 
-  module _ {zs : List ℕ} {r : Listed} {n : ℕ} (h : ListPromise m fits ys zs r) (k : n ≡ entries_in r) where
+  module _ {zs : List ℕ} {r : Result Listed Refusal} {n : ℕ} (h : ListPromise m fits ys zs r) (k : n ≡ entries_in r) where
     filled : Filled zs n (list_tone m fits)
     filled = let e = k ∙ ap entries_in h.answer in rw (h.leaves, e) (fill (list_tone m fits) refl)
 
@@ -109,28 +110,29 @@ agree_at (r ∷ es) rest b (suc i) d h =
     record { first = rw e a.first; second = rw (behind 1) a.second; third = rw (behind 2) a.third; bounded = a.bounded }
 
 -- entry by entry, the row packs into the list's three numbers
-pub forms_agree : {m list : List ℕ} {rows : List Entry} {l : List ℕ} {w : List Entry} {n k : ℕ} → RowsPromise m list rows l w (Made n k) → (i : ℕ) (d : Entry) → i < n → Agree (get_or w i d) l i
-forms_agree {m} {list} {rows} {l} {w} {n} {k} h i d s = go (list_tone m (fits_both (length list) (length rows))) refl h.listed.answer h.listed.leaves h.leaves
+pub forms_agree : {m list : List ℕ} {rows : List Entry} {l : List ℕ} {w : List Entry} {v : Listed} → RowsPromise m list rows l w (Ok v) → (i : ℕ) (d : Entry) → i < v.entries → Agree (get_or w i d) l i
+forms_agree {m} {list} {rows} {l} {w} {v} h i d s = go (list_tone m (fits_both (length list) (length rows))) refl h.listed.answer h.listed.leaves h.leaves
   where
-    go : (x : Outcome Listing) → list_tone m (fits_both (length list) (length rows)) ≡ x → Made n k ≡ list_answer x → l ≡ cells_after x list → w ≡ rows_after x rows → Agree (get_or w i d) l i
+    go : (x : Outcome Listing) → list_tone m (fits_both (length list) (length rows)) ≡ x → Ok v ≡ list_answer x → l ≡ cells_after x list → w ≡ rows_after x rows → Agree (get_or w i d) l i
     go (accepted g) q a b c =
-        let e : n ≡ length g.entries = cc in
+        let y : v ≡ made g = cc in
+        let e : v.entries ≡ length g.entries = ap (λ (z : Listed). z.entries) y in
         let f : get_or w i d ≡ get_or g.entries i d = ap (λ (y : List Entry). get_or y i d) c ∙ get_or-append g.entries (drop (length g.entries) rows) d i (omega arith) in
         rw (f, b) (agree_at g.entries (drop (length (numbers g.entries)) list) (list_fitting m (fits_both (length list) (length rows)) g q).1 i d (omega arith))
     go (refused x p) q a b c = let z : ◌≡◌ {A = ℕ} 0 1 = cc in absurd (omega arith)
 
 -- a refusal gives its number and its place, and 0 for the other numbers
-pub refusal_numbers : {m : List ℕ} {fits : Listing → Bool} {list l : List ℕ} {r : Listed} {n p : ℕ} → ListPromise m fits list l r → list_tone m fits ≡ refused n p
+pub refusal_numbers : {m : List ℕ} {fits : Listing → Bool} {list l : List ℕ} {r : Result Listed Refusal} {n p : ℕ} → ListPromise m fits list l r → list_tone m fits ≡ refused n p
     → numbers_of r ≡ record { refusal = n; place = p; entries = 0; mark = 0 }
 refusal_numbers h e = h.said ∙ ap list_numbers e
 
 -- a list that is made gives its entries and its mark, and no refusal
-pub made_numbers : {m : List ℕ} {fits : Listing → Bool} {list l : List ℕ} {r : Listed} {g : Listing} → ListPromise m fits list l r → list_tone m fits ≡ accepted g
+pub made_numbers : {m : List ℕ} {fits : Listing → Bool} {list l : List ℕ} {r : Result Listed Refusal} {g : Listing} → ListPromise m fits list l r → list_tone m fits ≡ accepted g
     → numbers_of r ≡ record { refusal = 0; place = 0; entries = length g.entries; mark = g.mark }
 made_numbers h e = h.said ∙ ap list_numbers e
 
 -- what is lent behind it stays, also one or two cells that are left over
-pub cells_behind : {m : List ℕ} {fits : Listing → Bool} {list l : List ℕ} {r : Listed} {g : Listing} → ListPromise m fits list l r → list_tone m fits ≡ accepted g
+pub cells_behind : {m : List ℕ} {fits : Listing → Bool} {list l : List ℕ} {r : Result Listed Refusal} {g : Listing} → ListPromise m fits list l r → list_tone m fits ≡ accepted g
     → l ≡ numbers g.entries ++ drop (3 * length g.entries) list
 cells_behind {list = list} {g = g} h e =
     h.leaves ∙ ap (λ (o : Outcome Listing). cells_after o list) e ∙ ap (λ (n : ℕ). numbers g.entries ++ drop n list) (length_numbers g.entries)

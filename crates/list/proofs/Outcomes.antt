@@ -13,25 +13,27 @@ use Rattle.bits.specs.Bits.{bits_of}
 use Rattle.bits.specs.Lent.{over}
 use Rattle.bits.specs.Outcome.{Outcome, accepted, refused, and_then}
 use Rattle.bits.specs.declared.BitPlace.{BitPlace}
-use Rattle.bits.specs.declared.OctetCount.{OctetCount}
 use Rattle.bits.proofs.Octets.{length_bits_of}
-use Rattle.bits.specs.Places.{place}
 use Rattle.tone.specs.Tone.{Pattern, Tone, Formed, front_of, cells, none_known}
 use Rattle.tone.specs.Writing.{table_bits, front_bits, song_bits, end_bits, tone_bits}
 use Rattle.tone.specs.Reading.{got, patterns_due, read_tone}
 use Rattle.tone.proofs.Rows.{patterns_exact}
 use Rattle.tone.proofs.Demand2.{Says, read_says, core_reads}
 use Rattle.tone_elements.specs.Answers.{Within}
-use Rattle.tone_judge.specs.declared.Total.{Total}
 use Rattle.tone_judge.specs.declared.Judged.{Judged}
-use Rattle.tone_judge.specs.declared.Judged.TheVariants.{Sound, Faulty}
 use Rattle.list.specs.declared.Listed.{Listed}
-use Rattle.list.specs.declared.Listed.TheVariants.{Made, Refused}
+use Rattle.std.specs.Prelude.{Result, Ok, Err}
+use Rattle.bits.specs.Refusals.{on}
+use Rattle.bits.specs.declared.refusal.Refusal.{Refusal}
+use Rattle.bits.specs.declared.refusal.Ground.TheVariants.{NoRoom}
+use Rattle.bits.proofs.Refusals.{GivenBy, given_then, given_pick}
+use Rattle.bits.proofs.Answered.{by_number, refusal_answered, acceptance_answered}
+use Rattle.tone.proofs.Numbered.{tone_numbered}
 use Rattle.list_rules.specs.Sounding.{at_start, entry_cells, numbers}
 use Rattle.list_rules.specs.Playing.{Listing, play, playing_list}
 use Rattle.list_count.specs.Bodies.{no_bodies}
 use Rattle.list_count.specs.Counting.{entry_count, mark_from}
-use Rattle.tone_judge.specs.Answers.{plainly, judged_of}
+use Rattle.tone_judge.specs.Answers.{plainly, judged, judged_of}
 use Rattle.list_fill.specs.Filling.{patterns_in, end_in, PatternsAt}
 use Rattle.list_rules.specs.Listing.{fitted, fits_numbers, fits_both, list_tone}
 use Rattle.list.specs.Promise.{numbers_of, list_numbers, list_answer, cells_after, ListPromise}
@@ -80,12 +82,9 @@ module _ (m : List ℕ) (t : Tone) (q : read_tone m ≡ accepted t) where
 
 -- ---- what an answer says of the reading behind it
 
-refused_there : (x : Outcome Tone) {n : ℕ} {f : BitPlace} → Faulty n f ≡ judged_of x → x ≡ refused n f.0
-refused_there (accepted t) e = let z : ◌≡◌ {A = ℕ} 0 1 = cc in absurd (omega arith)
-refused_there (refused k p) {n} {f} e =
-    let e₁ : n ≡ k = cc in
-    let e₂ : f ≡ place p = cc in
-    rw (e₁, e₂) refl
+-- where the patterns of a tone begin in its message
+abbrev first : Tone → ℕ
+first t = length (front_bits (front_of t))
 
 -- a message whose list can be made
 record ListThere (x : Outcome Tone) (e k n at : ℕ) : Type 0 where
@@ -96,39 +95,59 @@ record ListThere (x : Outcome Tone) (e k n at : ℕ) : Type 0 where
   patterns : n ≡ length tone.patterns
   front : at ≡ length (front_bits (front_of tone))
 
-listable_there : (x : Outcome Tone) {s : ℕ} {f : BitPlace} {o : OctetCount} {n : ℕ} {v : Total} {u : Bool} → Sound s f o n v u ≡ judged_of x → ListThere x v.list v.mark n f.0
-listable_there (accepted t) {f = f} {v = v} e =
-    let z : f ≡ place (length (front_bits (front_of t))) = cc in
-    let w : v ≡ plainly (length (front_bits (front_of t))) t.patterns = cc in
-    record { tone = t; there = refl; entries = ap (λ (x : Total). x.list) w; mark = ap (λ (x : Total). x.mark) w; patterns = cc; front = ap (λ (p : BitPlace). p.0) z }
-listable_there (refused n p) e = let z : ◌≡◌ {A = ℕ} 0 1 = cc in absurd (omega arith)
+listable_there : (x : Outcome Tone) {v : Judged} → Ok v ≡ judged_of x → ListThere x v.total.list v.total.mark v.patterns v.at.0
+listable_there x {v} h =
+    let a = acceptance_answered (λ t. judged plainly (first t) t) x h in
+    let e = a.2 in
+    record {
+      tone = a.0;
+      there = a.1;
+      entries = ap (λ (y : Judged). y.total.list) e;
+      mark = ap (λ (y : Judged). y.total.mark) e;
+      patterns = ap (λ (y : Judged). y.patterns) e;
+      front = ap (λ (y : Judged). y.at.0) e;
+    }
 
 -- ---- the answers
 
+-- the refusals of a list are numbers of 01
+pub list_numbered : (m : List ℕ) (fits : Listing → Bool) → GivenBy (list_tone m fits)
+unfolding list_tone
+list_numbered m fits =
+    given_then (read_tone m) (fitted fits) (tone_numbered m) (λ t. given_pick (fits (playing_list t)) (accepted (playing_list t)) (refused 11 0) tt refl)
+
 -- the answer to an outcome has the outcome's numbers
-list_numbers_lem : (x : Outcome Listing) → numbers_of (list_answer x) ≡ list_numbers x
-list_numbers_lem (accepted g) = refl
-list_numbers_lem (refused n p) = refl
+list_numbers_lem : (x : Outcome Listing) → GivenBy x → numbers_of (list_answer x) ≡ list_numbers x
+list_numbers_lem (accepted g) h = refl
+list_numbers_lem (refused n p) h = rw h refl
 
 -- an answer and cells that an outcome gives keep the promise
 promised : (m : List ℕ) (fits : Listing → Bool) (old : List ℕ) {x : Outcome Listing} → list_tone m fits ≡ x → ListPromise m fits old (cells_after x old) (list_answer x)
-promised m fits old e = rw (← e) (record { answer = refl; said = list_numbers_lem (list_tone m fits); leaves = refl })
+promised m fits old e = rw (← e) (record { answer = refl; said = list_numbers_lem (list_tone m fits) (list_numbered m fits); leaves = refl })
 
-module _ (m : List ℕ) (old : List ℕ) (rows : ℕ) {v : Judged} (q : v ≡ judged_of (read_tone m)) where
+module _ (m : List ℕ) (old : List ℕ) (rows : ℕ) {j : Result Judged Refusal} (q : j ≡ judged_of (read_tone m)) where
   abbrev fits : Listing → Bool
   fits = fits_both (length old) rows
 
-  pub list_faulty : {n : ℕ} {f : BitPlace} → v ≡ Faulty n f → ListPromise m fits old old (Refused n f)
-  list_faulty g = promised m fits old (message_first_lem m fits (refused_there (read_tone m) (sym g ∙ q)))
+  pub list_faulty : {r : Refusal} → j ≡ Err r → ListPromise m fits old old (Err r)
+  list_faulty {r} g =
+      let o = refusal_answered (λ t. judged plainly (first t) t) (read_tone m) (tone_numbered m) (sym g ∙ q) in
+      subst (λ (x : Refusal). ListPromise m fits old old (Err x)) (by_number r) (promised m fits old (message_first_lem m fits o))
 
-  module _ {s : ℕ} {f : BitPlace} {o : OctetCount} {n : ℕ} {y : Total} {u : Bool} (g : v ≡ Sound s f o n y u) where
+  module _ {v : Judged} (g : j ≡ Ok v) where
     abbrev e : ℕ
-    e = y.list
+    e = v.total.list
 
     abbrev k : ℕ
-    k = y.mark
+    k = v.total.mark
 
-    there : ListThere (read_tone m) e k n f.0
+    abbrev n : ℕ
+    n = v.patterns
+
+    abbrev f : BitPlace
+    f = v.at
+
+    there : ListThere (read_tone m) v.total.list v.total.mark v.patterns v.at.0
     there = listable_there (read_tone m) (sym g ∙ q)
 
     formed : Formed there.tone
@@ -142,15 +161,15 @@ module _ (m : List ℕ) (old : List ℕ) (rows : ℕ) {v : Judged} (q : v ≡ ju
     list_small = rw (← count) (list_most there.tone formed)
 
     -- where it does not fit
-    no_room : fits (playing_list there.tone) ≡ false → ListPromise m fits old old (Refused 11 (place 0))
-    no_room h = promised m fits old (room_last m there.there fits h)
+    no_room : {r : Refusal} → r ≡ on NoRoom 0 → fits (playing_list there.tone) ≡ false → ListPromise m fits old old (Err r)
+    no_room z h = rw z (promised m fits old (room_last m there.there fits h))
 
-    pub list_cells_short : length old / entry_cells < e → ListPromise m fits old old (Refused 11 (place 0))
-    list_cells_short h = no_room (rw (count, lt-leb (entry_cells * e) (length old) (omega arith)))
+    pub list_cells_short : {r : Refusal} → r ≡ on NoRoom 0 → length old / entry_cells < e → ListPromise m fits old old (Err r)
+    list_cells_short z h = no_room z (rw (count, lt-leb (entry_cells * e) (length old) (omega arith)))
 
     module _ (h : e ≤ length old / entry_cells) where
-      pub list_rows_short : rows < e → ListPromise m fits old old (Refused 11 (place 0))
-      list_rows_short l = no_room (rw (count, le-leb (entry_cells * e) (length old) (omega arith), lt-leb e rows l))
+      pub list_rows_short : {r : Refusal} → r ≡ on NoRoom 0 → rows < e → ListPromise m fits old old (Err r)
+      list_rows_short z l = no_room z (rw (count, le-leb (entry_cells * e) (length old) (omega arith), lt-leb e rows l))
 
       reads : patterns_due n none_known (bits_of m) f.0 ≡ got there.tone.patterns (length (front_bits (front_of there.tone)) + length (table_bits (cells there.tone.patterns)))
       reads = ap₂ (λ (x y : ℕ). patterns_due x none_known (bits_of m) y) there.patterns there.front ∙ patterns_there m there.tone there.there
@@ -167,12 +186,12 @@ module _ (m : List ℕ) (old : List ℕ) (rows : ℕ) {v : Judged} (q : v ≡ ju
       pub list_room_lem : entry_cells * entry_count no_bodies (patterns_in m f.0 n) ≤ length old
       list_room_lem = omega (arith, ap (entry_count no_bodies) patterns_are, there.entries)
 
-      pub list_made : {new : List ℕ} → e ≤ rows → new ≡ over (numbers (play at_start no_bodies 0 (patterns_in m f.0 n)).entries) old → ListPromise m fits old new (Made e k)
+      pub list_made : {new : List ℕ} → e ≤ rows → new ≡ over (numbers (play at_start no_bodies 0 (patterns_in m f.0 n)).entries) old → ListPromise m fits old new (Ok (record { entries = e; mark = k }))
       unfolding playing_list
       list_made {new} l z =
           let g = playing_list there.tone in
           let o = made-where m there.there fits (rw (count, le-leb (entry_cells * e) (length old) (omega arith), le-leb e rows l)) in
-          let a : Made e k ≡ list_answer (accepted g) = ap₂ Made (sym count) (there.mark ∙ sym (list_mark at_start no_bodies 0 there.tone.patterns)) in
+          let a : Ok (record { entries = e; mark = k }) ≡ list_answer (accepted g) = ap₂ (λ (x y : ℕ). Ok (record { entries = x; mark = y })) (sym count) (there.mark ∙ sym (list_mark at_start no_bodies 0 there.tone.patterns)) in
           let b : new ≡ cells_after (accepted g) old = z ∙ ap (λ (ps : List Pattern). over (numbers (play at_start no_bodies 0 ps).entries) old) patterns_are in
           rw (a, b) (promised m fits old o)
 
@@ -195,7 +214,7 @@ enough_rows room g = go (fits_numbers room g) refl
     go true e = le-leb (length g.entries) room (omega (arith, leb-true (entry_cells * length g.entries) room e))
     go false e = refl
 
-pub cells_alone : (m old : List ℕ) {new : List ℕ} {r : Listed} → ListPromise m (fits_both (length old) (length old)) old new r → ListPromise m (fits_numbers (length old)) old new r
+pub cells_alone : (m old : List ℕ) {new : List ℕ} {r : Result Listed Refusal} → ListPromise m (fits_both (length old) (length old)) old new r → ListPromise m (fits_numbers (length old)) old new r
 cells_alone m old h =
     let e = same_fits (fits_both (length old) (length old)) (fits_numbers (length old)) (enough_rows (length old)) m in
     record { answer = h.answer ∙ ap list_answer e; said = h.said ∙ ap list_numbers e; leaves = h.leaves ∙ ap (λ (x : Outcome Listing). cells_after x old) e }

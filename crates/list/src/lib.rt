@@ -5,15 +5,14 @@ ghost use Rattle.list_rules.specs.Sounding.{entry_cells, entries_of};
 ghost use Rattle.list_rules.specs.Listing.{fits_numbers, fits_both};
 ghost use Rattle.list.specs.Promise.{entries_in, ListPromise, RowsPromise};
 
-use bits::BitPlace;
+use bits::{Ground, Refusal};
 use list_rules::Entry;
-use tone_judge::Judged;
 
-// What making a list answers: its entries and its return mark, or the refusal.
+// A list that was made: its entries and its return mark.
 #[derive(Clone, Copy)]
-pub enum Listed {
-    Made { entries: u32, mark: u32 },
-    Refused { number: u32, place: BitPlace },
+pub struct Listed {
+    pub entries: u32,
+    pub mark: u32,
 }
 
 // Fills the first `n` rows from a list in cells. The other rows stay.
@@ -30,44 +29,24 @@ fn fill_rows(list: &[u32], n: usize, rows: &mut [Entry])
 }
 
 // Makes the list of a message in cells, where it has at most `most` entries.
-fn list_within(msg: &[u8], list: &mut [u32], most: usize) -> Listed
+fn list_within(msg: &[u8], list: &mut [u32], most: usize) -> Result<Listed, Refusal>
     ensures { ListPromise msg.now (fits_both (length list.old) most) list.old list.new result }
 {
-    match tone_judge::judge(msg) {
-        Judged::Faulty { number, at: fault } => Listed::Refused {
-            number,
-            place: fault,
-        },
-        Judged::Sound {
-            song: _,
-            at,
-            octets: _,
-            patterns,
-            total,
-            unicode: _,
-        } => {
-            let entries = total.list;
-            let mark = total.mark;
-            if list.len() / list_rules::ENTRY_CELLS < entries as usize {
-                return Listed::Refused {
-                    number: 11,
-                    place: BitPlace(0),
-                };
-            }
-            if most < entries as usize {
-                return Listed::Refused {
-                    number: 11,
-                    place: BitPlace(0),
-                };
-            }
-            list_fill::fill_list(msg, at, patterns, list);
-            Listed::Made { entries, mark }
-        }
+    let judged = tone_judge::judge(msg)?;
+    let entries = judged.total.list;
+    let mark = judged.total.mark;
+    if list.len() / list_rules::ENTRY_CELLS < entries as usize {
+        return Err(Ground::NoRoom.into());
     }
+    if most < entries as usize {
+        return Err(Ground::NoRoom.into());
+    }
+    list_fill::fill_list(msg, judged.at, judged.patterns, list);
+    Ok(Listed { entries, mark })
 }
 
 // Makes the list of a message in cells.
-pub fn list(msg: &[u8], list: &mut [u32]) -> Listed
+pub fn list(msg: &[u8], list: &mut [u32]) -> Result<Listed, Refusal>
     ensures { ListPromise msg.now (fits_numbers (length list.old)) list.old list.new result }
 {
     let room = list.len();
@@ -75,20 +54,17 @@ pub fn list(msg: &[u8], list: &mut [u32]) -> Listed
 }
 
 // How many entries were made.
-fn entries_in(r: Listed) -> usize
+fn entries_in(r: Result<Listed, Refusal>) -> usize
     ensures { result ≡ entries_in r }
 {
     match r {
-        Listed::Made { entries, mark: _ } => entries as usize,
-        Listed::Refused {
-            number: _,
-            place: _,
-        } => 0,
+        Ok(made) => made.entries as usize,
+        Err(_) => 0,
     }
 }
 
 // Makes the list of a message in both forms.
-pub fn rows(msg: &[u8], list: &mut [u32], rows: &mut [Entry]) -> Listed
+pub fn rows(msg: &[u8], list: &mut [u32], rows: &mut [Entry]) -> Result<Listed, Refusal>
     ensures { RowsPromise msg.now list.old rows.old list.new rows.new result }
 {
     let r = list_within(msg, list, rows.len());
