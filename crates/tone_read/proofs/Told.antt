@@ -16,20 +16,23 @@ use Rattle.bits.specs.declared.BitPlace.{BitPlace}
 use Rattle.bits.specs.declared.OctetCount.{OctetCount}
 use Rattle.bits.proofs.Numbers.{length_bits}
 use Rattle.bits.proofs.Octets.{length_bits_of}
-use Rattle.bits.specs.Places.{place, octet_count}
 use Rattle.tone.specs.Tone.{Pattern, Tone, Front, front_of, header, cells, characters, per_character, learn, Instructions, Sequence, Formed, FrontFormed, entries}
 use Rattle.tone.specs.Writing.{command_bits, title_bits, table_bits, front_bits, song_bits, end_bits, tone_bits, most_octets}
 use Rattle.tone.specs.Reading.{read_tone}
 use Rattle.tone.proofs.Rows.{header_small}
 use Rattle.tone.proofs.Demand2.{Says, read_says, core_reads}
 use Rattle.tone.proofs.Instructions.{header_in_table}
-use Rattle.tone_judge.specs.declared.Total.{Total}
 use Rattle.tone_judge.specs.declared.Judged.{Judged}
-use Rattle.tone_judge.specs.declared.Judged.TheVariants.{Sound, Faulty}
 use Rattle.tone_read.specs.declared.Reading.{Reading}
-use Rattle.tone_read.specs.declared.Reading.TheVariants.{Read, Refused}
+use Rattle.std.specs.Prelude.{Result, Ok, Err}
+use Rattle.bits.specs.Refusals.{number_of, on}
+use Rattle.bits.specs.declared.refusal.Refusal.{Refusal}
+use Rattle.bits.specs.declared.refusal.Ground.TheVariants.{NoRoom}
+use Rattle.bits.proofs.Refusals.{grounded, GivenBy}
+use Rattle.bits.proofs.Answered.{by_number, refusal_answered, acceptance_answered}
+use Rattle.tone.proofs.Numbered.{tone_numbered}
 use Rattle.tone_elements.specs.Answers.{Within}
-use Rattle.tone_judge.specs.Answers.{plainly, judged_of}
+use Rattle.tone_judge.specs.Answers.{plainly, judged, judged_of}
 use Rattle.tone_read.specs.Judging.{Entries, TableAt, OctetsAt, table_of, title_of}
 use Rattle.tone_read.specs.Promise.{read_into, numbers, read_numbers, read_answer, table_after, title_after, ReadPromise}
 
@@ -120,68 +123,78 @@ module _ (m : List ℕ) (t : Tone) (w : Told m t) where
 
 -- ---- what `read` shows
 
+-- where the patterns of a tone begin in its message
+abbrev first : Tone → ℕ
+first t = length (front_bits (front_of t))
+
 -- the tone behind a message that was judged sound
-pub record SoundThere (m : List ℕ) (s : ℕ) (u : Bool) (o : OctetCount) (p e : ℕ) (f : BitPlace) : Type 0 where
+pub record SoundThere (m : List ℕ) (v : Judged) : Type 0 where
   pub tone : Tone
   pub told : Told m tone
-  pub song : s ≡ tone.song
-  pub unicode : u ≡ tone.unicode
-  pub octets : o.0 ≡ length tone.title
-  pub patterns : p ≡ length tone.patterns
-  pub entries : e ≡ entries tone.patterns
-  pub place : f.0 ≡ length (front_bits (front_of tone))
+  pub song : v.song ≡ tone.song
+  pub unicode : v.unicode ≡ tone.unicode
+  pub octets : v.octets.0 ≡ length tone.title
+  pub patterns : v.patterns ≡ length tone.patterns
+  pub entries : v.total.table ≡ entries tone.patterns
+  pub place : v.at.0 ≡ first tone
 
-pub sound_there : (m : List ℕ) {s : ℕ} {u : Bool} {o : OctetCount} {p : ℕ} {v : Total} {f : BitPlace} → Sound s f o p v u ≡ judged_of (read_tone m) → SoundThere m s u o p v.table f
-sound_there m {s} {u} {o} {p} {v} {f} h = go (read_tone m) refl h
-  where
-    go : (x : Outcome Tone) → read_tone m ≡ x → Sound s f o p v u ≡ judged_of x → SoundThere m s u o p v.table f
-    go (accepted t) q g =
-        let z : f ≡ place (length (front_bits (front_of t))) = cc in
-        let y : o ≡ octet_count (length t.title) = cc in
-        let w : v ≡ plainly (length (front_bits (front_of t))) t.patterns = cc in
-        record { tone = t; told = told m t q; song = cc; unicode = cc; octets = ap (λ (x : OctetCount). x.0) y; patterns = cc; entries = ap (λ (x : Total). x.table) w; place = ap (λ (x : BitPlace). x.0) z }
-    go (refused n' p') q g = let z : ◌≡◌ {A = ℕ} 0 1 = cc in absurd (omega arith)
+pub sound_there : (m : List ℕ) {v : Judged} → Ok v ≡ judged_of (read_tone m) → SoundThere m v
+sound_there m {v} h =
+    let a = acceptance_answered (λ t. judged plainly (first t) t) (read_tone m) h in
+    let e = a.2 in
+    record {
+      tone = a.0;
+      told = told m a.0 a.1;
+      song = ap (λ (x : Judged). x.song) e;
+      unicode = ap (λ (x : Judged). x.unicode) e;
+      octets = ap (λ (x : Judged). x.octets.0) e;
+      patterns = ap (λ (x : Judged). x.patterns) e;
+      entries = ap (λ (x : Judged). x.total.table) e;
+      place = ap (λ (x : Judged). x.at.0) e;
+    }
 
 -- the answer to an outcome has the outcome's numbers
-read_numbers_lem : (x : Outcome Tone) → numbers (read_answer x) ≡ read_numbers x
-read_numbers_lem (accepted t) = refl
-read_numbers_lem (refused n p) = refl
+read_numbers_lem : (x : Outcome Tone) → GivenBy x → numbers (read_answer x) ≡ read_numbers x
+read_numbers_lem (accepted t) g = refl
+read_numbers_lem (refused n p) g = rw g refl
 
 -- a promise from the outcome and what it leaves
-promised : (m table title table' title' : List ℕ) (r : Reading) (x : Outcome Tone) → read_into m (length title) (length table) ≡ x → r ≡ read_answer x → table' ≡ table_after x table → title' ≡ title_after x title
+promised : (m table title table' title' : List ℕ) (r : Result Reading Refusal) (x : Outcome Tone) → read_into m (length title) (length table) ≡ x → GivenBy x → r ≡ read_answer x → table' ≡ table_after x table → title' ≡ title_after x title
     → ReadPromise m table title table' title' r
-promised m table title table' title' r x e a b c = record { answer = rw e a; said = rw e (ap numbers a ∙ read_numbers_lem x); leaves_table = rw e b; leaves_title = rw e c }
+promised m table title table' title' r x e g a b c = record { answer = rw e a; said = rw e (ap numbers a ∙ read_numbers_lem x g); leaves_table = rw e b; leaves_title = rw e c }
 
-module _ (m table title : List ℕ) {j : Judged} (q : j ≡ judged_of (read_tone m)) where
-  pub read_faulty : {n : ℕ} {f : BitPlace} → j ≡ Faulty n f → ReadPromise m table title table title (Refused n f)
-  read_faulty {n} {f} g = go (read_tone m) refl (sym g ∙ q)
-    where
-      go : (x : Outcome Tone) → read_tone m ≡ x → Faulty n f ≡ judged_of x → ReadPromise m table title table title (Refused n f)
-      go (accepted t) y h = let z : ◌≡◌ {A = ℕ} 0 1 = cc in absurd (omega arith)
-      go (refused n' p) y h =
-          let e : Refused n f ≡ Refused n' (place p) = cc in
-          promised m table title table title (Refused n f) (refused n' p) (rw y refl) e refl refl
+module _ (m table title : List ℕ) {j : Result Judged Refusal} (q : j ≡ judged_of (read_tone m)) where
+  pub read_faulty : {r : Refusal} → j ≡ Err r → ReadPromise m table title table title (Err r)
+  read_faulty {r} g =
+      let o = refusal_answered (λ t. judged plainly (first t) t) (read_tone m) (tone_numbered m) (sym g ∙ q) in
+      promised m table title table title (Err r) (refused (number_of r.why) r.place.0) (rw o refl) (ap number_of (grounded r.why)) (ap (λ (x : Refusal). Err x) (sym (by_number r))) refl refl
 
-  module _ {s : ℕ} {u : Bool} {o : OctetCount} {p : ℕ} {v : Total} {f : BitPlace} (g : j ≡ Sound s f o p v u) where
+  module _ {v : Judged} (g : j ≡ Ok v) where
     abbrev e : ℕ
-    e = v.table
+    e = v.total.table
 
-    there : SoundThere m s u o p e f
+    abbrev o : OctetCount
+    o = v.octets
+
+    abbrev f : BitPlace
+    f = v.at
+
+    there : SoundThere m v
     there = sound_there m (sym g ∙ q)
 
     read_fits : length there.tone.title ≤ length title → entries there.tone.patterns ≤ length table → read_into m (length title) (length table) ≡ accepted there.tone
     read_fits a b = rw (there.told.reads, le-leb (length there.tone.title) (length title) a, le-leb (entries there.tone.patterns) (length table) b)
 
-    pub read_no_title : length title < o.0 → ReadPromise m table title table title (Refused 11 (place 0))
-    read_no_title h =
+    pub read_no_title : {r : Refusal} → r ≡ on NoRoom 0 → length title < o.0 → ReadPromise m table title table title (Err r)
+    read_no_title {r} z h =
         let l : length title < length there.tone.title = rw (← there.octets) h in
-        promised m table title table title (Refused 11 (place 0)) (refused 11 0) (rw (there.told.reads, lt-leb (length there.tone.title) (length title) l)) refl refl refl
+        promised m table title table title (Err r) (refused 11 0) (rw (there.told.reads, lt-leb (length there.tone.title) (length title) l)) refl (ap (λ (x : Refusal). Err x) z) refl refl
 
-    pub read_no_table : length table < e → ReadPromise m table title table title (Refused 11 (place 0))
-    read_no_table h =
+    pub read_no_table : {r : Refusal} → r ≡ on NoRoom 0 → length table < e → ReadPromise m table title table title (Err r)
+    read_no_table {r} z h =
         let l : length table < entries there.tone.patterns = rw (← there.entries) h in
-        promised m table title table title (Refused 11 (place 0)) (refused 11 0)
-        (rw (there.told.reads, lt-leb (entries there.tone.patterns) (length table) l) (both (leb (length there.tone.title) (length title)))) refl refl refl
+        promised m table title table title (Err r) (refused 11 0)
+        (rw (there.told.reads, lt-leb (entries there.tone.patterns) (length table) l) (both (leb (length there.tone.title) (length title)))) refl (ap (λ (x : Refusal). Err x) z) refl refl
       where
         both : (b : Bool) → pick (b && false) (accepted there.tone) (refused 11 0) ≡ refused 11 0
         both true = refl
@@ -221,8 +234,8 @@ module _ (m table title : List ℕ) {j : Judged} (q : j ≡ judged_of (read_tone
     pub read_table_at : TableAt m f.0 (table_of m)
     read_table_at = rw there.told.reads (subst (λ (x : ℕ). TableAt m x (cells there.tone.patterns)) (sym there.place) (table_there m there.tone there.told))
 
-    pub read_done : {table' title' : List ℕ} {k : ℕ} → o.0 ≤ length title → e ≤ length table → title' ≡ over (title_of m) title → table' ≡ over (table_of m) table → k ≡ o.0 / per_character u
-        → ReadPromise m table title table' title' (Read s u k p e)
+    pub read_done : {table' title' : List ℕ} {k : ℕ} → o.0 ≤ length title → e ≤ length table → title' ≡ over (title_of m) title → table' ≡ over (table_of m) table → k ≡ o.0 / per_character v.unicode
+        → ReadPromise m table title table' title' (Ok (record { song = v.song; unicode = v.unicode; characters = k; patterns = v.patterns; entries = e }))
     read_done {table'} {title'} {k} a b c d h =
         let x = there.tone in
         let r = there.told.reads in
@@ -231,7 +244,7 @@ module _ (m table title : List ℕ) {j : Judged} (q : j ≡ judged_of (read_tone
         let e₃ : k ≡ characters x.unicode x.title = h ∙ ap₂ (λ (a b : ℕ). a / b) there.octets (ap per_character e₂) in
         let e₄ = there.patterns in
         let e₅ = there.entries in
-        promised m table title table' title' (Read s u k p e) (accepted x)
-        (read_fits (rw (← there.octets) a) (rw (← there.entries) b)) (cc) (rw r at d) (rw r at c)
+        promised m table title table' title' (Ok (record { song = v.song; unicode = v.unicode; characters = k; patterns = v.patterns; entries = e })) (accepted x)
+        (read_fits (rw (← there.octets) a) (rw (← there.entries) b)) tt (cc) (rw r at d) (rw r at c)
 
 pub ruleset readings = (read_faulty, read_no_title, read_no_table, read_place, read_small, read_within, read_title_within, read_title_count, read_title_at, read_title_octets, read_table_entries, read_table_at, read_done)

@@ -1,13 +1,13 @@
 -- The promise of `read`.
-use Rattle.std.specs.Prelude.{ℕ, ◌≡◌, Bool, false, ◌&&◌, List, length, leb}
+use Rattle.std.specs.Prelude.{ℕ, ◌≡◌, Bool, false, ◌&&◌, List, length, leb, Result, Ok, Err}
 use Rattle.bits.specs.Choice.{pick}
 use Rattle.bits.specs.Lent.{over}
 use Rattle.bits.specs.Outcome.{Outcome, accepted, refused}
-use Rattle.bits.specs.Places.{place}
+use Rattle.bits.specs.Refusals.{number_of, answered}
+use Rattle.bits.specs.declared.refusal.Refusal.{Refusal}
 use Rattle.tone.specs.Tone.{Tone, cells, characters, entries}
 use Rattle.tone.specs.Reading.{read_tone}
 use Rattle.tone_read.specs.declared.Reading.{Reading}
-use Rattle.tone_read.specs.declared.Reading.TheVariants.{Read, Refused}
 
 -- 11 where the title or the table does not fit
 abbrev pub roomed : ℕ → ℕ → Outcome Tone → Outcome Tone
@@ -30,9 +30,9 @@ pub record Numbers : Type 0 where
   pub entries : ℕ
 
 -- each case's number and values: on a refusal all other numbers are 0
-abbrev pub numbers : Reading → Numbers
-numbers (Read s u c p e) = record { refusal = 0; place = 0; song = s; unicode = u; characters = c; patterns = p; entries = e }
-numbers (Refused n p) = record { refusal = n; place = p.0; song = 0; unicode = false; characters = 0; patterns = 0; entries = 0 }
+abbrev pub numbers : Result Reading Refusal → Numbers
+numbers (Ok r) = record { refusal = 0; place = 0; song = r.song; unicode = r.unicode; characters = r.characters; patterns = r.patterns; entries = r.entries }
+numbers (Err r) = record { refusal = number_of r.why; place = r.place.0; song = 0; unicode = false; characters = 0; patterns = 0; entries = 0 }
 
 -- the numbers that the rules ask for
 abbrev pub read_numbers : Outcome Tone → Numbers
@@ -47,10 +47,13 @@ read_numbers (accepted t) = record {
 }
 read_numbers (refused n p) = record { refusal = n; place = p; song = 0; unicode = false; characters = 0; patterns = 0; entries = 0 }
 
+-- what was read of a tone
+abbrev pub reading : Tone → Reading
+reading t = record { song = t.song; unicode = t.unicode; characters = characters t.unicode t.title; patterns = length t.patterns; entries = entries t.patterns }
+
 -- the answer to an outcome
-abbrev pub read_answer : Outcome Tone → Reading
-read_answer (accepted t) = Read t.song t.unicode (characters t.unicode t.title) (length t.patterns) (entries t.patterns)
-read_answer (refused n p) = Refused n (place p)
+abbrev pub read_answer : Outcome Tone → Result Reading Refusal
+read_answer o = answered reading o
 
 -- the lent table after the call
 abbrev pub table_after : Outcome Tone → List ℕ → List ℕ
@@ -63,7 +66,7 @@ title_after (accepted t) old = over t.title old
 title_after (refused n p) old = old
 
 -- the promise: the answer, its numbers, and every cell of the table and of the title
-pub record ReadPromise (m table title table' title' : List ℕ) (r : Reading) : Type 0 where
+pub record ReadPromise (m table title table' title' : List ℕ) (r : Result Reading Refusal) : Type 0 where
   pub answer : r ≡ read_answer (read_into m (length title) (length table))
   pub said : numbers r ≡ read_numbers (read_into m (length title) (length table))
   pub leaves_table : table' ≡ table_after (read_into m (length title) (length table)) table

@@ -7,23 +7,16 @@ ghost use Rattle.tone_elements.specs.Answers.{Within};
 ghost use Rattle.tone_read.specs.Judging.{TableAt, OctetsAt, table_of, title_of};
 ghost use Rattle.tone_read.specs.Promise.{ReadPromise};
 
-use bits::{BitPlace, OctetCount};
-use tone_judge::Judged;
+use bits::{BitPlace, Ground, OctetCount, Refusal};
 
-// What reading a message answers.
+// What was read of a message: the song type, UNICODE or not, the title's characters, the patterns and the table's entries.
 #[derive(Clone, Copy)]
-pub enum Reading {
-    Read {
-        song: u32,
-        unicode: bool,
-        characters: u32,
-        patterns: u32,
-        entries: u32,
-    },
-    Refused {
-        number: u32,
-        place: BitPlace,
-    },
+pub struct Reading {
+    pub song: u32,
+    pub unicode: bool,
+    pub characters: u32,
+    pub patterns: u32,
+    pub entries: u32,
 }
 
 // Writes the `n` entries that stand at a place to the table.
@@ -33,12 +26,10 @@ fn fill_table(msg: &[u8], at: BitPlace, n: usize, table: &mut [u32])
     ensures { table.new ≡ over (table_of msg.now) table.old }
 {
     let mut place = at;
-    let mut i: usize = 0;
-    while i < n {
+    for i in 0..n {
         let c = tone_elements::entry_at(msg, place);
         table[i] = c.cell;
         place = c.next;
-        i += 1;
     }
 }
 
@@ -48,13 +39,10 @@ fn fill_title(msg: &[u8], at: BitPlace, octets: OctetCount, title: &mut [u8])
     requires octets_in_bounds { (octets.0 ≤ length title.old) × (octets.0 ≡ length (title_of msg.now)) × OctetsAt msg.now at.0 (title_of msg.now) }
     ensures { title.new ≡ over (title_of msg.now) title.old }
 {
-    let n = octets.0;
     let mut place = at;
-    let mut i: usize = 0;
-    while i < n {
+    for i in 0..octets.0 {
         title[i] = bits::octet_at(msg, place);
         place = BitPlace(place.0 + 8);
-        i += 1;
     }
 }
 
@@ -67,45 +55,27 @@ fn title_place(end: BitPlace, octets: OctetCount) -> BitPlace
 }
 
 // Reads a tone message into a lent table and a lent title.
-pub fn read(msg: &[u8], table: &mut [u32], title: &mut [u8]) -> Reading
+pub fn read(msg: &[u8], table: &mut [u32], title: &mut [u8]) -> Result<Reading, Refusal>
     ensures { ReadPromise msg.now table.old title.old table.new title.new result }
 {
-    match tone_judge::judge(msg) {
-        Judged::Faulty { number, at: fault } => Reading::Refused {
-            number,
-            place: fault,
-        },
-        Judged::Sound {
-            song,
-            at,
-            octets,
-            patterns,
-            total,
-            unicode,
-        } => {
-            let entries = total.table;
-            if title.len() < octets.0 {
-                return Reading::Refused {
-                    number: 11,
-                    place: BitPlace(0),
-                };
-            }
-            if table.len() < entries as usize {
-                return Reading::Refused {
-                    number: 11,
-                    place: BitPlace(0),
-                };
-            }
-            let characters = tone_elements::characters_in(octets, unicode);
-            fill_title(msg, title_place(at, octets), octets, title);
-            fill_table(msg, at, entries as usize, table);
-            Reading::Read {
-                song,
-                unicode,
-                characters,
-                patterns,
-                entries,
-            }
-        }
+    let judged = tone_judge::judge(msg)?;
+    let octets = judged.octets;
+    let unicode = judged.unicode;
+    let entries = judged.total.table;
+    if title.len() < octets.0 {
+        return Err(Ground::NoRoom.into());
     }
+    if table.len() < entries as usize {
+        return Err(Ground::NoRoom.into());
+    }
+    let characters = tone_elements::characters_in(octets, unicode);
+    fill_title(msg, title_place(judged.at, octets), octets, title);
+    fill_table(msg, judged.at, entries as usize, table);
+    Ok(Reading {
+        song: judged.song,
+        unicode,
+        characters,
+        patterns: judged.patterns,
+        entries,
+    })
 }
