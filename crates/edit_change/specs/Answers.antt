@@ -1,7 +1,9 @@
 -- How the steps answer that judge an edit: the bits that it puts, and the ground against it.
-use Rattle.std.specs.Prelude.{ℕ, ◌^◌, ◌≤◌, ◌<◌, ◌≡◌, ◌&&◌, List, leb}
+use Rattle.std.specs.Prelude.{ℕ, zero, suc, ◌^◌, ◌≤◌, ◌<◌, ◌≡◌, ◌&&◌, List, leb, Result, Ok, Err, ⊤}
 use Rattle.bits.specs.Choice.{pick}
 use Rattle.bits.specs.Bits.{bits_n}
+use Rattle.bits.specs.Refusals.{ground_of as ground_by}
+use Rattle.bits.specs.declared.refusal.Ground.{Ground}
 use Rattle.tone.specs.Writing.{table_bits}
 use Rattle.edit_change.specs.declared.Edit.{Edit}
 use Rattle.edit_change.specs.Change.{in_body, empties, overfills}
@@ -19,3 +21,8 @@ overdone_of ed n = pick (empties ed n) 13 (pick (overfills ed n) 14 0)
 -- the ground against an edit at i of n instructions: 12, 13, 14, or 0 for none
 abbrev pub ground_of : Edit → ℕ → ℕ → ℕ
 ground_of ed i n = pick (leb 1 n && in_body ed i n) (overdone_of ed n) 12
+
+-- what the code answers to a ground's number, 0 being none
+abbrev pub ground_as : ℕ → Result ⊤ Ground
+ground_as zero = Ok tt
+ground_as (suc n) = Err (ground_by (suc n))

@@ -3,8 +3,9 @@
 ghost use Rattle.std.specs.Prelude.{◌≡◌, true, [], ◌∷◌, ◌≤◌, length};
 ghost use Rattle.tone_elements.specs.Answers.{notes as notes_of};
 ghost use Rattle.edit_change.specs.Change.{is_new as isNewOf, carries_new, carried, removed as removedOf, in_body};
-ghost use Rattle.edit_change.specs.Answers.{Puts, overdone_of, ground_of};
+ghost use Rattle.edit_change.specs.Answers.{Puts, overdone_of, ground_of, ground_as};
 
+use bits::Ground;
 use edit_build::Piece;
 
 // What an edit does at an instruction: replace it, insert before it, or delete it. The new instruction is one table entry.
@@ -119,36 +120,36 @@ fn in_body(edit: Edit, i: usize, n: usize) -> bool
     }
 }
 
-// Deleting a part's only instruction is 13, inserting into a part of 255 is 14.
-fn overdone(edit: Edit, n: usize) -> u32
-    ensures { result ≡ overdone_of edit n }
+// A part's only instruction is not deleted, and none is inserted into a part of 255.
+fn overdone(edit: Edit, n: usize) -> Result<(), Ground>
+    ensures { result ≡ ground_as (overdone_of edit n) }
 {
     match edit {
-        Edit::Replace(_) => 0,
+        Edit::Replace(_) => Ok(()),
         Edit::Insert(_) => {
             if n == 255 {
-                return 14;
+                return Err(Ground::FullPart);
             }
-            0
+            Ok(())
         }
         Edit::Delete => {
             if n == 1 {
-                return 13;
+                return Err(Ground::OnlyOne);
             }
-            0
+            Ok(())
         }
     }
 }
 
-// The ground against an edit at position `i` of `n` instructions, 0 for none. A recall has none of its own.
-pub fn ground(edit: Edit, i: usize, n: usize) -> u32
-    ensures { result ≡ ground_of edit i n }
+// The ground against an edit at position `i` of `n` instructions, where there is one. A recall has no instruction of its own.
+pub fn ground(edit: Edit, i: usize, n: usize) -> Result<(), Ground>
+    ensures { result ≡ ground_as (ground_of edit i n) }
 {
     if n < 1 {
-        return 12;
+        return Err(Ground::NotThere);
     }
     if in_body(edit, i, n) {
         return overdone(edit, n);
     }
-    12
+    Err(Ground::NotThere)
 }

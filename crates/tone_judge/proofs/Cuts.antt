@@ -7,15 +7,17 @@ use mathlib.Core.List.{List, ◌++◌}
 use lib.ListN.{length, take, drop, length-append, length-drop}
 use lib.Seq.{drop-drop, take-add}
 use borrow.Author.Tests.{eq-eqb, ne_eqb}
+use Rattle.std.specs.Prelude.{Result, is_err, ⊤}
 use Rattle.bits.specs.declared.BitPlace.{BitPlace}
+use Rattle.bits.specs.declared.refusal.Ground.{Ground}
 use Rattle.tone.specs.Writing.{table_bits}
 use Rattle.tone.proofs.Rows.{table_bits_append}
 use Rattle.tone_elements.specs.Answers.{notes}
 use Rattle.tone_elements.proofs.Walks.{notes_more, notes_most}
 use Rattle.edit_change.specs.Change.{carried, removed, body_after}
-use Rattle.edit_change.specs.Answers.{ground_of}
+use Rattle.edit_change.specs.Answers.{ground_of, ground_as}
 use Rattle.edit_change.proofs.Bodies.{Fits}
-use Rattle.edit_change.proofs.Grounds.{no_ground}
+use Rattle.edit_change.proofs.Grounds.{no_ground, ground_some, ground_none_is}
 use Rattle.tone_judge.specs.declared.Wish.{Wish}
 use Rattle.tone_judge.specs.declared.Cut.{Cut}
 use Rattle.tone_judge.specs.declared.Own.{Own}
@@ -26,7 +28,7 @@ use Rattle.tone_judge.proofs.Overs.{Standing, known_of, drop_stands, may_go, wen
 
 -- ---- cutting a part
 
-module _ (w : Wish) {m : List ℕ} (h : BitPlace) (cell : ℕ) {own : ℕ} (s : PartAt m h.0 cell own) {g : ℕ} (q : g ≡ ground_of w.edit w.instruction (cell % 256)) where
+module _ (w : Wish) {m : List ℕ} (h : BitPlace) (cell : ℕ) {own : ℕ} (s : PartAt m h.0 cell own) {g : Result ⊤ Ground} (q : g ≡ ground_as (ground_of w.edit w.instruction (cell % 256))) {t : Bool} (u : t ≡ is_err g) where
   abbrev b : List ℕ
   b = body_in m (h.0 + 17) (cell % 256)
 
@@ -36,24 +38,31 @@ module _ (w : Wish) {m : List ℕ} (h : BitPlace) (cell : ℕ) {own : ℕ} (s : 
   size : length b ≡ cell % 256
   size = (known_of s.stands).size
 
-  ground : ground_of w.edit w.instruction (length b) ≡ g
-  ground = ap (ground_of w.edit w.instruction) size ∙ sym q
+  -- the ground against the body, by its number
+  abbrev n : ℕ
+  n = ground_of w.edit w.instruction (length b)
+
+  ground : t ≡ is_err (ground_as n)
+  ground = u ∙ ap (λ (x : Result ⊤ Ground). is_err x) (q ∙ ap (λ (x : ℕ). ground_as (ground_of w.edit w.instruction x)) (sym size))
 
   -- a ground is against it
-  pub cut_against : (g ≡ 0 → ⊥) → OwnOf w h.0 cell b (record { notes = own; cut = record { header = h; at = h; behind = h; cell = cell } })
+  pub cut_against : t ≡ true → OwnOf w h.0 cell b (record { notes = own; cut = record { header = h; at = h; behind = h; cell = cell } })
   cut_against z =
-      let e : grants w b ≡ false = ne_eqb (ground_of w.edit w.instruction (length b)) 0 (λ x. z (sym ground ∙ x)) in
+      let e : grants w b ≡ false = ne_eqb (ground_of w.edit w.instruction (length b)) 0 (ground_some n (sym ground ∙ z)) in
       record { notes = s.noted ∙ (rw e refl); cut = rw e refl }
 
-  module _ (z : g ≡ 0) where
+  module _ (z : t ≡ false) where
+    none : n ≡ 0
+    none = ground_none_is n (sym ground ∙ z)
+
     granting : grants w b ≡ true
-    granting = eq-eqb (ground_of w.edit w.instruction (length b)) 0 (ground ∙ z)
+    granting = eq-eqb (ground_of w.edit w.instruction (length b)) 0 none
 
     short : length b ≤ 255
     short = omega (arith, size)
 
     fit : Fits w.edit w.instruction (length b)
-    fit = (no_ground w.edit w.instruction (length b) short (ground ∙ z)).1
+    fit = (no_ground w.edit w.instruction (length b) short none).1
 
     pub cut_position : w.instruction ≤ 255
     cut_position = omega (arith, fit.inside, short)

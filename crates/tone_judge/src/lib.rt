@@ -123,7 +123,7 @@ fn cut_part(msg: &[u8], header: BitPlace, cell: u32, own: u32, wish: Wish) -> Ow
 {
     let edit = wish.edit;
     let i = wish.instruction;
-    if edit_change::ground(edit, i, (cell % 256) as usize) != 0 {
+    if edit_change::ground(edit, i, (cell % 256) as usize).is_err() {
         return Own {
             notes: own,
             cut: Cut {
