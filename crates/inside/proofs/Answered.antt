@@ -1,9 +1,9 @@
 -- What the code answers tells the outcome behind it.
 use Prim.Native.Nat.{ℕ}
 use mathlib.Core.Path.{◌≡◌, refl, ap, ap₂, sym, ◌∙◌}
-use Rattle.std.specs.Prelude.{Result, Ok, Err}
+use Rattle.std.specs.Prelude.{Ok, Err}
 use Rattle.bits.specs.Outcome.{Outcome, accepted, refused}
-use Rattle.bits.specs.Refusals.{number_of, ground_of, refusal, answered}
+use Rattle.bits.specs.Refusals.{number_of, refusal, answered}
 use Rattle.bits.specs.declared.refusal.Refusal.{Refusal}
 use Rattle.bits.proofs.Refusals.{GivenBy}
 

@@ -3,18 +3,16 @@ use Prim.Native.Nat.{ℕ, suc, ◌+◌, ◌-◌, ◌≤◌, ◌<◌}
 use native.Mathlib.Omega.{arith}
 use native.Mathlib.Numerals.{add-one}
 use mathlib.Core.Path.{◌≡◌, refl, sym, ap, ◌∙◌}
-use mathlib.Core.Bool.{Bool}
 use mathlib.Core.List.{List}
 use lib.ListN.{length, take, drop, set, length-set}
 use Rattle.bits.specs.Bits.{place_after}
-use Rattle.std.specs.Prelude.{Result, Ok, Err, ⊤}
-use Rattle.bits.specs.Outcome.{Outcome, accepted, refused}
-use Rattle.bits.specs.Refusals.{number_of, answered}
+use Rattle.std.specs.Prelude.{Result, Ok, Err}
+use Rattle.bits.specs.Outcome.{refused}
+use Rattle.bits.specs.Refusals.{number_of}
 use Rattle.bits.specs.declared.refusal.Refusal.{Refusal}
 use Rattle.bits.proofs.Refusals.{grounded}
 use Rattle.bits.specs.Places.{place}
 use Rattle.bits.specs.declared.BitPlace.{BitPlace}
-use Rattle.bits.specs.declared.OctetCount.{OctetCount}
 use Rattle.tone.specs.Tone.{Tone, front_of}
 use Rattle.tone.specs.Writing.{front_bits}
 use Rattle.tone.specs.Reading.{got, read_tone, tone_at}

@@ -51,7 +51,12 @@ pub fn moved(at: BitPlace, start: OctetCount) -> BitPlace
 
 // Judges the tone message that is a stretch of something larger, from one octet up to another. Where no tone fills it, it is judged
 // by itself, which finds the fault and its place.
-pub fn judge_inside(whole: &[u8], start: OctetCount, end: OctetCount, marks: &[u8; 512]) -> Result<(), Refusal>
+pub fn judge_inside(
+    whole: &[u8],
+    start: OctetCount,
+    end: OctetCount,
+    marks: &[u8; 512],
+) -> Result<(), Refusal>
     requires marks { Marks marks.now }
     requires start_le_end { (start.0 ≤ end.0) × (end.0 ≤ length whole.now) × (length whole.now ≤ 65535) }
     ensures { result ≡ inside_of (moved_by start.0 (read_tone (take (end.0 - start.0) (drop start.0 whole.now)))) }

@@ -10,20 +10,18 @@ use lib.Dec.{ltb, eqb}
 use denote.Ref.{Bor}
 use mir.Val.{Fits}
 use mir.Syntax.{w32, w64}
-use borrow.Author.Tests.{le-leb, lt-leb, eq-eqb, ne_eqb, lt-ltb, le-ltb}
+use borrow.Author.Tests.{le-leb, lt-leb, eq-eqb, ne_eqb, lt-ltb}
 use Rattle.std.specs.Prelude.{Result, Ok, Err, ⊤}
-use Rattle.bits.specs.Outcome.{Outcome, accepted, refused, demand}
-use Rattle.bits.specs.Refusals.{number_of, refusal, answered}
+use Rattle.bits.specs.Outcome.{accepted, refused, demand}
+use Rattle.bits.specs.Refusals.{number_of, refusal}
 use Rattle.bits.specs.declared.refusal.Refusal.{Refusal}
-use Rattle.bits.specs.Places.{place, octet_count}
-use Rattle.bits.specs.declared.BitPlace.{BitPlace}
-use Rattle.bits.specs.declared.OctetCount.{OctetCount}
+use Rattle.bits.specs.Places.{octet_count}
 use Rattle.tone.specs.Tone.{Tone}
 use Rattle.inside.specs.Inside.{number, sum, cut}
 use Rattle.inside.proofs.Answered.{refusal_there, accepted_there, refusal_passed}
 use Rattle.pack.specs.declared.Found.{Found}
 use Rattle.pack.specs.declared.Sound.{Sound}
-use Rattle.pack.specs.Pack.{most_pack, Row, row_at, rows_at, lengths_in, first_row, count, rows_in, continues, read_in_turn, read_pack, no_row, nth_row}
+use Rattle.pack.specs.Pack.{most_pack, row_at, rows_at, lengths_in, first_row, count, rows_in, continues, read_in_turn, read_pack, no_row, nth_row}
 use Rattle.pack.specs.Answers.{turn_of, rows_judged, judged_of}
 use Rattle.pack.specs.Promises.{ReadPromise, Finding, found_at, find_answer, FindPromise, MessagePromise}
 use Rattle.bits.proofs.Refusals.{grounded}

@@ -12,9 +12,9 @@ use mir.Val.{Fits}
 use mir.Syntax.{w64}
 use borrow.Author.Tests.{le-leb, lt-leb, eq-eqb, ne_eqb}
 use Rattle.std.specs.Prelude.{Result, Ok, Err, ⊤}
-use Rattle.bits.specs.Outcome.{Outcome, accepted, refused, and_then, demand}
+use Rattle.bits.specs.Outcome.{accepted, demand}
 use Rattle.bits.specs.Places.{octet_count}
-use Rattle.bits.specs.Refusals.{number_of, refusal}
+use Rattle.bits.specs.Refusals.{refusal}
 use Rattle.bits.specs.declared.refusal.Refusal.{Refusal}
 use Rattle.tone.specs.Tone.{Tone}
 use Rattle.inside.specs.Inside.{pair, sum, cut}

@@ -4,9 +4,8 @@ use mathlib.Core.Path.{◌≡◌, refl, ap, ◌∙◌}
 use mathlib.Core.List.{List, [], ◌∷◌}
 use lib.ListN.{length, get_or}
 use lib.Dec.{leb, ltb, eqb}
-use Rattle.std.specs.Prelude.{Ok, Err}
 use Rattle.bits.specs.Outcome.{Outcome, accepted, refused, and_then, demand}
-use Rattle.bits.proofs.Refusals.{Given, GivenBy, given_then, given_demand}
+use Rattle.bits.proofs.Refusals.{GivenBy, given_then, given_demand}
 use Rattle.tone.specs.Tone.{Tone}
 use Rattle.tone.specs.Reading.{read_tone}
 use Rattle.tone.proofs.Numbered.{tone_numbered}

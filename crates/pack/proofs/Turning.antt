@@ -19,7 +19,6 @@ use Rattle.tone.specs.Tone.{Tone}
 use Rattle.tone.specs.Reading.{read_tone}
 use Rattle.inside.specs.Inside.{number, sum, cut, moved_by}
 use Rattle.inside.specs.Answers.{inside_of}
-use Rattle.inside.proofs.Answered.{refusal_passed}
 use Rattle.pack.specs.Pack.{Row, rows_at, lengths_in, continues, read_in_turn}
 use Rattle.pack.specs.Answers.{turn_of}
 

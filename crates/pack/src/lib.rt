@@ -120,7 +120,14 @@ fn judge_rows(pack: &[u8], rows: OctetCount, n: usize) -> Result<(), Refusal>
     if !continues(pack, rows, n) {
         return Err(Ground::PackRows.into());
     }
-    judge_in_turn(pack, &Rows { pack, from: rows, count: n })
+    judge_in_turn(
+        pack,
+        &Rows {
+            pack,
+            from: rows,
+            count: n,
+        },
+    )
 }
 
 // Judges a pack, and changes nothing: its size, its rows, its messages.

@@ -13,7 +13,6 @@ use Rattle.bits.specs.Outcome.{Outcome, accepted, refused}
 use Rattle.bits.specs.Places.{octet_count}
 use Rattle.bits.specs.Refusals.{number_of, refusal}
 use Rattle.bits.specs.declared.refusal.Refusal.{Refusal}
-use Rattle.bits.specs.declared.OctetCount.{OctetCount}
 use Rattle.inside.specs.Inside.{join, sum}
 use Rattle.inside.proofs.Stretches.{length_join}
 use Rattle.pack.specs.Pack.{most_pack, Row, lengths_in}
