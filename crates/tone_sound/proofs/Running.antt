@@ -94,20 +94,10 @@ module _ {n x met : ℕ} {t : Told} {left : ℕ} (c : Run n x met t left) (h : 0
   run_mark = c.mark
 
 -- the same, where those that are told are counted
-module _ {n x met : ℕ} {t : Told} {i : ℕ} (c : Run n x met t (n - i)) where
-  pub counted_on : {r : Told} → i < n → n ≤ 4 → Next t r → (r.widths ≤ t.widths + 2 ^ 62) × Mark r.marks → Run n x met r (n - (i + 1))
-  counted_on {r} h k e l = let z : n - i - 1 ≡ n - (i + 1) = omega arith in subst (Run n x met r) z (run_on c (omega arith) k e l)
+pub counted_on : {n x met : ℕ} {t : Told} {i : ℕ} {r : Told} → Run n x met t (n - i) → i < n → n ≤ 4 → Next t r → (r.widths ≤ t.widths + 2 ^ 62) × Mark r.marks → Run n x met r (n - (i + 1))
+counted_on {n} {x} {met} {i = i} {r} c h k e l = let z : n - i - 1 ≡ n - (i + 1) = omega arith in subst (Run n x met r) z (run_on c (omega arith) k e l)
 
-  pub counted_ends : n ≤ i → ToldOf n x met t
-  counted_ends h = run_ends c (omega arith)
-
-  pub counted_room : i < n → n ≤ 4 → t.widths ≤ 3 * 2 ^ 62
-  counted_room h k = run_room c (omega arith) k
-
-pub counted_mark : {n x met : ℕ} {t : Told} {left : ℕ} → Run n x met t left → Mark t.marks
-counted_mark c = c.mark
-
-pub ruleset running = (run_begins, counted_on, counted_ends, counted_room, counted_mark)
+pub ruleset running = (run_begins, counted_on, run_ends, run_room, run_mark)
 
 -- four in a row
 pub four_run : (x met : ℕ) {t₀ t₁ t₂ t₃ t₄ : Told} → Mark met → Begun x met t₀
