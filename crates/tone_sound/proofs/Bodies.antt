@@ -6,11 +6,11 @@ use mathlib.Core.Bool.{Bool, true, false, not}
 use mathlib.Core.List.{List, [], ◌++◌}
 use lib.ListN.{length, drop}
 use lib.Seq.{drop-drop}
-use lib.Dec.{eqb}
 use mir.Val.{Fits}
 use mir.Syntax.{w64}
-use borrow.Author.Tests.{eqb-true, eq-eqb}
+use Rattle.std.specs.Prelude.{Option, Some, None}
 use Rattle.bits.specs.Bits.{bits_of}
+use Rattle.bits.specs.declared.BitPlace.{BitPlace}
 use Rattle.bits.specs.Window.{Sight, Sights}
 use Rattle.bits.proofs.Looking.{length_left_lem, sights_joined}
 use Rattle.bits.proofs.Octets.{length_bits_of}
@@ -21,21 +21,30 @@ use Rattle.tone_elements.proofs.Steps.{onward_got, onward_made}
 use Rattle.tone_elements.proofs.Walks.{stays, body_more}
 use Rattle.tone_sound.specs.declared.Told.{Told}
 use Rattle.tone_sound.specs.Turning.{turn, clear, Mark, width_in, along, AllClear}
-use Rattle.tone_sound.specs.Answers.{Tells, ToldOf, Past, Stand, Gone}
+use Rattle.tone_sound.specs.declared.Way.{Way}
+use Rattle.tone_sound.specs.Answers.{Finds, ToldOf, Past, Stand, Gone}
 use Rattle.tone_sound.proofs.Walking.{body_none, clear_most, past_told, past_clear}
 
--- ---- sure or not
+-- ---- found or not
 
-pub surely : {P Q : Type 0} → P → Tells true P Q
-surely p = record { so = λ _. p; back = λ _. refl }
+-- something is not nothing
+pub some_none : {A : Type 0} {v : A} {P : Type 0} → None ≡ Some v → P
+some_none e = let z : ◌≡◌ {A = ℕ} 0 1 = cc in absurd (omega (arith, z))
+
+pub surely : {A : Type 0} {v : A} {P : A → Type 0} {Q : Type 0} → P v → Finds (Some v) P Q
+surely {v = v} {P = P} p = record { so = λ w e. let z : v ≡ w = cc in subst P z p; back = λ _. (v, refl) }
+
+pub nowhere : {A : Type 0} {P : A → Type 0} {Q : Type 0} → (Q → ⊥) → Finds None P Q
+nowhere n = record { so = λ w e. some_none e; back = λ q. absurd (n q) }
+
+-- what was not found is not there
+pub not_there : {A : Type 0} {r : Option A} {P : A → Type 0} {Q : Type 0} → Finds r P Q → r ≡ None → Q → ⊥
+not_there s e q = let b = s.back q in some_none (sym e ∙ b.1)
 
 -- what is not so passes no test
 pub nothing_sure : (b : Bool) {P : Type 0} → not b ≡ true → b ≡ true → P
 nothing_sure true e h = let z : ◌≡◌ {A = ℕ} 0 1 = cc in absurd (omega (arith, z))
 nothing_sure false e h = let z : ◌≡◌ {A = ℕ} 0 1 = cc in absurd (omega (arith, z))
-
-pub nowhere : {b : Bool} {P Q : Type 0} → b ≡ false → (Q → ⊥) → Tells b P Q
-nowhere {b} e n = record { so = λ h. nothing_sure false refl (sym e ∙ h); back = λ q. absurd (n q) }
 
 -- where the code did not turn back, it was sure
 pub was_sure : (b : Bool) → not b ≡ false → b ≡ true
@@ -89,16 +98,20 @@ module _ (m : List ℕ) (at n : ℕ) where
   pub gone_begins : at ≤ 8 * length m → Gone m at n at n
   gone_begins h = let z : n - n ≡ 0 = omega arith in record { fewer = omega arith; past = rw z (past_none m at h) }
 
-  -- k of them more, which are sure
-  pub gone_on : {p left k q : ℕ} {b : Bool} → Gone m at n p left → k ≤ left → Tells b (Past m p k q) (Stand m p k) → not b ≡ false → Gone m at n q (left - k)
-  gone_on {p} {left} {k} {q} {b} g h s e =
+  -- what is found of a body
+  abbrev pub BodyFound : Option BitPlace → Type 0
+  BodyFound r = Finds r (λ q. Past m at n q.0) (Stand m at n)
+
+  -- k of them more, which are found
+  pub gone_on : {p left k : ℕ} {q : BitPlace} {r : Option BitPlace} → Gone m at n p left → k ≤ left → Finds r (λ q. Past m p k q.0) (Stand m p k) → r ≡ Some q → Gone m at n q.0 (left - k)
+  gone_on {p} {left} {k} {q} g h s e =
       let f = g.fewer in
       let z : n - left + k ≡ n - (left - k) = omega arith in
-      record { fewer = omega arith; past = subst (λ (j : ℕ). Past m at j q) z (past_more m at (n - left) k g.past (s.so (was_sure b e))) }
+      record { fewer = omega arith; past = subst (λ (j : ℕ). Past m at j q.0) z (past_more m at (n - left) k g.past (s.so q e)) }
 
-  -- k of them more, which do not stand
-  pub gone_lost : {p left k q z : ℕ} {b r : Bool} → Gone m at n p left → k ≤ left → Tells b (Past m p k q) (Stand m p k) → not b ≡ true → r ≡ false → Tells r (Past m at n z) (Stand m at n)
-  gone_lost {p} {left} {k} {b = b} g h s e f = nowhere f (λ u. nothing_sure b e (s.back (stand_first m p left k h g.past.inside (stand_rest m at n g u))))
+  -- k of them more, which are not
+  pub gone_lost : {p left k : ℕ} {r : Option BitPlace} → Gone m at n p left → k ≤ left → Finds r (λ q. Past m p k q.0) (Stand m p k) → r ≡ None → BodyFound None
+  gone_lost {p} {left} {k} g h s e = nowhere (λ u. not_there s e (stand_first m p left k h g.past.inside (stand_rest m at n g u)))
 
   pub gone_all : {p left : ℕ} → Gone m at n p left → left ≤ 0 → Past m at n p
   gone_all {p} {left} g h = let z : n - left ≡ n = omega arith in subst (λ (j : ℕ). Past m at j p) z g.past
@@ -106,27 +119,31 @@ module _ (m : List ℕ) (at n : ℕ) where
   pub gone_inside : {p left : ℕ} → Gone m at n p left → p ≤ 8 * length m
   gone_inside g = g.past.inside
 
-  -- where it is not sure, it says no
-  pub rest_lost : {p left z : ℕ} {b : Bool} → Tells b (Gone m at n p left) (Stand m at n) → not b ≡ true → Tells b (Past m at n z) (Stand m at n)
-  rest_lost {b = b} s e = record { so = nothing_sure b e; back = s.back }
+  -- what is found of the first of them
+  abbrev pub WayFound : Option Way → Type 0
+  WayFound r = Finds r (λ w. Gone m at n w.at.0 w.left) (Stand m at n)
 
-  -- where it is sure, the rest follows
-  module _ {p left : ℕ} {b : Bool} (s : Tells b (Gone m at n p left) (Stand m at n)) (e : not b ≡ false) where
-    there : Gone m at n p left
-    there = s.so (was_sure b e)
+  -- where nothing is found of them, nothing is found of all
+  pub rest_lost : {r : Option Way} → WayFound r → r ≡ None → BodyFound None
+  rest_lost s e = nowhere (λ u. not_there s e u)
 
-    pub rest_within : Within m at → Within m p
-    rest_within w = record { inside = there.past.inside; counted = w.counted }
+  -- where something is, the rest follows
+  module _ {r : Option Way} {w : Way} (s : WayFound r) (e : r ≡ Some w) where
+    there : Gone m at n w.at.0 w.left
+    there = s.so w e
 
-    pub rest_few : n ≤ 255 → left ≤ 255
+    pub rest_within : Within m at → Within m w.at.0
+    rest_within i = record { inside = there.past.inside; counted = i.counted }
+
+    pub rest_few : n ≤ 255 → w.left ≤ 255
     rest_few h = omega (arith, there.fewer)
 
-    pub rest_past : {q : ℕ} {r : Bool} → Tells r (Past m p left q) (Stand m p left) → Tells r (Past m at n q) (Stand m at n)
-    rest_past {q} t = record {
-      so = λ h.
+    pub rest_past : {a : Option BitPlace} → Finds a (λ q. Past m w.at.0 w.left q.0) (Stand m w.at.0 w.left) → BodyFound a
+    rest_past t = record {
+      so = λ q h.
           let f = there.fewer in
-          let z : n - left + left ≡ n = omega arith in
-          subst (λ (j : ℕ). Past m at j q) z (past_more m at (n - left) left there.past (t.so h));
+          let z : n - w.left + w.left ≡ n = omega arith in
+          subst (λ (j : ℕ). Past m at j q.0) z (past_more m at (n - w.left) w.left there.past (t.so q h));
       back = λ u. t.back (stand_rest m at n there u);
     }
 
@@ -140,17 +157,21 @@ module _ (m : List ℕ) (at n : ℕ) {x : ℕ} {t : Told} (s : Sight 57 (drop at
       (c.0, omega (arith, c.1, e.widths, u.room))
 
   -- the end octet is not left behind them
-  pub some_cut : all - at < t.widths % 256 + 8 → Tells false (Past m at n (at + t.widths % 256)) (Stand m at n)
-  some_cut short = nowhere refl (λ u. omega (arith, q, i, short, (some_stand u).1))
+  pub some_cut : all - at < t.widths % 256 + 8 → BodyFound m at n None
+  some_cut short = nowhere (λ u. omega (arith, q, i, short, (some_stand u).1))
 
-  -- it is
-  pub some_told : t.widths % 256 + 8 ≤ all - at → Tells (eqb t.marks clear) (Past m at n (at + t.widths % 256)) (Stand m at n)
-  some_told room = record {
-    so = λ c.
-        let a = (e.marks (eqb-true t.marks clear c)).1 in
-        rw e.widths (past_told m n at s (omega arith) (omega arith) a (omega (arith, q, room, e.widths)));
-    back = λ u. eq-eqb t.marks clear (e.unmarked refl (some_stand u).0);
-  }
+  -- one of them has a mark
+  pub some_marked : (t.marks ≡ clear → ⊥) → BodyFound m at n None
+  some_marked l = nowhere (λ u. l (e.unmarked refl (some_stand u).0))
+
+  -- none has
+  pub some_told : t.widths % 256 + 8 ≤ all - at → t.marks ≡ clear → Past m at n (at + t.widths % 256)
+  some_told room c =
+      let a = (e.marks c).1 in
+      rw e.widths (past_told m n at s (omega arith) (omega arith) a (omega (arith, q, room, e.widths)))
+
+  pub some_fits : length m < 2 ^ 60 → Fits w64 (at + t.widths % 256)
+  some_fits l = record { fits = omega arith }
 
 -- ---- on and on, from two sights at hand
 
@@ -186,10 +207,12 @@ module _ (m : List ℕ) (at n : ℕ) where
     pub going_fits : Within m at → (w : ℕ) → Fits w64 (p + w % 256 + 64)
     going_fits i w = record { fits = omega (arith, i.counted, g.room) }
 
-    pub going_gone : Tells (eqb met clear) (Gone m at n p left) (Stand m at n)
-    going_gone = record {
-      so = λ c. record { fewer = g.fewer; past = g.past (eqb-true met clear c) };
-      back = λ u. eq-eqb met clear (g.unmarked u);
+    pub going_gone : {r : Option Way} → Finds r (λ w. (w.at.0 ≡ p) × (w.left ≡ left) × (met ≡ clear)) (met ≡ clear) → WayFound m at n r
+    going_gone f = record {
+      so = λ w e.
+          let c = f.so w e in
+          rw (c.0, c.1) (record { fewer = g.fewer; past = g.past c.2 });
+      back = λ u. f.back (g.unmarked u);
     }
 
     -- k of those that stand are told without a mark
@@ -211,13 +234,15 @@ module _ (m : List ℕ) (at n : ℕ) where
         (rw w (subst (λ (j : ℕ). Past m at j (p + along width_in k (turn 6 first))) z (past_more m at (n - left) k (g.past a.0) q)), omega (arith, w, l))
 
     -- the last of them
-    pub going_ends : {t : Told} → left < 4 → ToldOf left first met t → Tells (eqb t.marks clear) (Gone m at n (p + t.widths % 256) 0) (Stand m at n)
-    going_ends {t} h e =
+    pub going_ends : {t : Told} {r : Option Way} → left < 4 → ToldOf left first met t
+        → Finds r (λ w. (w.at.0 ≡ p + t.widths % 256) × (w.left ≡ 0) × (t.marks ≡ clear)) (t.marks ≡ clear) → WayFound m at n r
+    going_ends {t} h e f =
         let z : left - left ≡ 0 = omega arith in
         record {
-          so = λ c.
-              record { fewer = omega arith; past = subst (λ (j : ℕ). Past m at (n - j) (p + t.widths % 256)) z (past_on left (omega arith) (omega arith) e (eqb-true t.marks clear c)).0 };
-          back = λ u. eq-eqb t.marks clear (unmarked_on left (omega arith) (omega arith) e u);
+          so = λ w i.
+              let c = f.so w i in
+              rw (c.0, c.1) (record { fewer = omega arith; past = subst (λ (j : ℕ). Past m at (n - j) (p + t.widths % 256)) z (past_on left (omega arith) (omega arith) e c.2).0 });
+          back = λ u. f.back (unmarked_on left (omega arith) (omega arith) e u);
         }
 
     -- four more, where 48 octets are there
@@ -250,6 +275,4 @@ module _ (m : List ℕ) (at n : ℕ) where
 
 pub ruleset going = (surely, gone_begins, going_begins, going_mark, going_inside, going_fits, going_gone, going_ends)
 
-pub ruleset bodies = (surely, gone_begins, gone_on, gone_lost, gone_all, gone_inside)
-
-pub ruleset rests = (rest_lost, rest_within, rest_few, rest_past)
+pub ruleset bodies = (surely, gone_begins, gone_all, gone_inside)

@@ -10,7 +10,8 @@ use lib.ListN.{length, drop, length-append}
 use lib.Seq.{drop-drop}
 use lib.Dec.{leb, eqb, lit≤}
 use lib.Pow.{shr-shr}
-use borrow.Author.Tests.{le-leb, leb-true, eqb-true, eq-eqb}
+use borrow.Author.Tests.{le-leb, leb-true, eqb-true}
+use Rattle.std.specs.Prelude.{Option, Some, None}
 use Rattle.bits.specs.Bits.{bits_n, bits_of, field}
 use Rattle.bits.specs.Places.{octet_count}
 use Rattle.bits.specs.Window.{Look, Sight}
@@ -25,13 +26,19 @@ use Rattle.tone.proofs.Fronts.{or_true, front_exact}
 use Rattle.tone_elements.specs.Answers.{Within, Sure, Complete, AllowedAt}
 use Rattle.tone_elements.proofs.Steps.{seen_made, onward_got, onward_made}
 use Rattle.tone_elements.proofs.Titles.{text_told}
-use Rattle.tone_sound.specs.Answers.{Tells, CommandOn, CommandSeen, FrontStands, Starts}
+use Rattle.tone_sound.specs.declared.Command.{Command}
+use Rattle.tone_sound.specs.declared.Start.{Start}
+use Rattle.tone_sound.specs.Answers.{Finds, CommandOn, CommandSeen, FrontStands, Starts}
 use Rattle.tone_sound.proofs.Dues.{element_read, element_seen, Called, command_seen, text_read}
-use Rattle.tone_sound.proofs.Bodies.{surely, nothing_sure, was_sure}
+use Rattle.tone_sound.proofs.Bodies.{surely, nowhere, not_there, nothing_sure, was_sure}
 
 -- no patterns, where no front stands
-starts_nowhere : {due : Reader Front} {m : List ℕ} {at p n : ℕ} → n ≡ 0 → (FrontStands due m at → ⊥) → Starts due m at p n
-starts_nowhere e f = record { so = λ h. absurd (omega arith); back = λ u. absurd (f u) }
+starts_nowhere : {due : Reader Front} {m : List ℕ} {at : ℕ} → (FrontStands due m at → ⊥) → Starts due m at None
+starts_nowhere f = nowhere f
+
+-- as many patterns as are announced, if any are
+abbrev Announced : Option Start → ℕ → ℕ → Type 0
+Announced r at n = Finds r (λ s. (s.at.0 ≡ at) × (s.count ≡ n) × (1 ≤ n)) (1 ≤ n)
 
 -- a character has one octet or two
 one_or_two : (u : Bool) → (per_character u ≤ 2) × (1 ≤ per_character u)
@@ -61,6 +68,7 @@ upper x a b e = sym (shr-shr x a b) ∙ ap (λ (y : ℕ). y / 2 ^ b) e
 plain_on : (x : ℕ) → x / 2 ^ 41 ≡ 75037 → CommandOn x false 23
 unfolding command parts filled whether_unicode sound_part
 plain_on x h = record {
+  short = lit≤ tt;
   reads = λ m at s there.
       let see = sees m at s (lit≤ tt) there in
       let e : at + 8 + 7 + 1 + 7 ≡ at + 23 = omega arith in
@@ -77,6 +85,7 @@ plain_on x h = record {
 unicode_on : (x : ℕ) → x / 2 ^ 33 ≡ 27599389 → CommandOn x true 31
 unfolding command parts filled whether_unicode sound_part
 unicode_on x h = record {
+  short = lit≤ tt;
   reads = λ m at s there.
       let see = sees m at s (lit≤ tt) there in
       let e : at + 8 + 7 + 1 + 7 + 1 + 7 ≡ at + 31 = omega arith in
@@ -100,14 +109,18 @@ seen_unicode x n c = go c.unicode (command_seen c.octets c.at c.sees c.reads)
     go false k = absurd (n k.0)
 
 -- what `called` answers of either
-pub command_plain : (x : ℕ) → x / 2 ^ 41 ≡ 75037 → Tells true (CommandOn x false 23) (CommandSeen x)
-command_plain x h = surely (plain_on x h)
+pub command_plain : (x : ℕ) → x / 2 ^ 41 ≡ 75037 → CommandOn x false 23
+command_plain x h = plain_on x h
 
-pub command_unicode : (x : ℕ) → (x / 2 ^ 41 ≡ 75037 → ⊥) → Tells (eqb (x / 2 ^ 33) 27599389) (CommandOn x true 31) (CommandSeen x)
-command_unicode x n = record {
-  so = λ t. unicode_on x (eqb-true (x / 2 ^ 33) 27599389 t);
-  back = λ c. eq-eqb (x / 2 ^ 33) 27599389 (seen_unicode x n c);
-}
+pub command_unicode : (x : ℕ) → x / 2 ^ 33 ≡ 27599389 → CommandOn x true 31
+command_unicode x h = unicode_on x h
+
+-- what is found of a command
+abbrev pub CommandFound : ℕ → Option Command → Type 0
+CommandFound x r = Finds r (λ c. CommandOn x c.unicode c.bits) (CommandSeen x)
+
+pub command_none : (x : ℕ) → (x / 2 ^ 41 ≡ 75037 → ⊥) → (x / 2 ^ 33 ≡ 27599389 → ⊥) → CommandFound x None
+command_none x n l = nowhere (λ c. l (seen_unicode x n c))
 
 -- ---- what stands behind it
 
@@ -178,25 +191,26 @@ module _ (m : List ℕ) (at : ℕ) (u : Bool) {x : ℕ} (i : Within m at) (s : S
         (f.0, omega (arith, f.1, i), rw (← f.1) h)
 
   -- no song type
-  pub typed_none : {p n : ℕ} → n ≡ 0 → (x / 2 ^ 61 ≡ 2 → ⊥) → (x / 2 ^ 61 ≡ 1 → ⊥) → Starts (typed u) m at p n
-  typed_none e two one = starts_nowhere e (λ k.
+  pub typed_none : (x / 2 ^ 61 ≡ 2 → ⊥) → (x / 2 ^ 61 ≡ 1 → ⊥) → Starts (typed u) m at None
+  typed_none two one = starts_nowhere (λ k.
       let a = apart k in
       ⊎_elim (λ t. one (a.seen ∙ eqb-true a.song 1 t)) (λ t. two (a.seen ∙ eqb-true a.song 2 t)) (or_true (eqb a.song 1) (eqb a.song 2) a.fine))
 
   -- a title with a character that is not allowed
-  pub typed_refused : {p n c : ℕ} {b : Bool} → c ≡ 0 → x / 2 ^ 61 ≡ 1 → n ≡ x / 2 ^ 57 % 16 → Complete b (AllowedAt m (at + 7) u n) → not b ≡ true → Starts (typed u) m at p c
-  typed_refused {b = b} z e en a h = starts_nowhere z (λ k. nothing_sure b h (a.passes (subst (AllowedAt m (at + 7) u) (sym en) (basic_counts k e).0)))
+  pub typed_refused : {n : ℕ} {b : Bool} → x / 2 ^ 61 ≡ 1 → n ≡ x / 2 ^ 57 % 16 → Complete b (AllowedAt m (at + 7) u n) → not b ≡ true → Starts (typed u) m at None
+  typed_refused {b = b} e en a h = starts_nowhere (λ k. nothing_sure b h (a.passes (subst (AllowedAt m (at + 7) u) (sym en) (basic_counts k e).0)))
 
   -- a temporary song: the pattern count is next
-  pub typed_temporary : x / 2 ^ 61 ≡ 2 → Starts (typed u) m at (at + 11) (x / 2 ^ 53 % 256)
+  pub typed_temporary : {r : Option Start} → x / 2 ^ 61 ≡ 2 → Announced r (at + 11) (x / 2 ^ 53 % 256) → Starts (typed u) m at r
   unfolding typed titled title counted
-  typed_temporary e = record {
-    so = λ h.
+  typed_temporary e f = record {
+    so = λ s' i.
+        let a = f.so s' i in
         let c = x / 2 ^ 53 % 256 in
-        let g = sees m at s (lit≤ tt) there (at + 3) 3 8 (leb 1) 5 c (omega arith) (lit≤ tt) refl (le-leb 1 c h) in
+        let g = sees m at s (lit≤ tt) there (at + 3) 3 8 (leb 1) 5 c (omega arith) (lit≤ tt) refl (le-leb 1 c a.2) in
         let z : at + 3 + 8 ≡ at + 11 = omega arith in
-        record { front = record { song = 2; unicode = u; title = []; count = c }; reads = rw (song_seen 2 e refl, g, z) refl; count = refl; inside = omega arith };
-    back = λ k. temporary_counts k e;
+        rw (a.0, a.1) (record { front = record { song = 2; unicode = u; title = []; count = c }; reads = rw (song_seen 2 e refl, g, z) refl; count = refl; some = a.2; inside = omega arith });
+    back = λ k. f.back (temporary_counts k e);
   }
 
   -- a basic song: a title of n characters, and the pattern count behind it
@@ -210,28 +224,30 @@ module _ (m : List ℕ) (at : ℕ) (u : Bool) {x : ℕ} (i : Within m at) (s : S
         (t.0, t.1)
 
     -- no count is behind them
-    pub typed_cut : {p c : ℕ} → c ≡ 0 → end < at + 7 + width + 8 → Starts (typed u) m at p c
-    typed_cut z h = starts_nowhere z (λ k.
+    pub typed_cut : end < at + 7 + width + 8 → Starts (typed u) m at None
+    typed_cut h = starts_nowhere (λ k.
         let v = ap (λ (j : ℕ). j * character_bits u) en in
         omega (arith, (basic_counts k e).1, v, w.0, ee, h))
 
-    pub typed_basic : {y : ℕ} → at + 7 + width + 8 ≤ end → Look (drop (at + 7 + width) (bits_of m)) y → Starts (typed u) m at (at + 7 + width + 8) (y / 65536)
+    pub typed_basic : {y : ℕ} {r : Option Start} → at + 7 + width + 8 ≤ end → Look (drop (at + 7 + width) (bits_of m)) y → Announced r (at + 7 + width + 8) (y / 65536) → Starts (typed u) m at r
     unfolding typed titled title counted
-    typed_basic {y} room l = record {
-      so = λ h.
+    typed_basic {y} room l h = record {
+      so = λ s' i'.
+          let o = h.so s' i' in
           let c = y / 65536 in
           let q = at + 7 + width in
           let d = sees m at s (lit≤ tt) there (at + 3) 3 4 (λ _. true) 0 n (omega arith) (lit≤ tt) (sym en) refl in
           let z : at + 3 + 4 ≡ at + 7 = omega arith in
           let f : field (bits_of m) q 8 ≡ c = ap (λ (k : ℕ). field (bits_of m) k 8) (sym (add-zero q)) ∙ seen m q 0 8 l (lit≤ tt) (omega (arith, ee, room)) ∙ omega (arith, l.small) in
-          let g = element_good 8 (leb 1) 5 (bits_of m) q (rw (length_bits_of m) (omega (arith, ee, room))) (rw f (le-leb 1 c h)) in
-          record { front = record { song = 1; unicode = u; title = text_seen.0; count = c }; reads = rw (song_seen 1 e refl, d, z, text_seen.1, g, f) refl; count = refl; inside = omega (arith, ee, room) };
+          let g = element_good 8 (leb 1) 5 (bits_of m) q (rw (length_bits_of m) (omega (arith, ee, room))) (rw f (le-leb 1 c o.2)) in
+          rw (o.0, o.1)
+          (record { front = record { song = 1; unicode = u; title = text_seen.0; count = c }; reads = rw (song_seen 1 e refl, d, z, text_seen.1, g, f) refl; count = refl; some = o.2; inside = omega (arith, ee, room) });
       back = λ k.
           let q = at + 7 + width in
           let v = ap (λ (j : ℕ). j * character_bits u) en in
           let z : at + 7 + x / 2 ^ 57 % 16 * character_bits u ≡ q = omega (arith, v, w.0) in
           let f : field (bits_of m) q 8 ≡ y / 65536 = ap (λ (k : ℕ). field (bits_of m) k 8) (sym (add-zero q)) ∙ seen m q 0 8 l (lit≤ tt) (omega (arith, ee, room)) ∙ omega (arith, l.small) in
-          rw (← f, ← z) (basic_counts k e).2;
+          h.back (rw (← f, ← z) (basic_counts k e).2);
     }
 
 -- ---- the whole front
@@ -252,46 +268,49 @@ front_long f =
     (omega (arith, command_long f.unicode))
 
 -- so with what follows it 57 are there
-pub front_cut : (m : List ℕ) (at : ℕ) {p n end : ℕ} → n ≡ 0 → at ≤ 8 * length m → end ≡ 8 * length m → end < at + 57 → Starts front m at p n
-front_cut m at z i e h = starts_nowhere z (λ f.
+pub front_cut : (m : List ℕ) (at : ℕ) {end : ℕ} → at ≤ 8 * length m → end ≡ 8 * length m → end < at + 57 → Starts front m at None
+front_cut m at i e h = starts_nowhere (λ f.
     let a = front_exact.sound (bits_of m) at (rw (length_bits_of m) i) f.reads in
     omega (arith, a.end, front_long f.front, f.room, e, h))
 
 -- a sight of which all is there, up to the end of the octets
 module _ (m : List ℕ) (at : ℕ) {x end : ℕ} (s : Sight 57 (drop at (bits_of m)) x) (e : end ≡ 8 * length m) (room : at + 57 ≤ end) where
-  -- it holds what stands behind a command
-  module _ {n : ℕ} (h : n ≤ 31) where
-    pub behind_seen : Sight 26 (drop (at + n) (bits_of m)) (x * 2 ^ n % 2 ^ 64)
+  -- no command
+  pub front_none : {r : Option Command} → CommandFound x r → r ≡ None → Starts front m at None
+  unfolding front
+  front_none k h = starts_nowhere (λ f.
+      let a = onward_got (command (bits_of m) at) (λ v q. typed v (bits_of m) q) f.reads in
+      not_there k h (record { octets = m; at = at; sees = s; unicode = a.0; end = a.1; reads = a.2 }))
+
+  -- a command, and what stands behind it
+  module _ {r : Option Command} {c : Command} (k : CommandFound x r) (h : r ≡ Some c) where
+    pub command_short : c.bits ≤ 31
+    command_short = (k.so c h).short
+
+    pub behind_seen : Sight 26 (drop (at + c.bits) (bits_of m)) (x * 2 ^ c.bits % 2 ^ 64)
     behind_seen =
+        let n = c.bits in
+        let l = command_short in
         let t = sight_on {k = n} s (lit≤ tt) (omega arith) (rw (length_left_lem m at) (omega (arith, e, room))) in
         sight_less (subst (λ (l : List Bool). Sight (57 - n) l (x * 2 ^ n % 2 ^ 64)) (drop-drop n at (bits_of m)) t) (omega arith)
 
-    pub behind_there : at + n + 26 ≤ 8 * length m
-    behind_there = omega (arith, e, room)
+    pub behind_there : at + c.bits + 26 ≤ 8 * length m
+    behind_there = omega (arith, e, room, command_short)
 
-    pub behind_within : length m < 2 ^ 60 → Within m (at + n)
-    behind_within l = record { inside = omega (arith, e, room); counted = l }
+    pub behind_within : length m < 2 ^ 60 → Within m (at + c.bits)
+    behind_within l = record { inside = omega (arith, e, room, command_short); counted = l }
 
-  -- no command
-  pub front_none : {n p c : ℕ} {u b : Bool} → c ≡ 0 → Tells b (CommandOn x u n) (CommandSeen x) → not b ≡ true → Starts front m at p c
-  unfolding front
-  front_none {b = b} z k h = starts_nowhere z (λ f.
-      let a = onward_got (command (bits_of m) at) (λ v q. typed v (bits_of m) q) f.reads in
-      nothing_sure b h (k.back (record { octets = m; at = at; sees = s; unicode = a.0; end = a.1; reads = a.2 })))
+    pub front_starts : {q : Option Start} → Starts (typed c.unicode) m (at + c.bits) q → Starts front m at q
+    unfolding front
+    front_starts t =
+        let o : command (bits_of m) at ≡ got c.unicode (at + c.bits) = (k.so c h).reads m at s (omega (arith, e, room)) in
+        record {
+          back = λ f.
+              let g : typed c.unicode (bits_of m) (at + c.bits) ≡ got f.front f.end = sym (rw o refl) ∙ f.reads in
+              t.back (record { front = f.front; end = f.end; reads = g; room = f.room });
+          so = λ v i.
+              let f = t.so v i in
+              record { front = f.front; reads = rw (o, f.reads) refl; count = f.count; some = f.some; inside = f.inside };
+        }
 
-  -- the command, and what stands behind it
-  pub front_starts : {n p c : ℕ} {u b : Bool} → Tells b (CommandOn x u n) (CommandSeen x) → not b ≡ false → Starts (typed u) m (at + n) p c → Starts front m at p c
-  unfolding front
-  front_starts {n} {u = u} {b = b} k sure t = record {
-    back = λ f.
-        let l = bits_of m in
-        let r = (k.so (was_sure b sure)).reads m at s (omega (arith, e, room)) in
-        let g : typed u l (at + n) ≡ got f.front f.end = sym (rw r refl) ∙ f.reads in
-        t.back (record { front = f.front; end = f.end; reads = g; room = f.room });
-    so = λ h.
-        let r = (k.so (was_sure b sure)).reads m at s (omega (arith, e, room)) in
-        let f = t.so h in
-        record { front = f.front; reads = rw (r, f.reads) refl; count = f.count; inside = f.inside };
-  }
-
-pub ruleset fronting = (command_plain, command_unicode, typed_none, typed_refused, typed_cut, typed_temporary, typed_basic, front_cut, front_none, behind_seen, behind_there, behind_within, front_starts)
+pub ruleset fronting = (surely, command_plain, command_unicode, command_none, typed_none, typed_refused, typed_cut, typed_temporary, typed_basic, front_cut, front_none, command_short, behind_seen, behind_there, behind_within, front_starts)

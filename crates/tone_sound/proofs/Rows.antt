@@ -8,8 +8,9 @@ use lib.ListN.{length, get_or, set}
 use borrow.Author.Tests.{eq-eqb, ne_eqb}
 use Rattle.bits.specs.Choice.{pick}
 use Rattle.bits.specs.Bits.{bits_of}
-use Rattle.std.specs.Prelude.{Ok, Err}
-use Rattle.bits.specs.declared.refusal.Refusal.{Refusal}
+use Rattle.std.specs.Prelude.{Option, Some, None, Result, Ok, Err}
+use Rattle.std.specs.Result.{result_ok}
+use Rattle.bits.specs.declared.BitPlace.{BitPlace}
 use Rattle.bits.proofs.Octets.{length_bits_of}
 use Rattle.tone.specs.Tone.{Pattern, specifier, pattern, none_known, recallable, learn}
 use Rattle.tone.proofs.Recalls.{learn_set}
@@ -20,8 +21,8 @@ use Rattle.tone_elements.specs.Answers.{Within, all_known, seen_of}
 use Rattle.tone_elements.proofs.Steps.{Step, seen_there, seen_bad, onward_got, onward_made}
 use Rattle.tone_elements.proofs.Headers.{header_apart}
 use Rattle.tone_elements.proofs.Walks.{stays}
-use Rattle.tone_sound.specs.Answers.{Tells, Past, Stand, PatternsPast, PatternsStand}
-use Rattle.tone_sound.proofs.Bodies.{surely, nowhere, nothing_sure, was_sure}
+use Rattle.tone_sound.specs.Answers.{Finds, Past, Stand, PatternsPast, PatternsStand}
+use Rattle.tone_sound.proofs.Bodies.{some_none, nowhere, not_there, nothing_sure, was_sure}
 
 -- ---- what is known
 
@@ -31,6 +32,16 @@ module _ (known : List Bool) (h : ℕ) where
 
   pub definition_stands : (h % 256 ≡ 0 → ⊥) → true ≡ recallable known h
   definition_stands n = rw (ne_eqb (h % 256) 0 n) refl
+
+-- ---- a good answer, or none
+
+was_ok : {A E : Type 0} (s : Result A E) {v : A} → result_ok s ≡ Some v → s ≡ Ok v
+was_ok (Ok a) {v} e = let z : a ≡ v = cc in ap (λ x. Ok x) z
+was_ok (Err r) e = some_none e
+
+not_ok : {A E : Type 0} (s : Result A E) → result_ok s ≡ None → (r : E) × (s ≡ Err r)
+not_ok (Ok a) e = some_none (sym e)
+not_ok (Err r) e = (r, refl)
 
 -- ---- patterns
 
@@ -81,8 +92,12 @@ first_of m known p left {ps} {end} h d =
     record { value = v; behind = a.1; header = r.0; recalls = r.1; own = b.0; next = b.1; body = b.2; more = c.0; rest = c.1 }
 
 module _ (m : List ℕ) (at n : ℕ) where
-  pub row_begins : at ≤ 8 * length m → Row m at n none_known at n
+  row_begins : at ≤ 8 * length m → Row m at n none_known at n
   row_begins h = record { inside = h; resumes = λ ps q e. (ps, e); rests = λ ps q e. (ps, e) }
+
+  -- what is found of them
+  abbrev pub RowsFound : Option BitPlace → Type 0
+  RowsFound r = Finds r (λ q. PatternsPast m at n q.0) (PatternsStand m at n)
 
   module _ {known : List Bool} {p left : ℕ} (r : Row m at n known p left) where
     -- a header that stands, its body, and the patterns behind them
@@ -100,70 +115,96 @@ module _ (m : List ℕ) (at n : ℕ) where
         let c = onward_made (patterns_due k (learn known v) (bits_of m) t) (λ qs. pattern v b ∷ qs) (sym u ∙ l) in
         (c.0, c.1)
 
-    pub row_on : {s : Step} {v : Seen ℕ} {w : Bool} {t : ℕ} {stands : Bool} → 0 < left → s ≡ seen_of (header_due all_known (bits_of m) p) → s ≡ Ok v
-        → stands ≡ recallable known v.value → not stands ≡ false → Tells w (Past m v.next.0 (v.value % 256) t) (Stand m v.next.0 (v.value % 256)) → not w ≡ false → Row m at n (set known (v.value / 4096 % 4) true) t (left - 1)
-    row_on {s} {v} {w} {t} {stands} h e g f y u x =
-        let b = u.so (was_sure w x) in
-        let d = seen_there (header_due all_known (bits_of m) p) (sym g ∙ e) in
-        let z : left ≡ suc (left - 1) = omega arith in
-        let a = sym f ∙ was_sure stands y in
-        record {
-          inside = b.inside;
-          resumes = λ ps i l. r.resumes (pattern v.value b.body ∷ ps) i
-              (row_one z d a b.reads ps i (subst (λ (k : List Bool). patterns_due (left - 1) k (bits_of m) t ≡ got ps i) (sym (learn_set known v.value a)) l));
-          rests = λ all i l.
-              let o = r.rests all i l in
-              let c = row_back z d a b.reads o.0 i o.1 in
-              (c.0, subst (λ (k : List Bool). patterns_due (left - 1) k (bits_of m) t ≡ got c.0 i) (learn_set known v.value a) c.1);
-        }
-
-    -- the next of those that stand
-    module _ (h : 0 < left) {s : Step} (e : s ≡ seen_of (header_due all_known (bits_of m) p)) where
+    -- the next one: its header was read, and a place was found behind its body
+    module _ (h : 0 < left) {s : Step} {o : Option (Seen ℕ)} (e : s ≡ seen_of (header_due all_known (bits_of m) p)) (eo : o ≡ result_ok s) where
+      -- the next of those that stand
       next_of : (u : PatternsStand m at n) → First m known p left u.end
-      next_of u = let o = r.rests u.past.patterns u.end u.past.reads in first_of m known p left h o.1
+      next_of u = let f = r.rests u.past.patterns u.end u.past.reads in first_of m known p left h f.1
 
       -- none begins there
-      pub row_cut : {e : Refusal} {z : ℕ} {y : Bool} → s ≡ Err e → y ≡ false → Tells y (PatternsPast m at n z) (PatternsStand m at n)
-      row_cut g f = nowhere f (λ u.
-          let b = seen_bad (λ v. v) (header_due all_known (bits_of m) p) (sym g ∙ e) in
+      row_cut : o ≡ None → RowsFound None
+      row_cut g = nowhere (λ u.
+          let b = not_ok s (sym eo ∙ g) in
+          let b = seen_bad (λ v. v) (header_due all_known (bits_of m) p) (sym b.1 ∙ e) in
           let c = sym b.there ∙ (next_of u).header in
           let z : ◌≡◌ {A = ℕ} 0 1 = cc in
           omega (arith, z))
 
-      module _ {v : Seen ℕ} (g : s ≡ Ok v) where
+      module _ {v : Seen ℕ} (g : o ≡ Some v) where
+        -- it was read there
+        stood : header_due all_known (bits_of m) p ≡ got v.value v.next.0
+        stood = seen_there (header_due all_known (bits_of m) p) (sym (was_ok s (sym eo ∙ g)) ∙ e)
+
         -- its header and its body
         there : (u : PatternsStand m at n) → (recallable known v.value ≡ true) × Stand m v.next.0 (v.value % 256)
         there u =
-            let o = next_of u in
-            let d : got v.value v.next.0 ≡ got o.value o.behind = sym (seen_there (header_due all_known (bits_of m) p) (sym g ∙ e)) ∙ o.header in
-            let ev : o.value ≡ v.value = cc in
-            let eq : o.behind ≡ v.next.0 = cc in
-            let i : o.behind ≤ 8 * length m = stays (header_exact all_known) m p r.inside o.header in
-            let j : o.next ≤ 8 * length m = stays (body_exact (o.value % 256)) m o.behind i o.body in
-            let l = ((patterns_exact (left - 1) (learn known o.value)).sound (bits_of m) o.next (rw (length_bits_of m) j) o.rest).end in
-            let b : Stand m o.behind (o.value % 256) = record { end = o.next; past = record { body = o.own; reads = o.body; inside = j }; room = omega (arith, l, u.room) } in
-            (subst (λ (x : ℕ). recallable known x ≡ true) ev o.recalls, subst (λ (x : ℕ). Stand m v.next.0 (x % 256)) ev (subst (λ (x : ℕ). Stand m x (o.value % 256)) eq b))
+            let f = next_of u in
+            let d : got v.value v.next.0 ≡ got f.value f.behind = sym stood ∙ f.header in
+            let ev : f.value ≡ v.value = cc in
+            let eq : f.behind ≡ v.next.0 = cc in
+            let i : f.behind ≤ 8 * length m = stays (header_exact all_known) m p r.inside f.header in
+            let j : f.next ≤ 8 * length m = stays (body_exact (f.value % 256)) m f.behind i f.body in
+            let l = ((patterns_exact (left - 1) (learn known f.value)).sound (bits_of m) f.next (rw (length_bits_of m) j) f.rest).end in
+            let b : Stand m f.behind (f.value % 256) = record { end = f.next; past = record { body = f.own; reads = f.body; inside = j }; room = omega (arith, l, u.room) } in
+            (subst (λ (x : ℕ). recallable known x ≡ true) ev f.recalls, subst (λ (x : ℕ). Stand m v.next.0 (x % 256)) ev (subst (λ (x : ℕ). Stand m x (f.value % 256)) eq b))
 
         -- it recalls what is not known
-        pub row_barred : {stands y : Bool} {z : ℕ} → stands ≡ recallable known v.value → not stands ≡ true → y ≡ false → Tells y (PatternsPast m at n z) (PatternsStand m at n)
-        row_barred {stands} f x l = nowhere l (λ u. nothing_sure stands x (f ∙ (there u).0))
+        row_barred : {stands : Bool} → stands ≡ recallable known v.value → not stands ≡ true → RowsFound None
+        row_barred {stands} f x = nowhere (λ u. nothing_sure stands x (f ∙ (there u).0))
 
-        -- its body does not stand
-        pub row_lost : {w y : Bool} {t z : ℕ} → Tells w (Past m v.next.0 (v.value % 256) t) (Stand m v.next.0 (v.value % 256)) → not w ≡ true → y ≡ false → Tells y (PatternsPast m at n z) (PatternsStand m at n)
-        row_lost {w} b x l = nowhere l (λ u. nothing_sure w x (b.back (there u).1))
+        module _ {w : Option BitPlace} (b : Finds w (λ q. Past m v.next.0 (v.value % 256) q.0) (Stand m v.next.0 (v.value % 256))) where
+          -- its body does not stand
+          row_lost : w ≡ None → RowsFound None
+          row_lost x = nowhere (λ u. not_there b x (there u).1)
 
-    pub row_done : left ≤ 0 → PatternsPast m at n p
+          -- it does
+          row_on : {stands : Bool} {t : BitPlace} → stands ≡ recallable known v.value → not stands ≡ false → w ≡ Some t → Row m at n (set known (v.value / 4096 % 4) true) t.0 (left - 1)
+          row_on {stands} {t} f y x =
+              let c = b.so t x in
+              let d = stood in
+              let z : left ≡ suc (left - 1) = omega arith in
+              let a = sym f ∙ was_sure stands y in
+              record {
+                inside = c.inside;
+                resumes = λ ps i l. r.resumes (pattern v.value c.body ∷ ps) i
+                    (row_one z d a c.reads ps i (subst (λ (k : List Bool). patterns_due (left - 1) k (bits_of m) t.0 ≡ got ps i) (sym (learn_set known v.value a)) l));
+                rests = λ all i l.
+                    let o = r.rests all i l in
+                    let c = row_back z d a c.reads o.0 i o.1 in
+                    (c.0, subst (λ (k : List Bool). patterns_due (left - 1) k (bits_of m) t.0 ≡ got c.0 i) (learn_set known v.value a) c.1);
+              }
+
+    row_done : left ≤ 0 → PatternsPast m at n p
     unfolding patterns_due
     row_done h =
         let z : left ≡ 0 = omega arith in
         let a = r.resumes [] p (subst (λ (k : ℕ). patterns_due k known (bits_of m) p ≡ got [] p) (sym z) refl) in
         record { patterns = a.0; reads = a.1; inside = r.inside }
 
+-- the same, where those that were gone over are counted
+module _ (m : List ℕ) (at n : ℕ) where
+  pub counted_begins : at ≤ 8 * length m → Row m at n none_known at (n - 0)
+  counted_begins h = let z : n ≡ n - 0 = omega arith in subst (Row m at n none_known at) z (row_begins m at n h)
+
+  module _ {known : List Bool} {p i : ℕ} (r : Row m at n known p (n - i)) where
+    pub counted_done : n ≤ i → PatternsPast m at n p
+    counted_done h = row_done m at n r (omega arith)
+
+    module _ (h : i < n) {s : Step} {o : Option (Seen ℕ)} (e : s ≡ seen_of (header_due all_known (bits_of m) p)) (eo : o ≡ result_ok s) where
+      pub counted_cut : o ≡ None → RowsFound m at n None
+      counted_cut g = row_cut m at n r (omega arith) e eo g
+
+      module _ {v : Seen ℕ} (g : o ≡ Some v) where
+        pub counted_barred : {stands : Bool} → stands ≡ recallable known v.value → not stands ≡ true → RowsFound m at n None
+        counted_barred f x = row_barred m at n r (omega arith) e eo g f x
+
+        module _ {w : Option BitPlace} (b : Finds w (λ q. Past m v.next.0 (v.value % 256) q.0) (Stand m v.next.0 (v.value % 256))) where
+          pub counted_lost : w ≡ None → RowsFound m at n None
+          counted_lost x = row_lost m at n r (omega arith) e eo g b x
+
+          pub counted_on : {stands : Bool} {t : BitPlace} → stands ≡ recallable known v.value → not stands ≡ false → w ≡ Some t → Row m at n (set known (v.value / 4096 % 4) true) t.0 (n - (i + 1))
+          counted_on {t = t} f y x = let z : n - i - 1 ≡ n - (i + 1) = omega arith in subst (Row m at n (set known (v.value / 4096 % 4) true) t.0) z (row_on m at n r (omega arith) e eo g b f y x)
+
 -- the place behind a header is within the message
-pub header_within : {m : List ℕ} {p : ℕ} {s : Step} {v : Seen ℕ} → length m < 2 ^ 60 → p ≤ 8 * length m → s ≡ seen_of (header_due all_known (bits_of m) p) → s ≡ Ok v → Within m v.next.0
-header_within {m} {p} c i e g = record { inside = stays (header_exact all_known) m p i (seen_there (header_due all_known (bits_of m) p) (sym g ∙ e)); counted = c }
-
-pub row_inside : {m : List ℕ} {at n : ℕ} {known : List Bool} {p left : ℕ} → Row m at n known p left → p ≤ 8 * length m
-row_inside r = r.inside
-
-pub ruleset rows = (surely, row_begins, row_on, row_cut, row_barred, row_lost, row_done, row_inside, header_within)
+pub header_within : {m : List ℕ} {p : ℕ} {s : Step} {o : Option (Seen ℕ)} {v : Seen ℕ} → length m < 2 ^ 60 → p ≤ 8 * length m → s ≡ seen_of (header_due all_known (bits_of m) p) → o ≡ result_ok s → o ≡ Some v → Within m v.next.0
+header_within {m} {p} {s} c i e eo g = record { inside = stays (header_exact all_known) m p i (seen_there (header_due all_known (bits_of m) p) (sym (was_ok s (sym eo ∙ g)) ∙ e)); counted = c }

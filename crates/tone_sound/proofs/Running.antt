@@ -93,7 +93,11 @@ module _ {n x met : ℕ} {t : Told} {left : ℕ} (c : Run n x met t left) (h : 0
   pub run_mark : Mark t.marks
   run_mark = c.mark
 
-pub ruleset running = (run_begins, run_on, run_ends, run_room, run_mark)
+-- the same, where those that are told are counted
+pub counted_on : {n x met : ℕ} {t : Told} {i : ℕ} {r : Told} → Run n x met t (n - i) → i < n → n ≤ 4 → Next t r → (r.widths ≤ t.widths + 2 ^ 62) × Mark r.marks → Run n x met r (n - (i + 1))
+counted_on {n} {x} {met} {i = i} {r} c h k e l = let z : n - i - 1 ≡ n - (i + 1) = omega arith in subst (Run n x met r) z (run_on c (omega arith) k e l)
+
+pub ruleset running = (run_begins, counted_on, run_ends, run_room, run_mark)
 
 -- four in a row
 pub four_run : (x met : ℕ) {t₀ t₁ t₂ t₃ t₄ : Told} → Mark met → Begun x met t₀

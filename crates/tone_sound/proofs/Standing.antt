@@ -3,13 +3,16 @@ use Prim.Native.Nat.{ℕ, ◌+◌, ◌-◌, ◌*◌, ◌/◌, ◌%◌, ◌^◌, 
 use native.Mathlib.Omega.{arith}
 use native.Mathlib.Nat.{zero-div}
 use mathlib.Core.Path.{◌≡◌, refl, sym, ap, subst, ◌∙◌}
-use mathlib.Core.Bool.{Bool, true, false, not}
 use mathlib.Core.List.{List}
 use lib.ListN.{length, drop}
 use lib.Dec.{eqb, lit<}
 use lib.Pow.{shr-shr, shr_mod}
 use borrow.Author.Tests.{eqb-true}
-use Rattle.bits.specs.Bits.{bits_of, place_after, octets_to, filler_to}
+use Rattle.std.specs.Prelude.{Option, Some, None}
+use Rattle.bits.specs.Bits.{bits_of, place_after, octets_before, octets_to, filler_to}
+use Rattle.bits.specs.Places.{octet_count}
+use Rattle.bits.specs.declared.BitPlace.{BitPlace}
+use Rattle.bits.specs.declared.OctetCount.{OctetCount}
 use Rattle.bits.specs.Window.{Sight}
 use Rattle.bits.proofs.Octets.{length_bits_of}
 use Rattle.tone.specs.Tone.{Front, Pattern, Tone, none_known}
@@ -19,9 +22,10 @@ use Rattle.tone.proofs.Rows.{header_exact, header_wide, body_exact, patterns_exa
 use Rattle.tone_elements.specs.Answers.{Within, all_known}
 use Rattle.tone_elements.proofs.Steps.{seen_there, onward_got, onward_made}
 use Rattle.tone_elements.proofs.Openings.{ending_told}
-use Rattle.tone_sound.specs.Answers.{Tells, PatternsPast, PatternsStand, FrontAt, Starts, SongPast, ToneFrom}
+use Rattle.tone_sound.specs.declared.Start.{Start}
+use Rattle.tone_sound.specs.Answers.{Finds, PatternsPast, PatternsStand, FrontAt, Starts, SongPast, ToneFrom, octets_behind}
 use Rattle.tone_sound.proofs.Dues.{element_read, element_seen}
-use Rattle.tone_sound.proofs.Bodies.{nothing_sure, nowhere, was_sure}
+use Rattle.tone_sound.proofs.Bodies.{some_none, nowhere, not_there}
 use Rattle.tone_sound.proofs.Rows.{first_of}
 
 -- ---- the end
@@ -49,16 +53,16 @@ module _ (m : List ℕ) (at : ℕ) where
       }
 
   -- no end was read
-  no_end : ((v p : ℕ) → ending (bits_of m) at ≡ got v p → ⊥) → 0 ≡ octets_read 0 (ending (bits_of m) at)
+  no_end : ((v p : ℕ) → ending (bits_of m) at ≡ got v p → ⊥) → None ≡ octets_behind (ending (bits_of m) at)
   no_end n = go (ending (bits_of m) at) refl
     where
-      go : (x : Got ℕ) → ending (bits_of m) at ≡ x → 0 ≡ octets_read 0 x
+      go : (x : Got ℕ) → ending (bits_of m) at ≡ x → None ≡ octets_behind x
       go (got v p) e = absurd (n v p e)
       go (bad k p q) e = refl
 
   module _ {y : ℕ} (ey : y ≡ octets_to at) where
     -- the end octet is not there
-    pub end_cut : length m ≤ y → 0 ≡ octets_read 0 (ending (bits_of m) at)
+    pub end_cut : length m ≤ y → None ≡ octets_behind (ending (bits_of m) at)
     end_cut h = no_end (λ v p d.
         let g = element_read 8 (eqb 0) 9 (bits_of m) (at + filler_to at) (end_read d).ends in
         omega (arith, ey, h, g.0, length_bits_of m))
@@ -70,7 +74,7 @@ module _ (m : List ℕ) (at : ℕ) where
       filler_is = ap (λ (k : ℕ). k - at) (ez ∙ ap (λ (k : ℕ). 8 * k) ey)
 
       -- what is not 0 there is no end
-      pub end_other : (x / 2 ^ (56 - (z - at)) ≡ 0 → ⊥) → 0 ≡ octets_read 0 (ending (bits_of m) at)
+      pub end_other : (x / 2 ^ (56 - (z - at)) ≡ 0 → ⊥) → None ≡ octets_behind (ending (bits_of m) at)
       end_other n = no_end (λ v p d.
           let a = end_read d in
           let k = filler_to at in
@@ -88,10 +92,11 @@ module _ (m : List ℕ) (at : ℕ) where
           n (ap (λ (i : ℕ). x / 2 ^ (56 - i)) filler_is ∙ none))
 
       -- what is 0 there is one
-      pub end_there : y < length m → x / 2 ^ (56 - (z - at)) ≡ 0 → y + 1 ≡ octets_read 0 (ending (bits_of m) at)
+      pub end_there : y < length m → x / 2 ^ (56 - (z - at)) ≡ 0 → Some (octet_count (y + 1)) ≡ octets_behind (ending (bits_of m) at)
       end_there h e =
           let d = seen_there (ending (bits_of m) at) (ending_told m at ey h zeros refl {p = place_after (y + 1)} refl) in
-          rw d (omega arith)
+          let z : octets_before (place_after (y + 1)) ≡ y + 1 = omega arith in
+          rw (d, z) refl
         where
           -- nothing but zeros
           none : (o w : ℕ) → o + w ≤ filler_to at + 8 → x / 2 ^ (64 - (o + w)) ≡ 0
@@ -153,48 +158,51 @@ module _ (m : List ℕ) (start : ℕ) where
       let k = header_wide o.value b.good.small in
       (omega (arith, g, length_bits_of m), omega (arith, g, length_bits_of m, b.end, k, c.end, d.end))
 
-  module _ {at p n : ℕ} (ea : at ≡ place_after start) (f : Starts frontDue m at p n) where
+  -- what is found of front and patterns
+  abbrev pub SongFound : Option BitPlace → Type 0
+  SongFound r = Finds r (λ q. SongPast m start q.0) (ToneFrom m start)
+
+  module _ {at : ℕ} {r : Option Start} (ea : at ≡ place_after start) (f : Starts frontDue m at r) where
     -- no front
-    pub song_none : {q : ℕ} {r : Bool} → start ≤ length m → r ≡ false → n ≡ 0 → Tells r (SongPast m start q) (ToneFrom m start)
-    song_none h e z = nowhere e (λ t.
+    pub song_none : start ≤ length m → r ≡ None → SongFound None
+    song_none h e = nowhere (λ t.
         let w = whole_read t in
         let o : frontDue (bits_of m) at ≡ got w.front w.behind = subst (λ (k : ℕ). frontDue (bits_of m) k ≡ got w.front w.behind) (sym ea) w.opens in
-        let s = f.back (record { front = w.front; end = w.behind; reads = o; room = (rooms h w).1 }) in
-        omega (arith, s, z))
+        not_there f e (record { front = w.front; end = w.behind; reads = o; room = (rooms h w).1 }))
 
-    module _ (some : n ≡ 0 → ⊥) where
-      -- where patterns are due, a front was read
-      opened : FrontAt frontDue m at p n
-      opened = f.so (omega arith)
+    module _ {s : Start} (e : r ≡ Some s) where
+      -- where patterns start, a front was read
+      opened : FrontAt frontDue m at s.at.0 s.count
+      opened = f.so s e
 
       -- they begin within the octets
-      pub opened_within : length m < 2 ^ 60 → Within m p
+      pub opened_within : length m < 2 ^ 60 → Within m s.at.0
       opened_within l = record { inside = opened.inside; counted = l }
 
       -- the front, and the patterns behind it
-      pub song_told : {q : ℕ} {r : Bool} → start ≤ length m → Tells r (PatternsPast m p n q) (PatternsStand m p n) → Tells r (SongPast m start q) (ToneFrom m start)
-      song_told {q} h s = record {
-        so = λ y.
-            let b = s.so y in
+      pub song_told : {q : Option BitPlace} → start ≤ length m → Finds q (λ v. PatternsPast m s.at.0 s.count v.0) (PatternsStand m s.at.0 s.count) → SongFound q
+      song_told h a = record {
+        so = λ v y.
+            let b = a.so v y in
             record {
               front = opened.front;
-              behind = p;
+              behind = s.at.0;
               opens = here;
               patterns = b.patterns;
-              reads = subst (λ (k : ℕ). patterns_due k none_known (bits_of m) p ≡ got b.patterns q) (sym opened.count) b.reads;
+              reads = subst (λ (k : ℕ). patterns_due k none_known (bits_of m) s.at.0 ≡ got b.patterns v.0) (sym opened.count) b.reads;
               inside = b.inside;
             };
         back = λ t.
             let w = whole_read t in
             let o = sym w.opens ∙ here in
-            let c : w.front.count ≡ n = ap (λ (x : Front). x.count) (front_same o) ∙ opened.count in
-            let u = subst (λ (k : ℕ). patterns_due k none_known (bits_of m) p ≡ got w.patterns w.last) c (subst (λ (k : ℕ). patterns_due w.front.count none_known (bits_of m) k ≡ got w.patterns w.last) (place_same o) w.reads) in
+            let c : w.front.count ≡ s.count = ap (λ (x : Front). x.count) (front_same o) ∙ opened.count in
+            let u = subst (λ (k : ℕ). patterns_due k none_known (bits_of m) s.at.0 ≡ got w.patterns w.last) c (subst (λ (k : ℕ). patterns_due w.front.count none_known (bits_of m) k ≡ got w.patterns w.last) (place_same o) w.reads) in
             let v = (rooms h w).0 in
-            s.back (record { end = w.last; past = record { patterns = w.patterns; reads = u; inside = omega (arith, v) }; room = v });
+            a.back (record { end = w.last; past = record { patterns = w.patterns; reads = u; inside = omega (arith, v) }; room = v });
       }
         where
-          here : frontDue (bits_of m) (place_after start) ≡ got opened.front p
-          here = subst (λ (k : ℕ). frontDue (bits_of m) k ≡ got opened.front p) ea opened.reads
+          here : frontDue (bits_of m) (place_after start) ≡ got opened.front s.at.0
+          here = subst (λ (k : ℕ). frontDue (bits_of m) k ≡ got opened.front s.at.0) ea opened.reads
 
           front_same : {a b : Front} {i j : ℕ} → got a i ≡ got b j → a ≡ b
           front_same e = cc
@@ -202,45 +210,67 @@ module _ (m : List ℕ) (start : ℕ) where
           place_same : {a b : Front} {i j : ℕ} → got a i ≡ got b j → i ≡ j
           place_same e = cc
 
-  module _ {b : Bool} {q : ℕ} (s : Tells b (SongPast m start q) (ToneFrom m start)) where
-    -- where it is not sure of front and patterns, no tone starts there
-    pub tone_none : not b ≡ true → 0 ≡ tone_at m start
+  module _ {r : Option BitPlace} (s : SongFound r) where
+    -- where front and patterns are not found, no tone starts there
+    pub tone_none : r ≡ None → 0 ≡ tone_at m start
     unfolding tone_at
     tone_none h = go (whole_tone (bits_of m) (place_after start)) refl
       where
         go : (x : Got Tone) → whole_tone (bits_of m) (place_after start) ≡ x → 0 ≡ octets_read start x
-        go (got t z) e = nothing_sure b h (s.back (record { tone = t; end = z; reads = e }))
+        go (got t z) e = absurd (not_there s h (record { tone = t; end = z; reads = e }))
         go (bad k p z) e = refl
 
-    module _ (sure : not b ≡ false) where
-      -- where it is sure of them, they were read
-      past : SongPast m start q
-      past = s.so (was_sure b sure)
+    module _ {q : BitPlace} (sure : r ≡ Some q) where
+      -- where they are found, they were read
+      past : SongPast m start q.0
+      past = s.so q sure
 
       -- they end within the octets
-      pub song_within : length m < 2 ^ 60 → Within m q
+      pub song_within : length m < 2 ^ 60 → Within m q.0
       song_within l = record { inside = past.inside; counted = l }
 
       -- what is read of a tone is what is read of its end
-      all_read : whole_tone (bits_of m) (place_after start) ≡ onward (onward (ending (bits_of m) q) (λ _ z. got past.patterns z) bad) (λ ps z. got (tone_of past.front ps) z) bad
+      all_read : whole_tone (bits_of m) (place_after start) ≡ onward (onward (ending (bits_of m) q.0) (λ _ z. got past.patterns z) bad) (λ ps z. got (tone_of past.front ps) z) bad
       unfolding whole_tone rest
       all_read = rw (past.opens, past.reads) refl
 
-      -- it has as many octets as lie ahead of its end and behind its start
-      pub tone_there : {e : ℕ} → e ≡ octets_read 0 (ending (bits_of m) q) → e - start ≡ tone_at m start
-      unfolding tone_at
-      tone_there h = ap (λ (k : ℕ). k - start) h ∙ go (ending (bits_of m) q) ∙ sym (ap (octets_read start) all_read)
-        where
-          go : (x : Got ℕ) → octets_read 0 x - start ≡ octets_read start (onward (onward x (λ _ z. got past.patterns z) bad) (λ ps z. got (tone_of past.front ps) z) bad)
-          go (got v z) = omega arith
-          go (bad k p z) = omega arith
+      module _ {e : Option OctetCount} (h : e ≡ octets_behind (ending (bits_of m) q.0)) where
+        -- none where it does not end
+        pub tone_cut : e ≡ None → 0 ≡ tone_at m start
+        unfolding tone_at
+        tone_cut l = go (ending (bits_of m) q.0) (sym h ∙ l) ∙ sym (ap (octets_read start) all_read)
+          where
+            go : (x : Got ℕ) → octets_behind x ≡ None → 0 ≡ octets_read start (onward (onward x (λ _ z. got past.patterns z) bad) (λ ps z. got (tone_of past.front ps) z) bad)
+            go (got v z) n = some_none (sym n)
+            go (bad k p z) n = refl
 
-      -- none where that is not behind its start
-      pub tone_cut : {e : ℕ} → e ≡ octets_read 0 (ending (bits_of m) q) → e ≤ start → 0 ≡ tone_at m start
-      tone_cut h l = omega (arith, tone_there h)
+        module _ {o : OctetCount} (l : e ≡ Some o) where
+          -- it has as many octets as lie ahead of its end and behind its start
+          pub tone_there : o.0 - start ≡ tone_at m start
+          unfolding tone_at
+          tone_there = go (ending (bits_of m) q.0) (sym h ∙ l) ∙ sym (ap (octets_read start) all_read)
+            where
+              go : (x : Got ℕ) → octets_behind x ≡ Some o → o.0 - start ≡ octets_read start (onward (onward x (λ _ z. got past.patterns z) bad) (λ ps z. got (tone_of past.front ps) z) bad)
+              go (got v z) n = let y : octet_count (octets_before z) ≡ o = cc in rw (← y) refl
+              go (bad k p z) n = some_none n
+
+          -- its end lies behind its start
+          pub tone_ends : start ≤ length m → start ≤ o.0
+          tone_ends i =
+              let l' = bits_of m in
+              let f = front_exact.sound l' (place_after start) (rw (length_bits_of m) (omega arith)) past.opens in
+              let d = (patterns_exact past.front.count none_known).sound l' past.behind f.inside past.reads in
+              go (ending l' q.0) refl (sym h ∙ l) (omega (arith, f.end, d.end))
+            where
+              go : (x : Got ℕ) → ending (bits_of m) q.0 ≡ x → octets_behind x ≡ Some o → 8 * start ≤ q.0 → start ≤ o.0
+              go (got v z) a n b =
+                  let y : octet_count (octets_before z) ≡ o = cc in
+                  let c = element_read 8 (eqb 0) 9 (bits_of m) (q.0 + filler_to q.0) (end_read m q.0 a).ends in
+                  rw (← y) (omega (arith, c.2, b))
+              go (bad k p z) a n b = some_none n
 
 pub ruleset ended = (end_cut, end_other, end_there)
 
 pub ruleset songs = (song_none, opened_within, song_told)
 
-pub ruleset tones = (tone_none, song_within, tone_cut, tone_there)
+pub ruleset tones = (tone_none, song_within, tone_cut, tone_there, tone_ends)

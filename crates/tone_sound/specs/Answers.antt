@@ -1,16 +1,19 @@
 -- What the code answers of a tone that it tells.
-use Rattle.std.specs.Prelude.{ℕ, ◌+◌, ◌-◌, ◌%◌, ◌≤◌, ◌≡◌, Bool, true, List, length, drop}
-use Rattle.bits.specs.Bits.{bits_of, place_after}
+use Rattle.std.specs.Prelude.{ℕ, ◌+◌, ◌-◌, ◌%◌, ◌≤◌, ◌≡◌, Bool, List, length, drop, Option, Some, None}
+use Rattle.bits.specs.Bits.{bits_of, place_after, octets_before}
+use Rattle.bits.specs.Places.{octet_count}
+use Rattle.bits.specs.declared.OctetCount.{OctetCount}
 use Rattle.bits.specs.Window.{Sight}
 use Rattle.tone.specs.Tone.{Pattern, Tone, Front, none_known}
-use Rattle.tone.specs.Reading.{Reader, got, command, front as frontDue, body_due, patterns_due, whole_tone}
+use Rattle.tone.specs.Reading.{Reader, Got, got, bad, command, front as frontDue, body_due, patterns_due, whole_tone}
 use Rattle.tone_sound.specs.declared.Told.{Told}
+use Rattle.tone_sound.specs.declared.Start.{Start}
 use Rattle.tone_sound.specs.Turning.{turn, clear, Mark, width_in, along, AllClear}
 
--- a test that tells: where it passes, P holds, and where Q holds, it passes
-pub record Tells (r : Bool) (P Q : Type 0) : Type 0 where
-  pub so : r ≡ true → P
-  pub back : Q → r ≡ true
+-- a search that tells: of what it finds P holds, and where Q holds, it finds something
+pub record Finds {A : Type 0} (r : Option A) (P : A → Type 0) (Q : Type 0) : Type 0 where
+  pub so : (v : A) → r ≡ Some v → P v
+  pub back : Q → (v : A) × (r ≡ Some v)
 
 -- n instructions on top of x were told: their bits, and no mark is met where none was before and each is one of the table, and only there
 pub record ToldOf (n x met : ℕ) (r : Told) : Type 0 where
@@ -50,6 +53,7 @@ pub record PatternsStand (m : List ℕ) (at n : ℕ) : Type 0 where
 
 -- the command stands wherever x was seen: with UNICODE or without, so many bits
 pub record CommandOn (x : ℕ) (unicode : Bool) (n : ℕ) : Type 0 where
+  pub short : n ≤ 31
   pub reads : (m : List ℕ) (at : ℕ) → Sight 57 (drop at (bits_of m)) x → at + 57 ≤ place_after (length m) → command (bits_of m) at ≡ got unicode (at + n)
 
 -- a command was read where x was seen
@@ -66,6 +70,7 @@ pub record FrontAt (due : Reader Front) (m : List ℕ) (at p n : ℕ) : Type 0 w
   pub front : Front
   pub reads : due (bits_of m) at ≡ got front p
   pub count : front.count ≡ n
+  pub some : 1 ≤ n
   pub inside : p ≤ place_after (length m)
 
 -- what is due of a front stands at a place, and the bits of a header and of the end octet are left behind it
@@ -75,10 +80,9 @@ pub record FrontStands (due : Reader Front) (m : List ℕ) (at : ℕ) : Type 0 w
   pub reads : due (bits_of m) at ≡ got front end
   pub room : end + 25 ≤ place_after (length m)
 
--- n is not 0 where a front stands, and only there
-pub record Starts (due : Reader Front) (m : List ℕ) (at p n : ℕ) : Type 0 where
-  pub so : 1 ≤ n → FrontAt due m at p n
-  pub back : FrontStands due m at → 1 ≤ n
+-- patterns start behind what is due of a front, where it stands, and only there
+abbrev pub Starts : Reader Front → List ℕ → ℕ → Option Start → Type 0
+Starts due m at r = Finds r (λ s. FrontAt due m at s.at.0 s.count) (FrontStands due m at)
 
 -- a tone's front and patterns stand from an octet up to a place
 pub record SongPast (m : List ℕ) (start p : ℕ) : Type 0 where
@@ -94,3 +98,8 @@ pub record ToneFrom (m : List ℕ) (start : ℕ) : Type 0 where
   pub tone : Tone
   pub end : ℕ
   pub reads : whole_tone (bits_of m) (place_after start) ≡ got tone end
+
+-- behind how many octets it ends, where it was read
+abbrev pub octets_behind : {A : Type 0} → Got A → Option OctetCount
+octets_behind (got a p) = Some (octet_count (octets_before p))
+octets_behind (bad n p e) = None

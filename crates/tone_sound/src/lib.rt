@@ -8,10 +8,10 @@ ghost use Rattle.std.specs.Int.Bits.{bit_or};
 ghost use Rattle.bits.specs.Bits.{bits_of, place_after};
 ghost use Rattle.bits.specs.Window.{Sight};
 ghost use Rattle.tone.specs.Tone.{recallable};
-ghost use Rattle.tone.specs.Reading.{typed as typedDue, front as frontDue, ending, octets_read, tone_at};
+ghost use Rattle.tone.specs.Reading.{typed as typedDue, front as frontDue, ending, tone_at};
 ghost use Rattle.tone_elements.specs.Answers.{Within};
-ghost use Rattle.tone_sound.specs.Turning.{turn, onward, wide_in, mark_in, Mark, Marks};
-ghost use Rattle.tone_sound.specs.Answers.{Tells, ToldOf, Past, Stand, Gone, CommandOn, CommandSeen, PatternsPast, PatternsStand, Starts, SongPast, ToneFrom};
+ghost use Rattle.tone_sound.specs.Turning.{turn, onward, wide_in, mark_in, clear, Mark, Marks};
+ghost use Rattle.tone_sound.specs.Answers.{Finds, ToldOf, Past, Stand, Gone, CommandOn, CommandSeen, PatternsPast, PatternsStand, Starts, SongPast, ToneFrom, octets_behind};
 
 use bits::{BitPlace, OctetCount, TwoSights};
 
@@ -104,78 +104,62 @@ fn few(x: u64, n: u32, met: u8, marks: &[u8; 512]) -> Told
     ensures { ToldOf n x met result }
 {
     let mut told = begin(x, met);
-    let mut left = n;
-    while 0 < left {
+    for _ in 0..n {
         told = next(told, marks);
-        left -= 1;
     }
     told
 }
 
 // ---- a body
 
-// What instructions take up: their bits, and whether each is one of the table.
-#[derive(Clone, Copy)]
-struct Span {
-    bits: usize,
-    sure: bool,
-}
-
-// The `n` instructions at a place, and the end octet's bits behind them: with those the bits that were looked at are there.
-fn some(whole: &[u8], at: BitPlace, n: u32, marks: &[u8; 512]) -> Span
+// Goes over the `n` instructions at a place, if they stand there with the end octet's bits behind them: with those the bits that were
+// looked at are there.
+fn some(whole: &[u8], at: BitPlace, n: u32, marks: &[u8; 512]) -> Option<BitPlace>
     requires marks { Marks marks.now }
     requires within { Within whole.now at.0 }
     requires n_bound { n ≤ 4 }
-    ensures { Tells result.sure (Past whole.now at.0 n (at.0 + result.bits)) (Stand whole.now at.0 n) × (result.bits ≤ 255) }
+    ensures { Finds result (λ p. Past whole.now at.0 n p.0) (Stand whole.now at.0 n) }
 {
     let told = few(bits::sight(whole, at), n, b'0', marks);
     let taken = (told.widths % 256) as usize;
     if bits::place_after(OctetCount(whole.len())).0 - at.0 < taken + 8 {
-        return Span {
-            bits: taken,
-            sure: false,
-        };
+        return None;
     }
-    Span {
-        bits: taken,
-        sure: told.marks == b'0',
+    if told.marks != b'0' {
+        return None;
     }
+    Some(BitPlace(at.0 + taken))
 }
 
-// Where one has come to among instructions: the place, how many are left, and whether all up to there are surely of the table.
+// Where one has come to among instructions: the place, and how many are left.
 #[derive(Clone, Copy)]
 struct Way {
     at: BitPlace,
     left: u32,
-    sure: bool,
 }
 
-// Nothing is sure.
-fn lost(at: BitPlace) -> Way
-    ensures { result.sure ≡ false }
+// One has come there, if no mark was met.
+fn unmarked(met: u8, at: BitPlace, left: u32) -> Option<Way>
+    ensures { Finds result (λ w. (w.at.0 ≡ at.0) × (w.left ≡ left) × (met ≡ clear)) (met ≡ clear) }
 {
-    Way {
-        at,
-        left: 0,
-        sure: false,
+    if met != b'0' {
+        return None;
     }
+    Some(Way { at, left })
 }
 
 // Goes over `n` instructions, four at a time, away from the end. The 64 bits at the place and the 57 behind them are at hand, so that
-// telling waits for no load: what is loaded is needed four instructions later. Marks are looked at in the end. Until then four that are
-// told wrongly may go on by 255 bits, and 121 must be there behind them: 48 octets have both.
-fn at_hand(whole: &[u8], at: BitPlace, n: u32, marks: &[u8; 512]) -> Way
+// telling waits for no load: what is loaded is needed four instructions later. Marks are put together, and not looked at before the end:
+// no turn asks for one. Until then four that are told wrongly may go on by 255 bits, and 121 must be there behind them: 48 octets have
+// both.
+fn at_hand(whole: &[u8], at: BitPlace, n: u32, marks: &[u8; 512]) -> Option<Way>
     requires marks { Marks marks.now }
     requires within { Within whole.now at.0 }
     requires n_bound { n ≤ 255 }
-    ensures { Tells result.sure (Gone whole.now at.0 n result.at.0 result.left) (Stand whole.now at.0 n) }
+    ensures { Finds result (λ w. Gone whole.now at.0 n w.at.0 w.left) (Stand whole.now at.0 n) }
 {
     if whole.len() - bits::octets_before(at).0 < 48 {
-        return Way {
-            at,
-            left: n,
-            sure: true,
-        };
+        return Some(Way { at, left: n });
     }
     let mut seen = bits::two_sights(whole, at);
     let mut met: u8 = b'0';
@@ -183,11 +167,7 @@ fn at_hand(whole: &[u8], at: BitPlace, n: u32, marks: &[u8; 512]) -> Way
     let mut left = n;
     while 4 <= left {
         if whole.len() - bits::octets_before(place).0 < 48 {
-            return Way {
-                at: place,
-                left,
-                sure: met == b'0',
-            };
+            return unmarked(met, place, left);
         }
         let told = four(seen.first, met, marks);
         let first = bits::sight_behind(seen, (told.widths % 64) as u32);
@@ -200,140 +180,123 @@ fn at_hand(whole: &[u8], at: BitPlace, n: u32, marks: &[u8; 512]) -> Way
         left -= 4;
     }
     let told = few(seen.first, left, met, marks);
-    Way {
-        at: BitPlace(place.0 + (told.widths % 256) as usize),
-        left: 0,
-        sure: told.marks == b'0',
-    }
+    unmarked(
+        told.marks,
+        BitPlace(place.0 + (told.widths % 256) as usize),
+        0,
+    )
 }
 
 // Goes over the rest of them, up to four at a time.
-fn by_fours(whole: &[u8], at: BitPlace, n: u32, marks: &[u8; 512]) -> Way
+fn by_fours(whole: &[u8], at: BitPlace, n: u32, marks: &[u8; 512]) -> Option<BitPlace>
     requires marks { Marks marks.now }
     requires within { Within whole.now at.0 }
     requires n_bound { n ≤ 255 }
-    ensures { Tells result.sure (Past whole.now at.0 n result.at.0) (Stand whole.now at.0 n) }
+    ensures { Finds result (λ p. Past whole.now at.0 n p.0) (Stand whole.now at.0 n) }
 {
     let mut place = at;
     let mut left = n;
     while 0 < left {
         let k = tone_elements::turn(left);
-        let span = some(whole, place, k, marks);
-        if !span.sure {
-            return lost(place);
-        }
-        place = BitPlace(place.0 + span.bits);
+        place = some(whole, place, k, marks)?;
         left -= k;
     }
-    Way {
-        at: place,
-        left,
-        sure: true,
-    }
+    Some(place)
 }
 
 // Goes over all of them.
-fn body(whole: &[u8], at: BitPlace, n: u32, marks: &[u8; 512]) -> Way
+fn body(whole: &[u8], at: BitPlace, n: u32, marks: &[u8; 512]) -> Option<BitPlace>
     requires marks { Marks marks.now }
     requires within { Within whole.now at.0 }
     requires n_bound { n ≤ 255 }
-    ensures { Tells result.sure (Past whole.now at.0 n result.at.0) (Stand whole.now at.0 n) }
+    ensures { Finds result (λ p. Past whole.now at.0 n p.0) (Stand whole.now at.0 n) }
 {
-    let way = at_hand(whole, at, n, marks);
-    if !way.sure {
-        return way;
-    }
+    let way = at_hand(whole, at, n, marks)?;
     by_fours(whole, way.at, way.left, marks)
 }
 
 // ---- the front
 
-// Where the patterns of a tone begin, and how many there are; none where no front stands.
+// Where the patterns of a tone begin, and how many there are.
 #[derive(Clone, Copy)]
 struct Start {
     at: BitPlace,
     count: u32,
 }
 
-// No front stands there.
-fn no_start(at: BitPlace) -> Start
-    ensures { result.count ≡ 0 }
+// Patterns begin there, if any are announced.
+fn announced(at: BitPlace, count: u32) -> Option<Start>
+    ensures { Finds result (λ s. (s.at.0 ≡ at.0) × (s.count ≡ count) × (1 ≤ count)) (1 ≤ count) }
 {
-    Start { at, count: 0 }
+    if count == 0 {
+        return None;
+    }
+    Some(Start { at, count })
 }
 
-// A command: UNICODE or not, how many bits it has, and whether it is surely one.
+// A command: UNICODE or not, and how many bits it has.
 #[derive(Clone, Copy)]
 struct Command {
     unicode: bool,
     bits: u32,
-    sure: bool,
 }
 
 // The command on top of a sight, told at once: 00000010 for the length, 0100101 for the programming part, a filler bit, 0011101 for
 // the sound part. With UNICODE the length is 00000011, and 0100010 and a filler bit stand ahead of the sound part.
-fn called(x: u64) -> Command
-    ensures { Tells result.sure (CommandOn x result.unicode result.bits) (CommandSeen x) × (result.bits ≤ 31) }
+fn called(x: u64) -> Option<Command>
+    ensures { Finds result (λ c. CommandOn x c.unicode c.bits) (CommandSeen x) }
 {
     if x >> 41 == 75037 {
-        return Command {
+        return Some(Command {
             unicode: false,
             bits: 23,
-            sure: true,
-        };
+        });
     }
-    Command {
+    if x >> 33 != 27599389 {
+        return None;
+    }
+    Some(Command {
         unicode: true,
         bits: 31,
-        sure: x >> 33 == 27599389,
-    }
+    })
 }
 
 // The song type, a basic song's title and the pattern count. A sight has the song type on top, and behind it the title's length or a
 // temporary song's pattern count. A title's characters are told at once, and one look has the count behind them.
-fn typed(whole: &[u8], at: BitPlace, x: u64, unicode: bool) -> Start
+fn typed(whole: &[u8], at: BitPlace, x: u64, unicode: bool) -> Option<Start>
     requires within { Within whole.now at.0 }
     requires sight { Sight 26 (drop at.0 (bits_of whole.now)) x }
     requires at_bound { at.0 + 26 ≤ place_after (length whole.now) }
-    ensures { Starts (typedDue unicode) whole.now at.0 result.at.0 result.count }
+    ensures { Starts (typedDue unicode) whole.now at.0 result }
 {
     let song = x >> 61;
     if song == 2 {
-        return Start {
-            at: BitPlace(at.0 + 11),
-            count: ((x >> 53) % 256) as u32,
-        };
+        return announced(BitPlace(at.0 + 11), ((x >> 53) % 256) as u32);
     }
     if song != 1 {
-        return no_start(at);
+        return None;
     }
     let n = ((x >> 57) % 16) as u32;
     if !tone_elements::all_allowed(whole, BitPlace(at.0 + 7), unicode, n) {
-        return no_start(at);
+        return None;
     }
     let behind = BitPlace(at.0 + 7 + tone_elements::span(unicode, n));
     if bits::place_after(OctetCount(whole.len())).0 < behind.0 + 8 {
-        return no_start(at);
+        return None;
     }
-    Start {
-        at: BitPlace(behind.0 + 8),
-        count: bits::look(whole, behind) / 65536,
-    }
+    announced(BitPlace(behind.0 + 8), bits::look(whole, behind) / 65536)
 }
 
 // The front of a tone. `tone_elements::open` says more of it; it is not called here, so that it stays laid in where it is.
-fn front(whole: &[u8], at: BitPlace) -> Start
+fn front(whole: &[u8], at: BitPlace) -> Option<Start>
     requires { Within whole.now at.0 }
-    ensures { Starts frontDue whole.now at.0 result.at.0 result.count }
+    ensures { Starts frontDue whole.now at.0 result }
 {
     if bits::place_after(OctetCount(whole.len())).0 < at.0 + 57 {
-        return no_start(at);
+        return None;
     }
     let x = bits::inner_sight(whole, at);
-    let said = called(x);
-    if !said.sure {
-        return no_start(at);
-    }
+    let said = called(x)?;
     let behind = BitPlace(at.0 + said.bits as usize);
     typed(whole, behind, x << said.bits, said.unicode)
 }
@@ -352,65 +315,50 @@ fn may_stand(known: [bool; 4], cell: u32) -> bool
 }
 
 // Goes over the `n` patterns at a place.
-fn patterns(whole: &[u8], at: BitPlace, n: u32, marks: &[u8; 512]) -> Way
+fn patterns(whole: &[u8], at: BitPlace, n: u32, marks: &[u8; 512]) -> Option<BitPlace>
     requires marks { Marks marks.now }
     requires within { Within whole.now at.0 }
-    ensures { Tells result.sure (PatternsPast whole.now at.0 n result.at.0) (PatternsStand whole.now at.0 n) }
+    ensures { Finds result (λ p. PatternsPast whole.now at.0 n p.0) (PatternsStand whole.now at.0 n) }
 {
     let mut known = [false; 4];
     let mut place = at;
-    let mut left = n;
-    while 0 < left {
-        let Ok(header) = tone_elements::header(whole, place) else {
-            return lost(place);
-        };
+    for _ in 0..n {
+        let header = tone_elements::header(whole, place).ok()?;
         if !may_stand(known, header.value) {
-            return lost(place);
+            return None;
         }
-        let way = body(whole, header.next, header.value % 256, marks);
-        if !way.sure {
-            return lost(place);
-        }
+        place = body(whole, header.next, header.value % 256, marks)?;
         known[(header.value / 4096 % 4) as usize] = true;
-        place = way.at;
-        left -= 1;
     }
-    Way {
-        at: place,
-        left,
-        sure: true,
-    }
+    Some(place)
 }
 
 // ---- the end, and the tone
 
 // Goes over the front and the patterns of a tone that starts behind so many octets.
-fn song(whole: &[u8], start: OctetCount, marks: &[u8; 512]) -> Way
+fn song(whole: &[u8], start: OctetCount, marks: &[u8; 512]) -> Option<BitPlace>
     requires marks { Marks marks.now }
     requires start_in_bounds { (start.0 ≤ length whole.now) × (length whole.now < 2 ^ 60) }
-    ensures { Tells result.sure (SongPast whole.now start.0 result.at.0) (ToneFrom whole.now start.0) }
+    ensures { Finds result (λ p. SongPast whole.now start.0 p.0) (ToneFrom whole.now start.0) }
 {
-    let opened = front(whole, bits::place_after(start));
-    if opened.count == 0 {
-        return lost(opened.at);
-    }
+    let opened = front(whole, bits::place_after(start))?;
     patterns(whole, opened.at, opened.count, marks)
 }
 
-// Behind how many octets filler and the end octet end that stand at a place; 0 where they do not stand there.
-fn end_behind(whole: &[u8], at: BitPlace) -> OctetCount
+// Behind how many octets filler and the end octet end that stand at a place.
+fn end_behind(whole: &[u8], at: BitPlace) -> Option<OctetCount>
     requires { Within whole.now at.0 }
-    ensures { result.0 ≡ octets_read 0 (ending (bits_of whole.now) at.0) }
+    ensures { result ≡ octets_behind (ending (bits_of whole.now) at.0) }
 {
     let reached = bits::octets_to(at);
     if whole.len() <= reached.0 {
-        return OctetCount(0);
+        return None;
     }
     let filler = bits::place_after(reached).0 - at.0;
     if bits::through_octet(whole, at) >> (56 - filler) != 0 {
-        return OctetCount(0);
+        return None;
     }
-    OctetCount(reached.0 + 1)
+    Some(OctetCount(reached.0 + 1))
 }
 
 // How many octets the tone has that starts behind so many, through its own end octet; none where no tone starts there.
@@ -419,13 +367,11 @@ pub fn tone_at(whole: &[u8], start: OctetCount, marks: &[u8; 512]) -> OctetCount
     requires start_in_bounds { (start.0 ≤ length whole.now) × (length whole.now < 2 ^ 60) }
     ensures { result.0 ≡ tone_at whole.now start.0 }
 {
-    let way = song(whole, start, marks);
-    if !way.sure {
+    let Some(place) = song(whole, start, marks) else {
         return OctetCount(0);
-    }
-    let end = end_behind(whole, way.at);
-    if end.0 <= start.0 {
+    };
+    let Some(end) = end_behind(whole, place) else {
         return OctetCount(0);
-    }
+    };
     OctetCount(end.0 - start.0)
 }

@@ -1,7 +1,7 @@
 -- Instructions that are told one by one add up.
 use Prim.Native.Nat.{ℕ, zero, suc, ◌+◌, ◌-◌, ◌*◌, ◌≤◌, ◌<◌}
 use native.Mathlib.Omega.{arith}
-use mathlib.Core.Path.{◌≡◌, refl, sym, ap, ◌∙◌}
+use mathlib.Core.Path.{◌≡◌, refl, sym, ap, subst, ◌∙◌}
 use Rattle.tone_tell.specs.declared.Told.{Told}
 use Rattle.tone_tell.specs.Telling.{bits_on, note_on, fault_on, behind, over}
 use Rattle.tone_tell.specs.Answers.{ToldOf}
@@ -74,7 +74,13 @@ module _ {n x : ℕ} {t : Told} {left : ℕ} (c : Counted n x t left) (h : 0 < l
   pub room_faults : t.faults ≤ 3
   room_faults = omega (arith, c.most_faults)
 
-pub ruleset counting = (counted_begin, counted_on_lem, counted_end, room_bits, room_notes, room_faults)
+-- the same, where those that are told are counted
+pub counts_on : {n x : ℕ} {t : Told} {i : ℕ} {r : Told} → Counted n x t (n - i) → i < n
+    → (r.rest ≡ behind t.rest) × (r.bits ≡ t.bits + bits_on t.rest) × (r.notes ≡ t.notes + note_on t.rest) × (r.faults ≡ t.faults + fault_on t.rest)
+    → (r.bits ≤ t.bits + 63) × (r.notes ≤ t.notes + 1) × (r.faults ≤ t.faults + 1) → Counted n x r (n - (i + 1))
+counts_on {n} {x} {i = i} {r} c h e l = let z : n - i - 1 ≡ n - (i + 1) = omega arith in subst (Counted n x r) z (counted_on_lem c (omega arith) e l)
+
+pub ruleset counting = (counted_begin, counts_on, counted_end, room_bits, room_notes, room_faults)
 
 -- four are as many as are due
 pub as_due : (x : ℕ) {n : ℕ} {r : Told} → n ≡ 4 → ToldOf 4 x r → ToldOf n x r

@@ -94,10 +94,8 @@ fn few(x: u64, n: u32) -> Told
     ensures { ToldOf n x result }
 {
     let mut told = begin(x);
-    let mut left = n;
-    while 0 < left {
+    for _ in 0..n {
         told = next(told);
-        left -= 1;
     }
     told
 }

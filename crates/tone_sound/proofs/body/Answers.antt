@@ -1,18 +1,12 @@
 -- `tone_sound::body` meets its contract.
-use borrow.Author.Rules.{rules}
-use Rattle.tone_sound.proofs.Bodies.{rests}
+use Rattle.tone_sound.proofs.Bodies.{rest_within, rest_few, rest_past}
 use Rattle.tone_sound.proofs.body.Goals as goal
 
-pub returns-then-not-way : goal.returns-then-not-way
-returns-then-not-way c = search (rests, rules)
+pub by_fours-requires-clause-within : goal.by_fours-requires-clause-within
+by_fours-requires-clause-within c = rest_within _ _ _ c.at_hand.ensures c.in_ok-way.was c.requires.within
 
-pub by_fours-requires : goal.by_fours-requires
-by_fours-requires c =
-    record {
-      marks = search (rests, rules);
-      within = search (rests, rules);
-      n_bound = search (rests, rules);
-    }
+pub by_fours-requires-clause-n_bound : goal.by_fours-requires-clause-n_bound
+by_fours-requires-clause-n_bound c = rest_few _ _ _ c.at_hand.ensures c.in_ok-way.was c.requires.n_bound
 
 pub returns : goal.returns
-returns c = search (rests, rules)
+returns c = rest_past _ _ _ c.at_hand.ensures c.in_ok-way.was c.by_fours.ensures

@@ -1,9 +1,7 @@
 -- `tone_sound::few` meets its contract. Those to be told are fewer with each turn.
+use Rattle.std.specs.Prelude.{◌-◌}
 use Rattle.tone_sound.proofs.Running.{Run}
 use Rattle.tone_sound.proofs.few.Given as goal
 
-abbrev pub invariant-loop-left : goal.invariant-loop-left
-invariant-loop-left l = Run l.n l.x l.met l.told l.left
-
-abbrev pub decreases-loop-left : goal.decreases-loop-left
-decreases-loop-left l = l.left
+abbrev pub invariant-loop : goal.invariant-loop
+invariant-loop l = Run l.n l.x l.met l.told (l.n - l.counter)

@@ -3,14 +3,17 @@ use borrow.Author.Rules.{rules}
 use Rattle.tone_sound.proofs.Standing.{tones}
 use Rattle.tone_sound.proofs.tone_at.Goals as goal
 
-pub returns-then-not-way : goal.returns-then-not-way
-returns-then-not-way c = search (tones, rules)
+pub returns-in_default : goal.returns-in_default
+returns-in_default c = search (tones, rules)
 
-pub end_behind-end-requires : goal.end_behind-end-requires
-end_behind-end-requires c = search (tones, rules)
+pub end_behind-requires : goal.end_behind-requires
+end_behind-requires c = search (tones, rules)
 
-pub returns-then-end-start : goal.returns-then-end-start
-returns-then-end-start c = search (tones, rules)
+pub returns-in_default-end_behind : goal.returns-in_default-end_behind
+returns-in_default-end_behind c = search (tones, rules)
+
+pub overflow_sub-result : goal.overflow_sub-result
+overflow_sub-result c = search (tones, rules)
 
 pub returns : goal.returns
 returns c = search (tones, rules)
