@@ -1,12 +1,12 @@
 -- The text that the program prints, as octets.
 use Rattle.std.specs.Prelude.{ℕ, zero, suc, ◌+◌, ◌/◌, ◌%◌, ◌≡◌, List, [], ◌∷◌, ◌++◌, length, take, drop, ltb, eqb}
 use Rattle.bits.specs.Choice.{pick}
+use Rattle.bits.specs.Outcome.{Outcome, accepted, refused}
 use Rattle.list_rules.specs.declared.Entry.{Entry}
 use Rattle.list_rules.specs.Sounding.{entry_cells, entry_at}
+use Rattle.list_rules.specs.Playing.{Listing}
 use Rattle.list_rules.specs.Listing.{list_tone, fits_numbers}
-use Rattle.list.specs.Promise.{list_answer, cells_after}
-use Rattle.list.specs.declared.Listed.{Listed}
-use Rattle.list.specs.declared.Listed.TheVariants.{Made, Refused}
+use Rattle.list.specs.Promise.{cells_after}
 
 -- a text is put behind the first octets of a buffer: where it ends, and what the buffer holds up to there
 pub record Added (out : List ℕ) (at : ℕ) (text out' : List ℕ) (end : ℕ) : Type 0 where
@@ -69,13 +69,13 @@ opening n mark = (101 ∷ 110 ∷ 116 ∷ 114 ∷ 105 ∷ 101 ∷ 115 ∷ 32 ∷
 unfoldable pub refusal : ℕ → ℕ → List ℕ
 refusal n p = (114 ∷ 101 ∷ 102 ∷ 117 ∷ 115 ∷ 101 ∷ 100 ∷ 32 ∷ []) ++ (number n 32 ++ ((97 ∷ 116 ∷ 32 ∷ []) ++ number p 10))
 
--- the whole text of an answer and the list that came with it
-abbrev pub text_of : Listed → List ℕ → List ℕ
-text_of (Made n k) list = opening n k ++ lines n list
-text_of (Refused n p) list = refusal n p.0
+-- the whole text of an outcome and the list that came with it
+abbrev pub text_of : Outcome Listing → List ℕ → List ℕ
+text_of (accepted g) list = opening (length g.entries) g.mark ++ lines (length g.entries) list
+text_of (refused n p) list = refusal n p
 
 -- the text that a message gives, with so many numbers' room for its list
 abbrev pub answer_of : List ℕ → List ℕ → List ℕ
 answer_of m list =
     let x = list_tone m (fits_numbers (length list)) in
-    text_of (list_answer x) (cells_after x list)
+    text_of x (cells_after x list)

@@ -2,11 +2,11 @@
 
 // The text of a playing list, as the program prints it: an answer, and the list that came with it, put into a buffer.
 ghost use Rattle.std.specs.Prelude.{◌≡◌, ◌+◌, ◌*◌, ◌%◌, ◌≤◌, length};
+ghost use Rattle.bits.specs.Refusals.{number_of};
 ghost use Rattle.list_rules.specs.Sounding.{entry_cells};
 ghost use Rattle.list_text.specs.Text.{Added, digits, places as places_of, number, line, lines, mark_text, opening, refusal, answer_of};
 
-use bits::{BitPlace, OctetCount};
-use list::Listed;
+use bits::{OctetCount, Refusal};
 use list_rules::Entry;
 
 // ---- numbers
@@ -153,16 +153,16 @@ fn put_opening(out: &mut [u8], entries: u32, mark: u32) -> OctetCount
 }
 
 // Puts the line of a refusal at the front. A message has no more than 32,768 bits, so the place is a number of 32 bits.
-fn put_refusal(out: &mut [u8], number: u32, place: BitPlace) -> OctetCount
+fn put_refusal(out: &mut [u8], refused: Refusal) -> OctetCount
     requires in_bounds { 64 ≤ length out.old }
-    requires place_bound { place.0 ≤ 32768 }
-    ensures added { Added out.old 0 (refusal number place.0) out.new result.0 }
+    requires place_bound { refused.place.0 ≤ 32768 }
+    ensures added { Added out.old 0 (refusal (number_of refused.why) refused.place.0) out.new result.0 }
     ensures result_bound { result.0 ≤ 64 }
 {
     let at = put_text(out, OctetCount(0), b"refused ");
-    let at = put_number(out, at, number, b' ');
+    let at = put_number(out, at, refused.why.number(), b' ');
     let at = put_text(out, at, b"at ");
-    put_number(out, at, place.0 as u32, b'\n')
+    put_number(out, at, refused.place.0 as u32, b'\n')
 }
 
 // ---- the whole text
@@ -175,10 +175,10 @@ pub fn answer(msg: &[u8], list: &mut [u32], text: &mut [u8]) -> OctetCount
     ensures result_in_bounds { result.0 ≤ length text.new }
 {
     match list::list(msg, list) {
-        Listed::Made { entries, mark } => {
-            let at = put_opening(text, entries, mark);
-            put_entries(text, at, list, entries as usize)
+        Ok(listed) => {
+            let at = put_opening(text, listed.entries, listed.mark);
+            put_entries(text, at, list, listed.entries as usize)
         }
-        Listed::Refused { number, place } => put_refusal(text, number, place),
+        Err(refused) => put_refusal(text, refused),
     }
 }
