@@ -1,12 +1,11 @@
 -- The change in octets, and clearing.
 use Prim.Native.Nat.{ℕ, zero, suc, ◌+◌, ◌-◌, ◌≤◌, ◌<◌}
 use native.Mathlib.Omega.{arith}
-use native.Mathlib.Nat.{add-zero}
-use mathlib.Core.Path.{◌≡◌, refl, sym, ap, ap₂, ◌∙◌}
+use mathlib.Core.Path.{◌≡◌, sym, ap, ap₂, ◌∙◌}
 use mathlib.Core.Bool.{Bool, true, false, cond}
-use mathlib.Core.List.{List, [], ◌∷◌, ◌++◌, append_assoc}
-use lib.ListN.{length, get_or, take, drop, set, replicate, length-set, length-append, length-replicate, take-append-drop, replicate-append-replicate}
-use lib.Seq.{take_at, drop_at, drop-drop, drop-cons, set_at, length-take-le}
+use mathlib.Core.List.{List, ◌++◌, append_assoc}
+use lib.ListN.{length, drop, replicate, length-append, length-replicate}
+use lib.Seq.{take_at, drop_at, drop-drop}
 use lib.Dec.{ltb}
 use lib.IntN.{ℤ, pos, negsuc, sub_ℕ, ◌-ℤ◌}
 use lib.Signed.{mag}
@@ -40,61 +39,6 @@ pub change_kept : (a b : ℕ) {r : ℤ} → a ≤ 4096 → b ≤ 4096 → r ≡ 
 change_kept a b h k e = ap (λ (z : ℤ). to_z w32 (of_z w32 z)) e ∙ to_z-of_z w32 (pos a -ℤ pos b) (record { sfits = small a b h k })
 
 -- ---- clearing
-
--- cleared up to i
-pub record Clearing (from to : ℕ) (old new : List ℕ) (i : ℕ) : Type 0 where
-  pub least : from ≤ i
-  pub most : i - from ≤ to - from
-  pub room : to ≤ length old
-  pub done : new ≡ cleared from i old
-  pub long : length new ≡ length old
-
-pub clear_begins : (from to : ℕ) (old : List ℕ) → to ≤ length old → Clearing from to old old from
-clear_begins from to old h = record { least = omega arith; most = omega arith; room = h; done = sym (nothing from); long = refl }
-  where
-    nothing : (n : ℕ) → cleared n n old ≡ old
-    nothing n = let z : n - n ≡ 0 = omega arith in rw (z, add-zero n) (take-append-drop n old)
-
-module _ {from to : ℕ} {old new : List ℕ} {i : ℕ} (c : Clearing from to old new i) where
-  inside : i < to → (from ≤ length old) × (i < length old)
-  inside h = (omega (arith, c.least, c.room), omega (arith, c.room))
-
-  ahead : i < to → length (take from old ++ replicate (i - from) 0) ≡ i
-  ahead h = length-append (take from old) (replicate (i - from) 0) ∙ ap₂ (λ (x y : ℕ). x + y) (length-take-le from old (inside h).0) (length-replicate (i - from) 0) ∙ omega (arith, c.least)
-
-  shape : i < to → new ≡ (take from old ++ replicate (i - from) 0) ++ (get_or old i 0 ∷ drop (suc i) old)
-  shape h =
-      let e : from + (i - from) ≡ i = omega (arith, c.least) in
-      c.done ∙ sym (append_assoc (take from old) (replicate (i - from) 0) (drop (from + (i - from)) old))
-      ∙ ap (λ (x : List ℕ). (take from old ++ replicate (i - from) 0) ++ x) (ap (λ (x : ℕ). drop x old) e ∙ drop-cons old i 0 (inside h).1)
-
-  pub clear_index : i < to → i < length new
-  clear_index h = rw (shape h, length-append (take from old ++ replicate (i - from) 0) (get_or old i 0 ∷ drop (suc i) old), ahead h) (omega arith)
-
-  pub clear_on : i < to → Clearing from to old (set new i 0) (i + 1)
-  clear_on h =
-      let l = c.least in
-      let n : i + 1 - from ≡ (i - from) + 1 = omega arith in
-      let e : from + ((i - from) + 1) ≡ suc i = omega arith in
-      record {
-        least = omega arith;
-        most = omega arith;
-        room = c.room;
-        long = length-set new i 0 ∙ c.long;
-        done = ap (λ (x : List ℕ). set x i 0) (shape h) ∙ set_at (take from old ++ replicate (i - from) 0) (get_or old i 0) (drop (suc i) old) 0 i (ahead h)
-            ∙ (rw (n, e) (append_assoc (take from old) (replicate (i - from) 0) (0 ∷ drop (suc i) old) ∙ ap (λ (x : List ℕ). take from old ++ x)
-            (sym (append_assoc (replicate (i - from) 0) (0 ∷ []) (drop (suc i) old)) ∙ ap (λ (x : List ℕ). x ++ drop (suc i) old) (replicate-append-replicate (i - from) 1 0))));
-      }
-
-  pub clear_ends : to ≤ i → new ≡ cleared from to old
-  clear_ends h =
-      let e : i - from ≡ to - from = omega (arith, c.least, c.most) in
-      c.done ∙ ap (λ (n : ℕ). take from old ++ (replicate n 0 ++ drop (from + n) old)) e
-
-  pub clear_long : length new ≡ length old
-  clear_long = c.long
-
-pub ruleset clears = (clear_begins, clear_index, clear_on, clear_ends, clear_long)
 
 -- a message over the buffer and zeros behind it up to the old length
 pub cleared_over : (o buf : List ℕ) (n used : ℕ) → length o ≡ n → n ≤ length buf → cleared n used (over o buf) ≡ over (o ++ replicate (used - n) 0) buf

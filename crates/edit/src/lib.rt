@@ -115,11 +115,8 @@ fn clear(buf: &mut [u8], from: OctetCount, to: OctetCount)
     requires { to.0 ≤ length buf.old }
     ensures { buf.new ≡ cleared from.0 to.0 buf.old }
 {
-    let end = to.0;
-    let mut i = from.0;
-    while i < end {
-        buf[i] = 0;
-        i += 1;
+    if from.0 < to.0 {
+        buf[from.0..to.0].fill(0);
     }
 }
 

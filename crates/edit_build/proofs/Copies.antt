@@ -5,54 +5,17 @@ use native.Mathlib.Nat.{add-zero}
 use mathlib.Core.Path.{◌≡◌, refl, sym, ap, ap₂, ◌∙◌}
 use mathlib.Core.Bool.{Bool}
 use mathlib.Core.List.{List, ◌++◌, append_assoc, append-nil}
-use lib.ListN.{length, get_or, take, drop, set}
-use lib.Seq.{take-add, drop-drop, get_or-take, length-take-le}
+use lib.ListN.{length, take, drop}
+use lib.Seq.{take-add, drop-drop}
 use mir.Val.{Fits}
 use mir.Syntax.{w64}
 use Rattle.bits.specs.Bits.{bits_n, bits_of, field, place_after, octets_to}
-use Rattle.bits.specs.Lent.{over}
 use Rattle.bits.specs.Window.{Look}
 use Rattle.bits.specs.Sink.{written, InHand, Put}
 use Rattle.bits.proofs.Numbers.{field_bits}
 use Rattle.bits.proofs.Octets.{length_bits_of}
 use Rattle.bits.proofs.Looking.{seen}
 use Rattle.bits.proofs.Putting.{drop_further}
-use Rattle.bits.proofs.Filled.{filled_to, filled_more, filled_all, length_filled}
-
--- ---- octets
-
--- i of the first n octets copied
-pub record OctetCopy (from : List ℕ) (n : ℕ) (old new : List ℕ) (i : ℕ) : Type 0 where
-  pub least : i ≤ n
-  pub whole : n ≤ length from
-  pub room : n ≤ length old
-  pub copied : new ≡ filled_to (take n from) i old
-
-pub octets_begin : (from : List ℕ) (n : ℕ) (old : List ℕ) → (n ≤ length from) × (n ≤ length old) → OctetCopy from n old old 0
-octets_begin from n old h = record { least = omega arith; whole = h.0; room = h.1; copied = refl }
-
-module _ {from : List ℕ} {n : ℕ} {old new : List ℕ} {i : ℕ} (c : OctetCopy from n old new i) where
-  long : length (take n from) ≡ n
-  long = length-take-le n from c.whole
-
-  pub octets_long : length new ≡ length old
-  octets_long = ap length c.copied ∙ length_filled (take n from) old i (rw long c.least) (rw long c.room)
-
-  pub octets_index : i < n → i < length new
-  octets_index h = rw octets_long (omega (arith, c.room))
-
-  pub octets_on : i < n → OctetCopy from n old (set new i (get_or from i 0)) (i + 1)
-  octets_on h = record {
-    least = omega arith;
-    whole = c.whole;
-    room = c.room;
-    copied = rw (c.copied, ← get_or-take n from i 0 h) (filled_more (take n from) old i (rw long h) (rw long c.room));
-  }
-
-  pub octets_end : n ≤ i → new ≡ over (take n from) old
-  octets_end h = c.copied ∙ filled_all (take n from) old {i = i} (omega (arith, long, c.least))
-
-pub ruleset octets = (octets_begin, octets_long, octets_index, octets_on, octets_end)
 
 -- ---- bits
 

@@ -16,11 +16,7 @@ pub fn copy_octets(from: &[u8], octets: OctetCount, to: &mut [u8])
     ensures { to.new ≡ over (take octets.0 from.now) to.old }
 {
     let n = octets.0;
-    let mut i: usize = 0;
-    while i < n {
-        to[i] = from[i];
-        i += 1;
-    }
+    to[..n].copy_from_slice(&from[..n]);
 }
 
 // Puts the `n` bits that stand at a place.
