@@ -24,10 +24,9 @@
 //   NAME: refusal place length entries mark change octets cells same
 ghost use Rattle.std.specs.Prelude.{◌≤◌, length};
 
-use bits::OctetCount;
-use edit::Answer;
+use bits::{OctetCount, Refusal};
+use edit::Edited;
 use edit_change::Edit;
-use list::Listed;
 
 // The used length, and how many octets of the buffer and cells of each list are lent.
 #[derive(Clone, Copy)]
@@ -49,23 +48,18 @@ struct Wanted {
 // ---- printing
 
 // Prints the numbers of an answer.
-fn show_answer(answer: Answer) {
+fn show_answer(answer: Result<Edited, Refusal>) {
     match answer {
-        Answer::Edited {
-            length,
-            entries,
-            mark,
-            change,
-        } => {
+        Ok(made) => {
             io::write_all(1, b" 0 0");
-            vectors::number(length.0 as u64);
-            vectors::number(entries as u64);
-            vectors::number(mark as u64);
-            vectors::signed(change);
+            vectors::number(made.length.0 as u64);
+            vectors::number(made.entries as u64);
+            vectors::number(made.mark as u64);
+            vectors::signed(made.change);
         }
-        Answer::Refused { number, place } => {
-            vectors::number(number as u64);
-            vectors::number(place.0 as u64);
+        Err(refusal) => {
+            vectors::number(refusal.why.number() as u64);
+            vectors::number(refusal.place.0 as u64);
             io::write_all(1, b" 0 0 0 0");
         }
     }
@@ -74,24 +68,16 @@ fn show_answer(answer: Answer) {
 // ---- the calls
 
 // Edits the message in a buffer. It promises nothing, so that what calls it carries no promise along.
-fn edited(buf: &mut [u8], used: usize, w: Wanted, list: &mut [u32]) -> Answer {
+fn edited(buf: &mut [u8], used: usize, w: Wanted, list: &mut [u32]) -> Result<Edited, Refusal> {
     let edit = w.edit;
     edit::edit_message(buf, OctetCount(used), edit, w.pattern, w.instruction, list)
 }
 
 // The length of the message that is in the buffer after an edit.
-fn length_after(answer: Answer, used: usize) -> usize {
+fn length_after(answer: Result<Edited, Refusal>, used: usize) -> usize {
     match answer {
-        Answer::Edited {
-            length,
-            entries: _,
-            mark: _,
-            change: _,
-        } => length.0,
-        Answer::Refused {
-            number: _,
-            place: _,
-        } => used,
+        Ok(made) => made.length.0,
+        Err(_) => used,
     }
 }
 
@@ -112,16 +98,7 @@ fn same(a: &[u32], b: &[u32]) -> bool {
 
 // Can a message be listed in the cells lent?
 fn listed(msg: &[u8], list: &mut [u32]) -> bool {
-    match list::list(msg, list) {
-        Listed::Made {
-            entries: _,
-            mark: _,
-        } => true,
-        Listed::Refused {
-            number: _,
-            place: _,
-        } => false,
-    }
+    list::list(msg, list).is_ok()
 }
 
 // Lists the message afresh, and says whether a list is what that gives.

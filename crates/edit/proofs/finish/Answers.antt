@@ -3,6 +3,7 @@ use native.Mathlib.Omega.{arith}
 use mathlib.Core.Path.{sym}
 use lib.ListN.{take}
 use lib.Seq.{length-take-le}
+use borrow.Author.Rules.{rules}
 use Rattle.edit.proofs.Finishing.{finish_short, finish_patterns, finish_few, finish_room, finish_made}
 use Rattle.edit.proofs.Changes.{change_kept}
 use Rattle.edit.proofs.finish.Goals as goal
@@ -10,7 +11,7 @@ use Rattle.edit.proofs.finish.Goals as goal
 pub returns-then-list-entries : goal.returns-then-list-entries
 returns-then-list-entries c =
     let a = c.args in
-    finish_short (take a.n.0 a.scratch.now) a.buf.now a.list.now a.used.0 c.requires.written c.if-list-entries.true
+    search (finish_short (take a.n.0 a.scratch.now) a.buf.now a.list.now a.used.0 c.requires.written, rules)
 
 pub slice_bounds-fill_list-end-2 : goal.slice_bounds-fill_list-end-2
 slice_bounds-fill_list-end-2 c =
