@@ -33,7 +33,6 @@ use Rattle.edit.specs.Editing.{body_length, edit_tone, in_buffer, with_list, edi
 use Rattle.edit.specs.Promise.{edit_numbers}
 use Rattle.edit.proofs.Demand3.{edit_grounds, edit_formed}
 use Rattle.bitmap.specs.Bitmap.{Bitmap, writing_into}
-use Rattle.bitmap.specs.Promises.{write_numbers as bitmapWritten}
 use Rattle.bitmap.proofs.Rules.{bitmap, JudgedCase, judged_is, WritingCase, writing_is}
 use Rattle.bitmap.proofs.Largest.{spelt_most}
 use Rattle.bitmap_ahead.specs.declared.Kind.{Kind}
@@ -43,7 +42,7 @@ use Rattle.bitmap_ahead.proofs.Rules.{taken_formed}
 use Rattle.bitmap_kinds.specs.Kinds.{Graphic, writing as kindOctets, with_ahead, judged, into_room, writing_into as kindInto}
 use Rattle.bitmap_kinds.proofs.Rules.{graphic}
 use Rattle.bitmap_kinds.proofs.Largest.{most_octets as kindMost, spelt_most as kind-most}
-use Rattle.written.specs.Written.{write_numbers as packWritten}
+use Rattle.written.specs.Written.{write_numbers as written_numbers}
 use Rattle.pack.specs.Pack.{write_pack}
 use Rattle.pack.proofs.Order.{never_eleven}
 use Rattle.salvage.specs.Salvage.{Salvaged, salvage}
@@ -212,7 +211,7 @@ bitmap_spared room width height image h = go (writing_is room width height image
 pub bitmap_write_room : (width height : ℕ) (image out out' : List ℕ) (r : WrittenAnswer) → BitmapWriteExport width height image out out' r
     → bitmap_room ≤ length out → r.refusal ≡ 11 → ⊥
 bitmap_write_room width height image out out' r x h e =
-    not_eleven (λ o. (bitmapWritten o).refusal) (λ _. refl) (λ _ _. refl) (bitmap_spared (length out) width height image h)
+    not_eleven (λ o. (written_numbers o).refusal) (λ _. refl) (λ _ _. refl) (bitmap_spared (length out) width height image h)
     (sym (ap (λ (a : WrittenAnswer). a.refusal) x.answer) ∙ e)
 
 -- the room of a kind is what its largest bitmap takes
@@ -238,7 +237,7 @@ kind_spared room kind a width height image h =
 pub kind_write_room : (kind : Kind) (a : Ahead) (width height : ℕ) (image out out' : List ℕ) (r : WrittenAnswer) → KindWriteExport kind a width height image out out' r
     → kind_room kind ≤ length out → r.refusal ≡ 11 → ⊥
 kind_write_room kind a width height image out out' r x h e =
-    not_eleven (λ o. (bitmapWritten o).refusal) (λ _. refl) (λ _ _. refl) (kind_spared (length out) kind a width height image h)
+    not_eleven (λ o. (written_numbers o).refusal) (λ _. refl) (λ _ _. refl) (kind_spared (length out) kind a width height image h)
     (sym (ap (λ (b : WrittenAnswer). b.refusal) x.answer) ∙ e)
 
 -- ---- packs
@@ -247,7 +246,7 @@ kind_write_room kind a width height image out out' r x h e =
 pub pack_write_room : (octets ns out out' : List ℕ) (r : WrittenAnswer) → PackWriteExport octets ns out out' r → pack_room ≤ length out → r.refusal ≡ 11 → ⊥
 pack_write_room octets ns out out' r x h e = go (write_pack octets ns (length out)) refl (sym (ap (λ (a : WrittenAnswer). a.refusal) x.answer) ∙ e)
   where
-    go : (o : Outcome (List ℕ)) → write_pack octets ns (length out) ≡ o → (packWritten o).refusal ≡ 11 → ⊥
+    go : (o : Outcome (List ℕ)) → write_pack octets ns (length out) ≡ o → (written_numbers o).refusal ≡ 11 → ⊥
     go (accepted w) q z = omega arith
     go (refused n p) q z = never_eleven octets ns (length out) h (q ∙ ap (λ (k : ℕ). refused k p) z)
 

@@ -1,10 +1,13 @@
 -- What each export promises: its answer holds the numbers of document 01, and every lent cell is as the rules say.
-use Rattle.std.specs.Prelude.{ℕ, ◌+◌, ◌*◌, ◌≡◌, Bool, List, length, take, drop}
+use Rattle.std.specs.Prelude.{ℕ, ◌+◌, ◌*◌, ◌≡◌, Bool, true, false, List, length, take, drop}
 use Rattle.bits.specs.Choice.{pick}
 use Rattle.bits.specs.Outcome.{Outcome}
 use Rattle.tone_read.specs.Promise.{Numbers as ReadNumbers, read_numbers, read_into, table_after, title_after}
 use Rattle.tone_write.specs.Judging.{write_tone}
-use Rattle.tone_write.specs.Promise.{Numbers as WriteNumbers, write_numbers, octets_after}
+use Rattle.tone_write.specs.Promise.{write_numbers, octets_after}
+use Rattle.written.specs.Written.{answer_as, FillsNumbers}
+use Rattle.label.specs.declared.Supplier.{Supplier}
+use Rattle.label.specs.declared.Supplier.TheVariants.{Title, StandIn}
 use Rattle.label.specs.Label.{stands_in, label_of}
 use Rattle.list_rules.specs.declared.Entry.{Entry}
 use Rattle.list_rules.specs.Playing.{Listing}
@@ -14,7 +17,7 @@ use Rattle.edit_change.specs.declared.Edit.{Edit}
 use Rattle.edit.specs.Editing.{Edited, edit_message, buffer_after, list_after}
 use Rattle.edit.specs.Promise.{Numbers as EditNumbers, edit_numbers}
 use Rattle.bitmap.specs.Bitmap.{reading, writing_into}
-use Rattle.bitmap.specs.Promises.{ReadNumbers as BitmapNumbers, read_numbers as bitmapNumbers, image_of, image_start, WriteNumbers as BitmapWritten, write_numbers as bitmapWritten, lent_after}
+use Rattle.bitmap.specs.Promises.{ReadNumbers as BitmapNumbers, read_numbers as bitmapNumbers, image_of, image_start}
 use Rattle.bitmap_ahead.specs.declared.Kind.{Kind}
 use Rattle.bitmap_ahead.specs.Ahead.{Ahead}
 use Rattle.bitmap_kinds.specs.Kinds.{writing_into as kindInto}
@@ -57,16 +60,17 @@ pub record ReadExport (m table title table' title' : List ℕ) (r : ToneAnswer) 
 
 -- ---- writing a tone
 
--- the numbers of a tone that was written, as the answer holds them
-abbrev pub written_as : WriteNumbers → WrittenAnswer
-written_as n = record { refusal = n.refusal; place = n.place; octets = n.octets }
-
 -- `ohakelm_write`: every number and every octet of the buffer
 pub record WriteExport (song : ℕ) (unicode : Bool) (title table out out' : List ℕ) (r : WrittenAnswer) : Type 0 where
-  pub answer : r ≡ written_as (write_numbers (write_tone song unicode title table (length out)))
+  pub answer : r ≡ answer_as (write_numbers (write_tone song unicode title table (length out)))
   pub leaves : out' ≡ octets_after (write_tone song unicode title table (length out)) out
 
 -- ---- the label
+
+-- who supplies a label, as the answer holds it
+abbrev pub supplied_as : Supplier → LabelAnswer
+supplied_as (StandIn n) = record { stand_in = true; start = 0; length = n.0 }
+supplied_as (Title n) = record { stand_in = false; start = 0; length = n.0 }
 
 -- `ohakelm_label`: the buffer that supplies the label, and the stretch of it that is the label
 pub record LabelExport (title : List ℕ) (unicode : Bool) (standIn : List ℕ) (r : LabelAnswer) : Type 0 where
@@ -133,18 +137,12 @@ pub record BitmapReadExport (m : List ℕ) (r : BitmapAnswer) : Type 0 where
   pub answer : r ≡ bitmap_as (bitmapNumbers (reading m)) (image_start (reading m)) (length (image_of (reading m) m))
   pub stretch : image_of (reading m) m ≡ take r.length (drop r.start m)
 
--- the numbers of a bitmap that was written, as the answer holds them
-abbrev pub bitmap_written_as : BitmapWritten → WrittenAnswer
-bitmap_written_as n = record { refusal = n.refusal; place = n.place; octets = n.octets }
-
 -- `ohakelm_bitmap_write`: every number and every octet of the buffer
-pub record BitmapWriteExport (width height : ℕ) (image out out' : List ℕ) (r : WrittenAnswer) : Type 0 where
-  pub answer : r ≡ bitmap_written_as (bitmapWritten (writing_into (length out) width height image))
-  pub leaves : out' ≡ lent_after (writing_into (length out) width height image) out
+abbrev pub BitmapWriteExport : (width height : ℕ) (image out out' : List ℕ) → WrittenAnswer → Type 0
+BitmapWriteExport width height image out out' r = FillsNumbers (writing_into (length out) width height image) out out' r
 
 -- ---- icons and logos
 
 -- `ohakelm_icon_write` and `ohakelm_logo_write`, each with its own kind: every number and every octet of the buffer
-pub record KindWriteExport (kind : Kind) (a : Ahead) (width height : ℕ) (image out out' : List ℕ) (r : WrittenAnswer) : Type 0 where
-  pub answer : r ≡ bitmap_written_as (bitmapWritten (kindInto (length out) kind a width height image))
-  pub leaves : out' ≡ lent_after (kindInto (length out) kind a width height image) out
+abbrev pub KindWriteExport : (kind : Kind) (a : Ahead) (width height : ℕ) (image out out' : List ℕ) → WrittenAnswer → Type 0
+KindWriteExport kind a width height image out out' r = FillsNumbers (kindInto (length out) kind a width height image) out out' r

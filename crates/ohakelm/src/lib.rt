@@ -1,27 +1,26 @@
 #![tactic(auto)]
 
 ghost use Rattle.std.specs.Prelude.{◌≡◌, length};
-ghost use Rattle.list.specs.Promise.{numbers_of as listedNumbers};
+ghost use Rattle.tone_read.specs.Promise.{numbers as tone_numbers};
+ghost use Rattle.list.specs.Promise.{numbers_of as listed_numbers};
 ghost use Rattle.edit.specs.Promise.{numbers_of as edit_numbers};
 ghost use Rattle.edit_change.specs.declared.Edit.TheVariants.{Replace, Insert, Delete};
-ghost use Rattle.bitmap.specs.Promises.{numbers_of_writing as bitmapNumbers};
 ghost use Rattle.bitmap_ahead.specs.declared.Kind.TheVariants.{Icon, Logo};
 ghost use Rattle.bitmap_ahead.specs.Ahead.{said, nothing};
 ghost use Rattle.bitmap_answers.specs.Promise.{IconReadExport, LogoReadExport};
 ghost use Rattle.pack_answers.specs.Promise.{PackReadExport, PackMessageExport, PackWriteExport, PackSalvageExport};
-ghost use Rattle.ohakelm.specs.Promise.{VersionExport, ReadExport, WriteExport, LabelExport, ListExport, RowsExport, EditExport, BitmapReadExport, BitmapWriteExport, KindWriteExport, listed_as, edited_as, bitmap_written_as};
+ghost use Rattle.ohakelm.specs.Promise.{VersionExport, ReadExport, WriteExport, LabelExport, ListExport, RowsExport, EditExport, BitmapReadExport, BitmapWriteExport, KindWriteExport, read_as, supplied_as, listed_as, edited_as};
 
 use bitmap_ahead::Kind;
 use bitmap_answers::{BitmapAnswer, LogoAnswer};
-use bits::OctetCount;
-use edit::Answer;
+use bits::{OctetCount, Refusal};
+use edit::Edited;
 use edit_change::Edit;
 use label::Supplier;
 use list::Listed;
 use list_rules::Entry;
 use pack_answers::{PackAnswer, SalvageAnswer, StretchAnswer};
 use tone_read::Reading;
-use tone_write::Writing;
 use written::WrittenAnswer;
 
 // ---- answers
@@ -39,6 +38,33 @@ pub struct ToneAnswer {
     pub entries: usize,
 }
 
+impl From<Result<Reading, Refusal>> for ToneAnswer {
+    ghost from_gives = { λ reading r. r ≡ read_as (tone_numbers reading) };
+
+    fn from(reading: Result<Reading, Refusal>) -> ToneAnswer {
+        match reading {
+            Err(refusal) => ToneAnswer {
+                refusal: refusal.why.number(),
+                place: refusal.place.0,
+                song: 0,
+                unicode: false,
+                characters: 0,
+                patterns: 0,
+                entries: 0,
+            },
+            Ok(tone) => ToneAnswer {
+                refusal: 0,
+                place: 0,
+                song: tone.song,
+                unicode: tone.unicode,
+                characters: tone.characters as usize,
+                patterns: tone.patterns as usize,
+                entries: tone.entries as usize,
+            },
+        }
+    }
+}
+
 // Which buffer supplies a label, and which stretch of it.
 #[repr(C)]
 #[derive(Clone, Copy)]
@@ -46,6 +72,25 @@ pub struct LabelAnswer {
     pub stand_in: bool,
     pub start: usize,
     pub length: usize,
+}
+
+impl From<Supplier> for LabelAnswer {
+    ghost from_gives = { λ supplier r. r ≡ supplied_as supplier };
+
+    fn from(supplier: Supplier) -> LabelAnswer {
+        match supplier {
+            Supplier::StandIn(octets) => LabelAnswer {
+                stand_in: true,
+                start: 0,
+                length: octets.0,
+            },
+            Supplier::Title(octets) => LabelAnswer {
+                stand_in: false,
+                start: 0,
+                length: octets.0,
+            },
+        }
+    }
 }
 
 // What making a list answers.
@@ -58,6 +103,27 @@ pub struct ListAnswer {
     pub mark: u32,
 }
 
+impl From<Result<Listed, Refusal>> for ListAnswer {
+    ghost from_gives = { λ listing r. r ≡ listed_as (listed_numbers listing) };
+
+    fn from(listing: Result<Listed, Refusal>) -> ListAnswer {
+        match listing {
+            Err(refusal) => ListAnswer {
+                refusal: refusal.why.number(),
+                place: refusal.place.0,
+                entries: 0,
+                mark: 0,
+            },
+            Ok(Listed { entries, mark }) => ListAnswer {
+                refusal: 0,
+                place: 0,
+                entries: entries as usize,
+                mark,
+            },
+        }
+    }
+}
+
 // What an edit answers.
 #[repr(C)]
 #[derive(Clone, Copy)]
@@ -68,6 +134,31 @@ pub struct EditAnswer {
     pub entries: usize,
     pub mark: u32,
     pub change: i32,
+}
+
+impl From<Result<Edited, Refusal>> for EditAnswer {
+    ghost from_gives = { λ editing r. r ≡ edited_as (edit_numbers editing) };
+
+    fn from(editing: Result<Edited, Refusal>) -> EditAnswer {
+        match editing {
+            Err(refusal) => EditAnswer {
+                refusal: refusal.why.number(),
+                place: refusal.place.0,
+                length: 0,
+                entries: 0,
+                mark: 0,
+                change: 0,
+            },
+            Ok(edited) => EditAnswer {
+                refusal: 0,
+                place: 0,
+                length: edited.length.0,
+                entries: edited.entries as usize,
+                mark: edited.mark,
+                change: edited.change,
+            },
+        }
+    }
 }
 
 // ---- the version
@@ -85,32 +176,7 @@ pub fn ohakelm_version() -> u32
 pub fn ohakelm_read(msg: &[u8], table: &mut [u32], title: &mut [u8]) -> ToneAnswer
     ensures { ReadExport msg.now table.old title.old table.new title.new result }
 {
-    match tone_read::read(msg, table, title) {
-        Reading::Refused { number, place } => ToneAnswer {
-            refusal: number,
-            place: place.0,
-            song: 0,
-            unicode: false,
-            characters: 0,
-            patterns: 0,
-            entries: 0,
-        },
-        Reading::Read {
-            song,
-            unicode,
-            characters,
-            patterns,
-            entries,
-        } => ToneAnswer {
-            refusal: 0,
-            place: 0,
-            song,
-            unicode,
-            characters: characters as usize,
-            patterns: patterns as usize,
-            entries: entries as usize,
-        },
-    }
+    tone_read::read(msg, table, title).into()
 }
 
 // Writes a tone message from a song type, a title and a table.
@@ -123,116 +189,32 @@ pub fn ohakelm_write(
 ) -> WrittenAnswer
     ensures { WriteExport song unicode title.now table.now out.old out.new result }
 {
-    match tone_write::write(song, unicode, title, table, out) {
-        Writing::Refused { number, place } => WrittenAnswer {
-            refusal: number,
-            place: place.0,
-            octets: 0,
-        },
-        Writing::Written { octets } => WrittenAnswer {
-            refusal: 0,
-            place: 0,
-            octets: octets.0,
-        },
-    }
+    tone_write::write(song, unicode, title, table, out).into()
 }
 
 // Finds the label for the screen: which buffer supplies it, and which stretch of that buffer it is.
+#[tactic(auto, using(crate::proofs::Exits::label_told))]
 pub fn ohakelm_label(title: &[u8], unicode: bool, stand_in: &[u8]) -> LabelAnswer
     ensures { LabelExport title.now unicode stand_in.now result }
 {
-    match label::supplied(title, unicode, stand_in) {
-        Supplier::StandIn(octets) => LabelAnswer {
-            stand_in: true,
-            start: 0,
-            length: octets.0,
-        },
-        Supplier::Title(octets) => LabelAnswer {
-            stand_in: false,
-            start: 0,
-            length: octets.0,
-        },
-    }
-}
-
-// The numbers of a list.
-fn list_answer(listed: Listed) -> ListAnswer
-    ensures { result ≡ listed_as (listedNumbers listed) }
-{
-    match listed {
-        Listed::Refused { number, place } => ListAnswer {
-            refusal: number,
-            place: place.0,
-            entries: 0,
-            mark: 0,
-        },
-        Listed::Made { entries, mark } => ListAnswer {
-            refusal: 0,
-            place: 0,
-            entries: entries as usize,
-            mark,
-        },
-    }
+    label::supplied(title, unicode, stand_in).into()
 }
 
 // Makes the playing list of a tone message, three cells an entry.
 pub fn ohakelm_list(msg: &[u8], list: &mut [u32]) -> ListAnswer
     ensures { ListExport msg.now list.old list.new result }
 {
-    list_answer(list::list(msg, list))
+    list::list(msg, list).into()
 }
 
 // Makes the playing list in both forms: three cells an entry, and one record an entry.
 pub fn ohakelm_rows(msg: &[u8], list: &mut [u32], rows: &mut [Entry]) -> ListAnswer
     ensures { RowsExport msg.now list.old rows.old list.new rows.new result }
 {
-    list_answer(list::rows(msg, list, rows))
+    list::rows(msg, list, rows).into()
 }
 
 // ---- edits
-
-// The numbers of an edit.
-fn edit_answer(answer: Answer) -> EditAnswer
-    ensures { result ≡ edited_as (edit_numbers answer) }
-{
-    match answer {
-        Answer::Refused { number, place } => EditAnswer {
-            refusal: number,
-            place: place.0,
-            length: 0,
-            entries: 0,
-            mark: 0,
-            change: 0,
-        },
-        Answer::Edited {
-            length,
-            entries,
-            mark,
-            change,
-        } => EditAnswer {
-            refusal: 0,
-            place: 0,
-            length: length.0,
-            entries: entries as usize,
-            mark,
-            change,
-        },
-    }
-}
-
-// Edits, and answers by the numbers. The three exports differ in the edit alone.
-fn edited(
-    buf: &mut [u8],
-    used: OctetCount,
-    edit: Edit,
-    pattern: usize,
-    instruction: usize,
-    list: &mut [u32],
-) -> EditAnswer
-    ensures { EditExport edit buf.old used.0 pattern instruction list.old buf.new list.new result }
-{
-    edit_answer(edit::edit_message(buf, used, edit, pattern, instruction, list))
-}
 
 // Puts another instruction in an instruction's place.
 pub fn ohakelm_replace(
@@ -245,7 +227,7 @@ pub fn ohakelm_replace(
 ) -> EditAnswer
     ensures { EditExport (Replace cell) buf.old used pattern instruction list.old buf.new list.new result }
 {
-    edited(
+    edit::edit_message(
         buf,
         OctetCount(used),
         Edit::Replace(cell),
@@ -253,6 +235,7 @@ pub fn ohakelm_replace(
         instruction,
         list,
     )
+    .into()
 }
 
 // Inserts an instruction before another one, or behind the last.
@@ -266,7 +249,7 @@ pub fn ohakelm_insert(
 ) -> EditAnswer
     ensures { EditExport (Insert cell) buf.old used pattern instruction list.old buf.new list.new result }
 {
-    edited(
+    edit::edit_message(
         buf,
         OctetCount(used),
         Edit::Insert(cell),
@@ -274,6 +257,7 @@ pub fn ohakelm_insert(
         instruction,
         list,
     )
+    .into()
 }
 
 // Deletes an instruction.
@@ -286,7 +270,7 @@ pub fn ohakelm_delete(
 ) -> EditAnswer
     ensures { EditExport Delete buf.old used pattern instruction list.old buf.new list.new result }
 {
-    edited(
+    edit::edit_message(
         buf,
         OctetCount(used),
         Edit::Delete,
@@ -294,6 +278,7 @@ pub fn ohakelm_delete(
         instruction,
         list,
     )
+    .into()
 }
 
 // ---- bitmaps
@@ -303,45 +288,23 @@ pub fn ohakelm_bitmap_read(msg: &[u8]) -> BitmapAnswer
     ensures { BitmapReadExport msg.now result }
 {
     match bitmap::read(msg) {
-        bitmap::Reading::Refused(number, place) => BitmapAnswer {
-            refusal: number,
-            place: place.0,
+        Err(refusal) => BitmapAnswer {
+            refusal: refusal.why.number(),
+            place: refusal.place.0,
             width: 0,
             height: 0,
             black: 0,
             start: 0,
             length: 0,
         },
-        bitmap::Reading::Read {
-            width,
-            height,
-            black,
-        } => BitmapAnswer {
+        Ok(read) => BitmapAnswer {
             refusal: 0,
             place: 0,
-            width,
-            height,
-            black,
+            width: read.width,
+            height: read.height,
+            black: read.black,
             start: 4,
             length: bitmap::image(msg).len(),
-        },
-    }
-}
-
-// The numbers of a bitmap that was written.
-fn written_answer(answer: bitmap::Writing) -> WrittenAnswer
-    ensures { result ≡ bitmap_written_as (bitmapNumbers answer) }
-{
-    match answer {
-        bitmap::Writing::Refused(number, place) => WrittenAnswer {
-            refusal: number,
-            place: place.0,
-            octets: 0,
-        },
-        bitmap::Writing::Wrote(octets) => WrittenAnswer {
-            refusal: 0,
-            place: 0,
-            octets: octets.0,
         },
     }
 }
@@ -350,7 +313,7 @@ fn written_answer(answer: bitmap::Writing) -> WrittenAnswer
 pub fn ohakelm_bitmap_write(width: u32, height: u32, image: &[u8], out: &mut [u8]) -> WrittenAnswer
     ensures { BitmapWriteExport width height image.now out.old out.new result }
 {
-    written_answer(bitmap::write(width, height, image, out))
+    bitmap::write(width, height, image, out).into()
 }
 
 // ---- icons and logos
@@ -367,7 +330,7 @@ pub fn ohakelm_icon_write(width: u32, height: u32, image: &[u8], out: &mut [u8])
     ensures { KindWriteExport Icon nothing width height image.now out.old out.new result }
 {
     let none = &image[0..0];
-    written_answer(bitmap_kinds::write(Kind::Icon, none, none, none, width, height, image, out))
+    bitmap_kinds::write(Kind::Icon, none, none, none, width, height, image, out).into()
 }
 
 // Reads an operator logo: as an icon, and the stretches that are its two network codes and its date.
@@ -389,7 +352,7 @@ pub fn ohakelm_logo_write(
 ) -> WrittenAnswer
     ensures { KindWriteExport Logo (said mcc.now mnc.now date.now) width height image.now out.old out.new result }
 {
-    written_answer(bitmap_kinds::write(Kind::Logo, mcc, mnc, date, width, height, image, out))
+    bitmap_kinds::write(Kind::Logo, mcc, mnc, date, width, height, image, out).into()
 }
 
 // ---- packs

@@ -1,9 +1,6 @@
 -- `bitmap_answers::read_logo` meets its contract.
-use Rattle.bitmap_answers.proofs.Exits.{logo_answered}
+use Rattle.bitmap_answers.proofs.Exits.{logo_told}
 use Rattle.bitmap_answers.proofs.read_logo.Goals as goal
 
-pub returns-in-Ok : goal.returns-in-Ok
-returns-in-Ok c = logo_answered c.args.msg.now c.read.ensures c.in-Ok.is
-
-pub returns-in-Err : goal.returns-in-Err
-returns-in-Err c = rw c.number.ensures (logo_answered c.args.msg.now c.read.ensures c.in-Err.is)
+pub returns : goal.returns
+returns c = logo_told c.args.msg.now c.read.ensures c.into.ensures

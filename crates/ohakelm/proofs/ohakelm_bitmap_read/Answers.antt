@@ -1,10 +1,9 @@
 -- `ohakelm::ohakelm_bitmap_read` meets its contract.
-use borrow.Author.Rules.{rules}
-use Rattle.ohakelm.proofs.Exits.{bitmaps}
+use Rattle.ohakelm.proofs.Exits.{bitmap_refused, bitmap_read}
 use Rattle.ohakelm.proofs.ohakelm_bitmap_read.Goals as goal
 
-pub returns-in-Refused : goal.returns-in-Refused
-returns-in-Refused c = search (bitmaps, rules)
+pub returns-in-Ok : goal.returns-in-Ok
+returns-in-Ok c = bitmap_read c.args.msg c.read.ensures c.in-Ok.is c.image.ensures
 
-pub returns-in-Read : goal.returns-in-Read
-returns-in-Read c = search (bitmaps, rules)
+pub returns-in-Err : goal.returns-in-Err
+returns-in-Err c = bitmap_refused c.args.msg c.read.ensures c.in-Err.is c.number.ensures

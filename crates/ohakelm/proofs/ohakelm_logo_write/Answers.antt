@@ -1,7 +1,0 @@
--- `ohakelm::ohakelm_logo_write` meets its contract.
-use borrow.Author.Rules.{rules}
-use Rattle.ohakelm.proofs.Exits.{written}
-use Rattle.ohakelm.proofs.ohakelm_logo_write.Goals as goal
-
-pub returns : goal.returns
-returns c = search (written, rules)
