@@ -10,15 +10,17 @@ use lib.Seq.{take_at, drop_at, drop-drop}
 use lib.IntN.{pos, ◌-ℤ◌}
 use Rattle.bits.specs.Bits.{bits_of, Octets}
 use Rattle.bits.specs.Lent.{over}
+use Rattle.std.specs.Prelude.{Result, Ok, Err}
 use Rattle.bits.specs.Outcome.{Outcome, accepted, refused}
-use Rattle.bits.specs.declared.BitPlace.{BitPlace}
+use Rattle.bits.specs.Refusals.{number_of}
+use Rattle.bits.specs.declared.refusal.Refusal.{Refusal}
+use Rattle.bits.proofs.Answered.{by_number, refusal_answered}
 use Rattle.bits.proofs.Octets.{octets_take}
 use Rattle.tone.specs.Tone.{Tone, pattern_at, Formed}
 use Rattle.tone.specs.Writing.{entry_bits, table_bits, tone_bits, tone_length, tone_octets}
 use Rattle.tone.specs.Reading.{read_tone}
 use Rattle.tone.proofs.Demand2.{read_formed, accepted_is_written, bits_tone_octets, length_tone_octets}
 use Rattle.list.specs.declared.Listed.{Listed}
-use Rattle.list.specs.declared.Listed.TheVariants.{Made as ListMade}
 use Rattle.list_rules.specs.Sounding.{entry_cells, numbers}
 use Rattle.list_rules.specs.Playing.{Listing, playing_list}
 use Rattle.list_rules.specs.Listing.{fits_numbers, list_tone}
@@ -29,32 +31,27 @@ use Rattle.list_rules.proofs.Order.{cells_enough}
 use Rattle.list_rules.proofs.Packing.{length_numbers}
 use Rattle.list.proofs.Agreeing.{Agree, agree_at}
 use Rattle.edit_change.specs.declared.Edit.{Edit}
-use Rattle.edit.specs.declared.Answer.{Answer}
-use Rattle.edit.specs.declared.Answer.TheVariants.{Edited as Made, Refused}
+use Rattle.edit.specs.declared.Edited.{Edited as Made}
 use Rattle.edit_change.specs.Change.{changed, header_place, instruction_place}
 use Rattle.edit.specs.Editing.{Edited, body_length, edit_message, buffer_after, list_after}
-use Rattle.edit.specs.Promise.{Numbers, numbers_of, edit_numbers, edit_answer, EditPromise}
+use Rattle.edit.specs.Promise.{Numbers, numbers_of, edit_numbers, made, edit_answer, EditPromise}
 use Rattle.edit.proofs.Demand3.{unchanged, edit_formed, edit_reads_again}
+use Rattle.edit.proofs.Numbered.{edit_numbered}
 use Rattle.edit.proofs.Exactly.{Conditions, edited, accepted_when, edit_exactly}
 
 -- an answer that accepts
-abbrev pub Accepting : Answer → Type 0
-Accepting (Made l n m c) = Unit {0}
-Accepting (Refused n p) = ⊥
+abbrev pub Accepting : Result Made Refusal → Type 0
+Accepting (Ok d) = Unit {0}
+Accepting (Err r) = ⊥
 
 -- the new length that an answer gives
-abbrev pub new_length : Answer → ℕ
+abbrev pub new_length : Result Made Refusal → ℕ
 new_length r = (numbers_of r).length
 
 -- an accepting answer comes of an accepted edit
-came : (used : ℕ) (o : Outcome Edited) (r : Answer) → r ≡ edit_answer used o → Accepting r → (d : Edited) × (o ≡ accepted d)
+came : (used : ℕ) (o : Outcome Edited) (r : Result Made Refusal) → r ≡ edit_answer used o → Accepting r → (d : Edited) × (o ≡ accepted d)
 came used (accepted d) r e a = (d, refl)
 came used (refused n p) r e a = absurd (subst Accepting e a)
-
-same_refusal : (used n : ℕ) (p : BitPlace) (o : Outcome Edited) → Refused n p ≡ edit_answer used o → o ≡ refused n p.0
-same_refusal used n p (accepted d) e = let z : ◌≡◌ {A = ℕ} 0 1 = cc in absurd (omega arith)
-same_refusal used n p (refused m q) e =
-    ap₂ (λ (a b : ℕ). refused a b) (sym (ap (λ (r : Answer). (numbers_of r).refusal) e)) (sym (ap (λ (r : Answer). (numbers_of r).place) e))
 
 -- a buffer of new octets, zeros and the rest of an old one
 lengths : (n used : ℕ) (new buf buf' : List ℕ) → length new ≡ n → n ≤ length buf → used ≤ length buf → buf' ≡ over (new ++ replicate (used - n) 0) buf
@@ -83,14 +80,14 @@ pub record Ahead (k i : ℕ) (t : Tone) (old new : List Bool) : Type 0 where
   pub stands_there : i < body_length k t → (rest : List Bool) × (drop (instruction_place t k i) old ≡ entry_bits (get_or (pattern_at t.patterns k).body i 0) ++ rest)
 
 -- an edit's list is that of t: as the message in the buffer is listed, as the answer counts it, and as the lent cells hold it, entry by entry, with what was lent behind it
-pub record ListIs (t : Tone) (message lent list : List ℕ) (r : Answer) : Type 0 where
+pub record ListIs (t : Tone) (message lent list : List ℕ) (r : Result Made Refusal) : Type 0 where
   pub listed : list_tone message (fits_numbers (length lent)) ≡ accepted (playing_list t)
   pub entries : (numbers_of r).entries ≡ length (playing_list t).entries
   pub mark : (numbers_of r).mark ≡ (playing_list t).mark
   pub whole : list ≡ numbers (playing_list t).entries ++ drop (entry_cells * (numbers_of r).entries) lent
   pub each : (j : ℕ) (d : Entry) → j < (numbers_of r).entries → Agree (get_or (playing_list t).entries j d) list j
 
-module _ (buf : List ℕ) (used : ℕ) (ed : Edit) (k i : ℕ) (list buf' list' : List ℕ) (r : Answer) (p : EditPromise buf used ed k i list buf' list' r) where
+module _ (buf : List ℕ) (used : ℕ) (ed : Edit) (k i : ℕ) (list buf' list' : List ℕ) (r : Result Made Refusal) (p : EditPromise buf used ed k i list buf' list' r) where
   -- ---- acceptance
 
   -- the edit is accepted exactly if the conditions are met, one for each ground
@@ -111,17 +108,20 @@ module _ (buf : List ℕ) (used : ℕ) (ed : Edit) (k i : ℕ) (list buf' list' 
   -- ---- refusal
 
   -- the edit is refused with the number and the place that the rules give
-  pub edit_refused_exactly : (n : ℕ) (at : BitPlace) → (r ≡ Refused n at) ↔ (edit_message buf used ed k i (length list) ≡ refused n at.0)
-  edit_refused_exactly n at = (λ e. same_refusal used n at (edit_message buf used ed k i (length list)) (sym e ∙ p.answer), λ e. p.answer ∙ ap (edit_answer used) e)
+  pub edit_refused_exactly : (e : Refusal) → (r ≡ Err e) ↔ (edit_message buf used ed k i (length list) ≡ refused (number_of e.why) e.place.0)
+  edit_refused_exactly e = (
+    λ h. refusal_answered (made used) (edit_message buf used ed k i (length list)) (edit_numbered buf used ed k i (length list)) (sym h ∙ p.answer),
+    λ h. p.answer ∙ ap (edit_answer used) h ∙ ap (λ (x : Refusal). Err x) (by_number e),
+  )
 
   -- a refusal leaves buffer and list as they were, and all other numbers are 0
-  pub refusal_changes_nothing : (n : ℕ) (at : BitPlace) → r ≡ Refused n at
-      → (buf' ≡ buf) × (list' ≡ list) × (numbers_of r ≡ record { refusal = n; place = at.0; length = 0; entries = 0; mark = 0; change = pos 0 })
-  refusal_changes_nothing n at e =
-      let o = (edit_refused_exactly n at).0 e in (
+  pub refusal_changes_nothing : (e : Refusal) → r ≡ Err e
+      → (buf' ≡ buf) × (list' ≡ list) × (numbers_of r ≡ record { refusal = number_of e.why; place = e.place.0; length = 0; entries = 0; mark = 0; change = pos 0 })
+  refusal_changes_nothing e h =
+      let o = (edit_refused_exactly e).0 h in (
         p.buffer ∙ ap (λ (x : Outcome Edited). buffer_after x used buf) o,
         p.listed ∙ ap (λ (x : Outcome Edited). list_after x list) o,
-        ap numbers_of e,
+        ap numbers_of h,
       )
 
   -- ---- an accepted edit of a message that reads as t
@@ -205,9 +205,9 @@ module _ (buf : List ℕ) (used : ℕ) (ed : Edit) (k i : ℕ) (list buf' list' 
         }
 
     -- a call of `list::list` on the new bytes, with the list as it was lent, answers and leaves the same
-    pub edit_list_afresh : (list'' : List ℕ) (s : Listed) → ListPromise (take (new_length r) buf') (fits_numbers (length list)) list list'' s → (s ≡ ListMade (numbers_of r).entries (numbers_of r).mark) × (list'' ≡ list')
+    pub edit_list_afresh : (list'' : List ℕ) (s : Result Listed Refusal) → ListPromise (take (new_length r) buf') (fits_numbers (length list)) list list'' s → (s ≡ Ok (record { entries = (numbers_of r).entries; mark = (numbers_of r).mark })) × (list'' ≡ list')
     edit_list_afresh list'' s l = (
-      l.answer ∙ ap list_answer edit_listing ∙ ap₂ (λ (x y : ℕ). ListMade x y) (sym (ap (λ (x : Numbers). x.entries) edit_numbers_lem)) (sym (ap (λ (x : Numbers). x.mark) edit_numbers_lem)),
+      l.answer ∙ ap list_answer edit_listing ∙ ap₂ (λ (x y : ℕ). Ok (record { entries = x; mark = y })) (sym (ap (λ (x : Numbers). x.entries) edit_numbers_lem)) (sym (ap (λ (x : Numbers). x.mark) edit_numbers_lem)),
       l.leaves ∙ ap (λ (x : Outcome Listing). cells_after x list) edit_listing ∙ sym (p.listed ∙ ap (λ (x : Outcome Edited). list_after x list) outcome),
     )
 
@@ -224,9 +224,9 @@ module _ (buf : List ℕ) (used : ℕ) (ed : Edit) (k i : ℕ) (list buf' list' 
 -- ---- edits in a row
 
 -- the result of an accepted edit can be edited again, its new length being the used one: the second edit is one of the changed tone
-pub edit_again : (buf : List ℕ) (used : ℕ) (ed : Edit) (k i : ℕ) (list buf' list' : List ℕ) (r : Answer) → EditPromise buf used ed k i list buf' list' r
+pub edit_again : (buf : List ℕ) (used : ℕ) (ed : Edit) (k i : ℕ) (list buf' list' : List ℕ) (r : Result Made Refusal) → EditPromise buf used ed k i list buf' list' r
     → Accepting r → (t : Tone) → read_tone (take used buf) ≡ accepted t
-    → (ed₂ : Edit) (k₂ i₂ : ℕ) (list₂ buf₂ list₂' : List ℕ) (r₂ : Answer) → EditPromise buf' (new_length r) ed₂ k₂ i₂ list₂ buf₂ list₂' r₂
+    → (ed₂ : Edit) (k₂ i₂ : ℕ) (list₂ buf₂ list₂' : List ℕ) (r₂ : Result Made Refusal) → EditPromise buf' (new_length r) ed₂ k₂ i₂ list₂ buf₂ list₂' r₂
     → Accepting r₂ ↔ Conditions buf' (new_length r) ed₂ k₂ i₂ (length list₂) (changed ed k i t)
 edit_again buf used ed k i list buf' list' r p a t q ed₂ k₂ i₂ list₂ buf₂ list₂' r₂ p₂ =
     let q₂ = edit_result_reads buf used ed k i list buf' list' r p a t q in (
@@ -242,7 +242,7 @@ pub record Call : Type 0 where
   pub lent : List ℕ
   pub buffer : List ℕ
   pub list : List ℕ
-  pub answer : Answer
+  pub answer : Result Made Refusal
 
 -- calls in a row, each accepted, each handed the buffer and the length that the one before it left
 abbrev pub InARow : List ℕ → ℕ → List Call → Type 0

@@ -8,11 +8,16 @@ use lib.ListN.{length, take, replicate}
 use lib.Seq.{length-take-le}
 use lib.IntN.{ℤ, pos, ◌-ℤ◌}
 use borrow.Author.Tests.{le-leb, lt-leb}
+use Rattle.std.specs.Prelude.{Result, Ok, Err}
+use Rattle.bits.specs.Refusals.{number_of, on}
+use Rattle.bits.specs.declared.refusal.Refusal.{Refusal}
+use Rattle.bits.specs.declared.refusal.Ground.TheVariants.{TooLong, NoRoom}
+use Rattle.bits.proofs.Refusals.{grounded, GivenBy}
+use Rattle.bits.proofs.Answered.{by_number}
 use Rattle.bits.specs.Bits.{bits_of, octets_to}
 use Rattle.bits.specs.Lent.{over}
 use Rattle.bits.specs.Outcome.{Outcome, accepted, refused, and_then}
-use Rattle.bits.specs.declared.BitPlace.{BitPlace}
-use Rattle.bits.specs.Places.{place, octet_count}
+use Rattle.bits.specs.Places.{octet_count}
 use Rattle.tone.specs.Tone.{Pattern, Tone, front_of, cells, none_known}
 use Rattle.tone.specs.Writing.{table_bits, front_bits, end_bits, tone_bits, tone_length, tone_octets, most_octets, WellFormed}
 use Rattle.tone.specs.Reading.{got, patterns_due, read_tone}
@@ -30,24 +35,21 @@ use Rattle.edit_build.specs.Anew.{Built}
 use Rattle.edit_build.proofs.Builds.{length_joined}
 use Rattle.edit_change.specs.declared.Edit.{Edit}
 use Rattle.edit_change.specs.Change.{changed}
-use Rattle.edit.specs.declared.Answer.{Answer}
-use Rattle.edit.specs.declared.Answer.TheVariants.{Edited as Made, Refused}
+use Rattle.edit.specs.declared.Edited.{Edited as Made}
 use Rattle.edit.specs.declared.Outline.{Outline}
 use Rattle.edit.specs.declared.Layout.{Layout}
-use Rattle.edit.specs.declared.Plan.{Plan}
-use Rattle.edit.specs.declared.Plan.TheVariants.{Halt, Go}
 use Rattle.edit.specs.Editing.{Edited, in_buffer, with_list, edit_message, cleared, buffer_after, list_after}
 use Rattle.edit.specs.Plan.{Written, joined_by, end_of, Laid, SomeLaid, Going, Plans}
 use Rattle.edit.specs.Promise.{numbers_of, edit_numbers, edit_answer, Leaves, EditPromise}
 use Rattle.edit.proofs.Changes.{cleared_over}
 
 -- the numbers of an answer are those that the rules ask for
-numbers_are : (used : ℕ) (o : Outcome Edited) → numbers_of (edit_answer used o) ≡ edit_numbers used o
-numbers_are used (accepted d) = refl
-numbers_are used (refused n p) = refl
+numbers_are : (used : ℕ) (o : Outcome Edited) → GivenBy o → numbers_of (edit_answer used o) ≡ edit_numbers used o
+numbers_are used (accepted d) g = refl
+numbers_are used (refused n p) g = rw g refl
 
-pub leaves : (o : Outcome Edited) (used : ℕ) (buf list buf' list' : List ℕ) (r : Answer) → r ≡ edit_answer used o → buf' ≡ buffer_after o used buf → list' ≡ list_after o list → Leaves o used buf list buf' list' r
-leaves o used buf list buf' list' r a b c = record { answer = a; numbers = ap numbers_of a ∙ numbers_are used o; buffer = b; listed = c }
+pub leaves : (o : Outcome Edited) (used : ℕ) (buf list buf' list' : List ℕ) (r : Result Made Refusal) → GivenBy o → r ≡ edit_answer used o → buf' ≡ buffer_after o used buf → list' ≡ list_after o list → Leaves o used buf list buf' list' r
+leaves o used buf list buf' list' r g a b c = record { answer = a; numbers = ap numbers_of a ∙ numbers_are used o g; buffer = b; listed = c }
 
 -- ---- putting a message in place
 
@@ -69,10 +71,10 @@ module _ (new buf list : List ℕ) (used : ℕ) {o : Outline} (w : Written new o
   unfolding playing_list
   count = list_count at_start no_bodies 0 w.tone.patterns ∙ sym w.outlines.entries
 
-  pub finish_short : length list / entry_cells < o.entries → (t : Tone) → WellFormed t → tone_octets t ≡ new → Leaves (with_list (length list) t) used buf list buf list (Refused 11 (place 0))
-  finish_short h t f e =
+  pub finish_short : {r : Refusal} → r ≡ on NoRoom 0 → length list / entry_cells < o.entries → (t : Tone) → WellFormed t → tone_octets t ≡ new → Leaves (with_list (length list) t) used buf list buf list (Err r)
+  finish_short {r} q h t f e =
       let z : with_list (length list) t ≡ refused 11 0 = ap (with_list (length list)) (same_tone t f e) ∙ (rw (count, lt-leb (entry_cells * o.entries) (length list) (omega arith)) refl) in
-      rw z (leaves (refused 11 0) used buf list buf list (Refused 11 (place 0)) refl refl refl)
+      rw z (leaves (refused 11 0) used buf list buf list (Err r) refl (ap (λ (x : Refusal). Err x) q) refl refl)
 
   module _ (h : o.entries ≤ length list / entry_cells) where
     pub finish_patterns : PatternsAt new o.first.0 o.patterns (patterns_in new o.first.0 o.patterns) (end_in new o.first.0 o.patterns)
@@ -86,7 +88,7 @@ module _ (new buf list : List ℕ) (used : ℕ) {o : Outline} (w : Written new o
 
     pub finish_made : {list' buf₁ buf₂ : List ℕ} {ch : ℤ} {n : ℕ} → length new ≡ n → list' ≡ over (numbers (play at_start no_bodies 0 (patterns_in new o.first.0 o.patterns)).entries) list → n ≤ length buf
         → buf₁ ≡ over new buf → buf₂ ≡ cleared n used buf₁ → ch ≡ pos n -ℤ pos used
-        → (t : Tone) → WellFormed t → tone_octets t ≡ new → Leaves (with_list (length list) t) used buf list buf₂ list' (Made (octet_count n) o.entries o.mark ch)
+        → (t : Tone) → WellFormed t → tone_octets t ≡ new → Leaves (with_list (length list) t) used buf list buf₂ list' (Ok (record { length = octet_count n; entries = o.entries; mark = o.mark; change = ch }))
     unfolding playing_list
     finish_made {list'} {buf₁} {buf₂} {ch} {n} hn z l b₁ b₂ hc t f e =
         let g = playing_list w.tone in
@@ -101,7 +103,7 @@ module _ (new buf list : List ℕ) (used : ℕ) {o : Outline} (w : Written new o
         let e₃ : octet_count n ≡ octet_count (tone_length w.tone) = ap octet_count size in
         let e₄ : ch ≡ pos (tone_length w.tone) -ℤ pos used = hc ∙ ap (λ (y : ℕ). pos y -ℤ pos used) size in
         let listing : list' ≡ over (numbers g.entries) list = z ∙ ap (λ (x : List Pattern). over (numbers (play at_start no_bodies 0 x).entries) list) patterns_are in
-        rw d (leaves (accepted (record { tone = w.tone; listing = g })) used buf list buf₂ list' (Made (octet_count n) o.entries o.mark ch) (cc) buffer listing)
+        rw d (leaves (accepted (record { tone = w.tone; listing = g })) used buf list buf₂ list' (Ok (record { length = octet_count n; entries = o.entries; mark = o.mark; change = ch })) tt (cc) buffer listing)
 
 -- ---- building, and what is refused before it
 
@@ -114,21 +116,21 @@ module _ (m : List ℕ) (l : Layout) (buf list : List ℕ) (used : ℕ) {z : ℕ
   length_is : {t : Tone} → Laid m l t → z + 1 ≡ tone_length t
   length_is y = ap (λ (x : ℕ). x + 1) (hz ∙ ap octets_to (sym (joined_length y) ∙ ap length y.spells))
 
-  pub carry_long : 4096 < z + 1 → (t : Tone) → Laid m l t → Leaves (and_then (in_buffer (length buf) t) (with_list (length list))) used buf list buf list (Refused 1 (place 0))
-  carry_long h t y =
+  pub carry_long : {r : Refusal} → r ≡ on TooLong 0 → 4096 < z + 1 → (t : Tone) → Laid m l t → Leaves (and_then (in_buffer (length buf) t) (with_list (length list))) used buf list buf list (Err r)
+  carry_long {r} q h t y =
       let n = length_is y in
       let o : in_buffer (length buf) t ≡ refused 1 0 = rw (lt-leb (tone_length t) most_octets (omega arith)) refl in
-      rw o (leaves (refused 1 0) used buf list buf list (Refused 1 (place 0)) refl refl refl)
+      rw o (leaves (refused 1 0) used buf list buf list (Err r) refl (ap (λ (x : Refusal). Err x) q) refl refl)
 
   module _ (s : z + 1 ≤ 4096) where
-    pub carry_room : length buf < z + 1 → (t : Tone) → Laid m l t → Leaves (and_then (in_buffer (length buf) t) (with_list (length list))) used buf list buf list (Refused 11 (place 0))
-    carry_room h t y =
+    pub carry_room : {r : Refusal} → r ≡ on NoRoom 0 → length buf < z + 1 → (t : Tone) → Laid m l t → Leaves (and_then (in_buffer (length buf) t) (with_list (length list))) used buf list buf list (Err r)
+    carry_room {r} q h t y =
         let n = length_is y in
         let o : in_buffer (length buf) t ≡ refused 11 0 = rw (le-leb (tone_length t) most_octets (omega arith), lt-leb (tone_length t) (length buf) (omega arith)) refl in
-        rw o (leaves (refused 11 0) used buf list buf list (Refused 11 (place 0)) refl refl refl)
+        rw o (leaves (refused 11 0) used buf list buf list (Err r) refl (ap (λ (x : Refusal). Err x) q) refl refl)
 
     -- what is built apart, in the buffer
-    pub carry_done : {buf' list' : List ℕ} {r : Answer} → z + 1 ≤ length buf → ((t : Tone) → Laid m l t → Leaves (with_list (length list) t) used buf list buf' list' r)
+    pub carry_done : {buf' list' : List ℕ} {r : Result Made Refusal} → z + 1 ≤ length buf → ((t : Tone) → Laid m l t → Leaves (with_list (length list) t) used buf list buf' list' r)
         → (t : Tone) → Laid m l t → Leaves (and_then (in_buffer (length buf) t) (with_list (length list))) used buf list buf' list' r
     carry_done h k t y =
         let n = length_is y in
@@ -150,7 +152,7 @@ module _ (m : List ℕ) (l : Layout) (buf list : List ℕ) (used : ℕ) {z : ℕ
       pub apart_written : SomeLaid m l → Written (take n scratch) l.outline
       apart_written y = let x = written y.laid in record { tone = y.tone; formed = x.0; writes = x.1; outlines = y.laid.outlines }
 
-      pub apart_done : {buf' list' new : List ℕ} {r : Answer} → new ≡ take n scratch → ((t : Tone) → WellFormed t → tone_octets t ≡ new → Leaves (with_list (length list) t) used buf list buf' list' r)
+      pub apart_done : {buf' list' new : List ℕ} {r : Result Made Refusal} → new ≡ take n scratch → ((t : Tone) → WellFormed t → tone_octets t ≡ new → Leaves (with_list (length list) t) used buf list buf' list' r)
           → (t : Tone) → Laid m l t → Leaves (with_list (length list) t) used buf list buf' list' r
       apart_done e k t y = let x = written y in k t x.0 (x.1 ∙ sym e)
 
@@ -168,30 +170,30 @@ module _ (buf : List ℕ) (used : ℕ) {l : Layout} (p : (used ≤ length buf) �
 -- ---- the whole edit
 
 module _ (buf list : List ℕ) (used : ℕ) (ed : Edit) (k i : ℕ) where
-  pub edit_beyond : length buf < used → EditPromise buf used ed k i list buf list (Refused 1 (place 0))
+  pub edit_beyond : {r : Refusal} → r ≡ on TooLong 0 → length buf < used → EditPromise buf used ed k i list buf list (Err r)
   unfolding edit_message
-  edit_beyond h = rw (lt-leb used (length buf) h) (leaves (refused 1 0) used buf list buf list (Refused 1 (place 0)) refl refl refl)
+  edit_beyond {r} q h = rw (lt-leb used (length buf) h) (leaves (refused 1 0) used buf list buf list (Err r) refl (ap (λ (x : Refusal). Err x) q) refl refl)
 
   module _ (h : used ≤ length buf) where
     abbrev m : List ℕ
     m = take used buf
 
-    -- a plan that halts
-    pub edit_halt : {pl : Plan} {n : ℕ} {p : BitPlace} → Plans (take used buf) (record { edit = ed; pattern = k; instruction = i }) pl → pl ≡ Halt n p → EditPromise buf used ed k i list buf list (Refused n p)
+    -- a plan that refuses
+    pub edit_halt : {pl : Result Layout Refusal} {r : Refusal} → Plans (take used buf) (record { edit = ed; pattern = k; instruction = i }) pl → pl ≡ Err r → EditPromise buf used ed k i list buf list (Err r)
     unfolding edit_message
-    edit_halt {pl} {n} {p} y z =
+    edit_halt {pl} {r} y z =
         let e = subst (Plans (take used buf) (record { edit = ed; pattern = k; instruction = i })) z y in
-        rw (le-leb used (length buf) h, e) (leaves (refused n p.0) used buf list buf list (Refused n p) refl refl refl)
+        rw (le-leb used (length buf) h, e) (leaves (refused (number_of r.why) r.place.0) used buf list buf list (Err r) (ap number_of (grounded r.why)) (ap (λ (x : Refusal). Err x) (sym (by_number r))) refl refl)
 
     -- a plan that goes on
-    module _ {pl : Plan} {l : Layout} (y : Plans (take used buf) (record { edit = ed; pattern = k; instruction = i }) pl) (z : pl ≡ Go l) where
+    module _ {pl : Result Layout Refusal} {l : Layout} (y : Plans (take used buf) (record { edit = ed; pattern = k; instruction = i }) pl) (z : pl ≡ Ok l) where
       going : Going (take used buf) ed k i l
       going = subst (Plans (take used buf) (record { edit = ed; pattern = k; instruction = i })) z y
 
       pub edit_laid : (used ≤ length buf) × (used ≤ 4096) × SomeLaid (take used buf) l
       edit_laid = (h, omega (arith, going.short, length-take-le used buf h), record { tone = changed ed k i going.tone; laid = going.laid })
 
-      pub edit_done : {r : Answer} {buf' list' : List ℕ} → ((t : Tone) → Laid (take used buf) l t → Leaves (and_then (in_buffer (length buf) t) (with_list (length list))) used buf list buf' list' r) → EditPromise buf used ed k i list buf' list' r
+      pub edit_done : {r : Result Made Refusal} {buf' list' : List ℕ} → ((t : Tone) → Laid (take used buf) l t → Leaves (and_then (in_buffer (length buf) t) (with_list (length list))) used buf list buf' list' r) → EditPromise buf used ed k i list buf' list' r
       unfolding edit_message
       edit_done e = rw (le-leb used (length buf) h, going.reads, going.accepts) (e (changed ed k i going.tone) going.laid)
 

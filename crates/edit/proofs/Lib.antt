@@ -4,6 +4,7 @@ pub mod Changes
 pub mod Planning
 pub mod Finishing
 pub mod Exactly
+pub mod Numbered
 pub mod Order
 pub mod Unique
 pub mod Calls

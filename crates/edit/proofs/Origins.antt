@@ -19,7 +19,9 @@ use Rattle.list_rules.proofs.Origins.{table_cell, LeadsTo, origin_header, origin
 use Rattle.edit_change.specs.declared.Edit.{Edit}
 use Rattle.edit_change.specs.declared.Edit.TheVariants.{Replace, Insert, Delete}
 use Rattle.edit_change.specs.Change.{body_after, changed, in_body, is_there, carries_new, instruction_place}
-use Rattle.edit.specs.declared.Answer.{Answer}
+use Rattle.std.specs.Prelude.{Result}
+use Rattle.bits.specs.declared.refusal.Refusal.{Refusal}
+use Rattle.edit.specs.declared.Edited.{Edited}
 use Rattle.edit.specs.Editing.{edit_tone}
 use Rattle.edit.specs.Promise.{EditPromise}
 use Rattle.edit.proofs.Demand3.{pattern_after}
@@ -56,7 +58,7 @@ module _ (t : Tone) (front : List Entry) (r : Entry) (rest : List Entry) (h : (p
     pub bits_ahead : Ahead r.header r.position t old new
     pub body : (pattern_at (changed ed r.header r.position t).patterns r.header).body ≡ body_after ed r.position (pattern_at t.patterns r.header).body
 
-  pub edits_what_sounds : (buf : List ℕ) (used : ℕ) (ed : Edit) (list buf' list' : List ℕ) (a : Answer) → EditPromise buf used ed r.header r.position list buf' list' a
+  pub edits_what_sounds : (buf : List ℕ) (used : ℕ) (ed : Edit) (list buf' list' : List ℕ) (a : Result Edited Refusal) → EditPromise buf used ed r.header r.position list buf' list' a
       → Accepting a → read_tone (take used buf) ≡ accepted t → EditsWhatSounds ed (bits_of (take used buf)) (bits_of (take (new_length a) buf'))
   edits_what_sounds buf used ed list buf' list' a p accepts q =
       let k = r.header in

@@ -10,10 +10,16 @@ use lib.Dec.{leb, ltb}
 use borrow.Author.Tests.{not-true, not-false, le-ltb, lt-ltb, ltb-true, eq-eqb}
 use mir.Val.{Fits}
 use mir.Syntax.{w32}
+use Rattle.std.specs.Prelude.{Result, Ok, Err, ⊤}
+use Rattle.bits.specs.Refusals.{number_of}
+use Rattle.bits.specs.declared.refusal.Ground.{Ground}
+use Rattle.bits.specs.declared.refusal.Ground.TheVariants.{Code, NotThere}
+use Rattle.bits.specs.declared.refusal.Refusal.{Refusal}
+use Rattle.bits.proofs.Refusals.{Given}
+use Rattle.bits.proofs.Answered.{refusal_answered, acceptance_answered}
 use Rattle.bits.specs.Choice.{pick}
 use Rattle.bits.specs.Outcome.{Outcome, accepted, refused, and_then}
 use Rattle.bits.specs.declared.BitPlace.{BitPlace}
-use Rattle.bits.specs.declared.OctetCount.{OctetCount}
 use Rattle.bits.proofs.Octets.{length_bits_of}
 use Rattle.bits.specs.Places.{place}
 use Rattle.tone.specs.Tone.{Pattern, Tone, Front, front_of, specifier, header, cells, pattern_at, none_known, Sound as SoundPart}
@@ -21,21 +27,21 @@ use Rattle.tone.specs.Writing.{entry_bits, table_bits, front_bits}
 use Rattle.tone.specs.Reading.{read_tone}
 use Rattle.tone.proofs.Rows.{table_bits_append, header_small, header_wide}
 use Rattle.tone.proofs.Positions.{sound_at}
+use Rattle.tone.proofs.Numbered.{tone_numbered}
 use Rattle.tone_judge.specs.declared.Wish.{Wish}
 use Rattle.tone_judge.specs.declared.Cut.{Cut}
 use Rattle.tone_judge.specs.declared.Total.{Total}
 use Rattle.tone_judge.specs.declared.Judged.{Judged}
-use Rattle.tone_judge.specs.declared.Judged.TheVariants.{Sound, Faulty}
 use Rattle.list_count.specs.Bodies.{no_bodies}
 use Rattle.list_count.specs.Counting.{entry_count, mark_from}
 use Rattle.tone_judge.specs.Wishes.{grants, wished, place_in, cut_of, no_cut}
-use Rattle.tone_judge.specs.Answers.{total_of, judged_for}
+use Rattle.tone_judge.specs.Answers.{total_of, judged as told_as, judged_for}
 use Rattle.tone_read.proofs.Told.{Told, told}
 use Rattle.edit_change.specs.declared.Edit.{Edit}
 use Rattle.edit_change.specs.Change.{carried, removed, body_after, with_body, changed, carries_new, in_body, empties, overfills, header_place}
-use Rattle.edit_change.specs.Answers.{Puts, ground_of}
+use Rattle.edit_change.specs.Answers.{Puts, ground_of, ground_as}
 use Rattle.edit_change.proofs.Bodies.{Fits as FitsEdit, length_after, body_instructions, cells_append, changed_formed, front_same}
-use Rattle.edit_change.proofs.Grounds.{no_ground}
+use Rattle.edit_change.proofs.Grounds.{no_ground, ground_granted, ground_refused}
 use Rattle.edit_build.specs.declared.Piece.{Piece}
 use Rattle.edit.specs.declared.Outline.{Outline}
 use Rattle.edit.specs.Editing.{body_length, edit_tone}
@@ -45,15 +51,27 @@ use Rattle.edit.proofs.Rebuilt.{joined_is}
 -- ---- the ground
 
 module _ (ed : Edit) (k i p c : ℕ) {b : Bool} (q : b ≡ carries_new ed) where
-  pub ground_new : not b ≡ true → ◌≡◌ {A = ℕ} 6 (ground_for ed k i p c)
+  pub ground_new : not b ≡ true → Err Code ≡ ground_as (ground_for ed k i p c)
   ground_new h = rw (sym q ∙ not-true b h) refl
 
   module _ (h : not b ≡ false) where
-    pub ground_pattern : p ≤ k → ◌≡◌ {A = ℕ} 12 (ground_for ed k i p c)
+    pub ground_pattern : p ≤ k → Err NotThere ≡ ground_as (ground_for ed k i p c)
     ground_pattern l = rw (sym q ∙ not-false b h, le-ltb k p l) refl
 
-    pub ground_body : k < p → {g : ℕ} → g ≡ ground_of ed i (c % 256) → g ≡ ground_for ed k i p c
+    pub ground_body : k < p → {g : Result ⊤ Ground} → g ≡ ground_as (ground_of ed i (c % 256)) → g ≡ ground_as (ground_for ed k i p c)
     ground_body l e = rw (sym q ∙ not-false b h, lt-ltb k p l) e
+
+-- a ground against an edit is a number of 01
+ground_given : (ed : Edit) (k i p c : ℕ) → (ground_for ed k i p c ≡ 0 → ⊥) → Given (ground_for ed k i p c)
+ground_given ed k i p c = go (carries_new ed) (ltb k p) (leb 1 (c % 256) && in_body ed i (c % 256)) (empties ed (c % 256)) (overfills ed (c % 256))
+  where
+    go : (a b x y z : Bool) → (pick {A = ℕ} a (pick b (pick x (pick y 13 (pick z 14 0)) 12) 12) 6 ≡ 0 → ⊥) → Given (pick a (pick b (pick x (pick y 13 (pick z 14 0)) 12) 12) 6)
+    go false b x y z h = refl
+    go true false x y z h = refl
+    go true true false y z h = refl
+    go true true true true z h = refl
+    go true true true false true h = refl
+    go true true true false false h = absurd (h refl)
 
 pub ruleset grounds = (ground_new, ground_pattern, ground_body)
 
@@ -118,14 +136,17 @@ record Judging (w : Wish) (m : List ℕ) (f : BitPlace) (p : ℕ) (v : Total) : 
   patterns : p ≡ length tone.patterns
   total : v ≡ total_of w (length (front_bits (front_of tone))) tone.patterns
 
-judging_of : (w : Wish) (m : List ℕ) {s : ℕ} {f : BitPlace} {o : OctetCount} {p : ℕ} {v : Total} {u : Bool} → Sound s f o p v u ≡ judged_for w (read_tone m) → Judging w m f p v
-judging_of w m {s} {f} {o} {p} {v} {u} h = go (read_tone m) refl h
-  where
-    go : (x : Outcome Tone) → read_tone m ≡ x → Sound s f o p v u ≡ judged_for w x → Judging w m f p v
-    go (accepted t) q g = record { tone = t; reads = q; first = cc; patterns = cc; total = cc }
-    go (refused n' p') q g = let z : ◌≡◌ {A = ℕ} 0 1 = cc in absurd (omega arith)
+-- where the patterns of a tone begin in its message
+abbrev start : Tone → ℕ
+start t = length (front_bits (front_of t))
 
-module _ (w : Wish) (m : List ℕ) {j : Judged} (q : j ≡ judged_for w (read_tone m)) where
+judging_of : (w : Wish) (m : List ℕ) {v : Judged} → Ok v ≡ judged_for w (read_tone m) → Judging w m v.at v.patterns v.total
+judging_of w m {v} h =
+    let a = acceptance_answered (λ t. told_as (total_of w) (start t) t) (read_tone m) h in
+    let e = a.2 in
+    record { tone = a.0; reads = a.1; first = ap (λ (x : Judged). x.at) e; patterns = ap (λ (x : Judged). x.patterns) e; total = ap (λ (x : Judged). x.total) e }
+
+module _ (w : Wish) (m : List ℕ) {j : Result Judged Refusal} (q : j ≡ judged_for w (read_tone m)) where
   abbrev ed : Edit
   ed = w.edit
 
@@ -136,15 +157,22 @@ module _ (w : Wish) (m : List ℕ) {j : Judged} (q : j ≡ judged_for w (read_to
   i = w.instruction
 
   -- the message's own refusal
-  pub plan_faulty : {n : ℕ} {p : BitPlace} → j ≡ Faulty n p → and_then (read_tone m) (edit_tone w.edit w.pattern w.instruction) ≡ refused n p.0
-  plan_faulty {n} {p} g = go (read_tone m) (sym g ∙ q)
-    where
-      go : (x : Outcome Tone) → Faulty n p ≡ judged_for w x → and_then x (edit_tone ed k i) ≡ refused n p.0
-      go (accepted t) z = let y : ◌≡◌ {A = ℕ} 0 1 = cc in absurd (omega arith)
-      go (refused n' p') z = let e₁ : n ≡ n' = cc in let e₂ : p ≡ place p' = cc in rw (e₁, e₂) refl
+  pub plan_faulty : {r : Refusal} → j ≡ Err r → and_then (read_tone m) (edit_tone w.edit w.pattern w.instruction) ≡ refused (number_of r.why) r.place.0
+  plan_faulty {r} g =
+      let o = refusal_answered (λ t. told_as (total_of w) (start t) t) (read_tone m) (tone_numbered m) (sym g ∙ q) in
+      ap (λ (x : Outcome Tone). and_then x (edit_tone ed k i)) o
 
-  module _ {s : ℕ} {f : BitPlace} {o : OctetCount} {p : ℕ} {v : Total} {u : Bool} (g : j ≡ Sound s f o p v u) where
-    jd : Judging w m f p v
+  module _ {y : Judged} (g : j ≡ Ok y) where
+    abbrev f : BitPlace
+    f = y.at
+
+    abbrev p : ℕ
+    p = y.patterns
+
+    abbrev v : Total
+    v = y.total
+
+    jd : Judging w m y.at y.patterns y.total
     jd = judging_of w m (sym g ∙ q)
 
     abbrev t : Tone
@@ -173,16 +201,22 @@ module _ (w : Wish) (m : List ℕ) {j : Judged} (q : j ≡ judged_for w (read_to
     size : k < length t.patterns → v.cut.cell % 256 ≡ body_length k t
     size l = ap specifier (cell_is l) ∙ (header_small part (sound l)).1
 
-    module _ {r : ℕ} (e : r ≡ ground_for w.edit w.pattern w.instruction p v.cut.cell) where
-      ground : r ≡ ground_for ed k i (length t.patterns) v.cut.cell
-      ground = e ∙ ap (λ (x : ℕ). ground_for ed k i x v.cut.cell) jd.patterns
+    module _ {r : Result ⊤ Ground} (e : r ≡ ground_as (ground_for w.edit w.pattern w.instruction y.patterns y.total.cut.cell)) where
+      -- its number
+      abbrev n : ℕ
+      n = ground_for w.edit w.pattern w.instruction y.patterns y.total.cut.cell
 
-      pub plan_ground : (r ≡ 0 → ⊥) → and_then (read_tone m) (edit_tone w.edit w.pattern w.instruction) ≡ refused r 0
-      plan_ground h = ap (λ (x : Outcome Tone). and_then x (edit_tone ed k i)) jd.reads ∙ ground_refuses ed k i v.cut.cell t size ground h
+      ground : n ≡ ground_for ed k i (length t.patterns) v.cut.cell
+      ground = ap (λ (x : ℕ). ground_for ed k i x v.cut.cell) jd.patterns
 
-      module _ (z : r ≡ 0) where
+      pub plan_ground : {z : Ground} → r ≡ Err z → and_then (read_tone m) (edit_tone w.edit w.pattern w.instruction) ≡ refused (number_of z) 0
+      plan_ground {z} h =
+          let o = ground_refused n (ground_given ed k i p v.cut.cell) (sym h ∙ e) in
+          ap (λ (x : Outcome Tone). and_then x (edit_tone ed k i)) jd.reads ∙ ground_refuses ed k i v.cut.cell t size ground o.1 ∙ ap (λ (x : ℕ). refused x 0) o.0
+
+      module _ {u : ⊤} (z : r ≡ Ok u) where
         grant : Granted ed k i v.cut.cell t size
-        grant = ground_grants ed k i v.cut.cell t size ground z
+        grant = ground_grants ed k i v.cut.cell t size ground (ground_granted n (sym z ∙ e))
 
         pub plan_new : carries_new w.edit ≡ true
         plan_new = grant.new
@@ -216,14 +250,14 @@ module _ (w : Wish) (m : List ℕ) {j : Judged} (q : j ≡ judged_for w (read_to
         small = rw (cell_is grant.found) (header_small part (sound grant.found)).0
 
         module _ {a : ℕ} (ha : (a ≡ length (carried w.edit)) × (a ≤ 1)) where
-          pub plan_cell_fits : Fits w32 (v.cut.cell + a)
+          pub plan_cell_fits : Fits w32 (y.total.cut.cell + a)
           plan_cell_fits = record { fits = omega (arith, small, ha.1) }
 
           module _ {rm : ℕ} (hm : (rm ≡ removed w.edit) × (rm ≤ 1)) where
             counts : v.cut.cell % 256 ≡ length b
             counts = size grant.found
 
-            pub plan_cell_least : rm ≤ v.cut.cell + a
+            pub plan_cell_least : rm ≤ y.total.cut.cell + a
             plan_cell_least = omega (arith, counts, fit.inside, hm.0)
 
             new_cell : v.cut.cell + a - rm ≡ header after
@@ -253,9 +287,9 @@ module _ (w : Wish) (m : List ℕ) {j : Judged} (q : j ≡ judged_for w (read_to
             taken : length (table_bits (take (i + removed ed) b)) ≡ length (table_bits (take i b)) + length (table_bits (take (removed ed) (drop i b)))
             taken = ap (λ (x : List ℕ). length (table_bits x)) (take-add i (removed ed) b) ∙ ap length (table_bits_append (take i b) (take (removed ed) (drop i b))) ∙ length-append (table_bits (take i b)) (table_bits (take (removed ed) (drop i b)))
 
-            pub plan_go : {pc : Piece} {ol : Outline} → Puts (carried w.edit) pc.width pc.value → (ol.first ≡ f) × (ol.patterns ≡ p) × (ol.entries ≡ v.list) × (ol.mark ≡ v.mark)
+            pub plan_go : {pc : Piece} {ol : Outline} → Puts (carried w.edit) pc.width pc.value → (ol.first ≡ y.at) × (ol.patterns ≡ y.patterns) × (ol.entries ≡ y.total.list) × (ol.mark ≡ y.total.mark)
                 → Going m w.edit w.pattern w.instruction
-                (record { header = v.cut.header; cell = v.cut.cell + a - rm; spot = record { at = v.cut.at; behind = v.cut.behind; end = v.end }; piece = pc; outline = ol })
+                (record { header = y.total.cut.header; cell = y.total.cut.cell + a - rm; spot = record { at = y.total.cut.at; behind = y.total.cut.behind; end = y.total.end }; piece = pc; outline = ol })
             plan_go pu ho =
                 let ps = t.patterns in
                 let eh : v.cut.header.0 ≡ header_place t k = ap (λ (c : Cut). c.header.0) cut_there in

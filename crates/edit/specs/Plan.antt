@@ -1,8 +1,10 @@
 -- The plan of an edit: why it is refused, or what is put where.
-use Rattle.std.specs.Prelude.{ℕ, ◌+◌, ◌-◌, ◌^◌, ◌≤◌, ◌<◌, ◌≡◌, Bool, List, length, ltb}
+use Rattle.std.specs.Prelude.{ℕ, ◌+◌, ◌-◌, ◌^◌, ◌≤◌, ◌<◌, ◌≡◌, Bool, List, length, ltb, Result, Ok, Err}
 use Rattle.bits.specs.Choice.{pick}
 use Rattle.bits.specs.Bits.{bits_of, place_after}
 use Rattle.bits.specs.Outcome.{accepted, refused, and_then}
+use Rattle.bits.specs.Refusals.{number_of}
+use Rattle.bits.specs.declared.refusal.Refusal.{Refusal}
 use Rattle.tone.specs.Tone.{Tone, front_of, specifier, Formed}
 use Rattle.tone.specs.Writing.{front_bits, song_bits, tone_octets, most_octets, WellFormed}
 use Rattle.tone.specs.Reading.{read_tone}
@@ -15,8 +17,6 @@ use Rattle.edit_change.specs.Change.{changed, carries_new}
 use Rattle.edit_change.specs.Answers.{ground_of}
 use Rattle.edit.specs.declared.Outline.{Outline}
 use Rattle.edit.specs.declared.Layout.{Layout}
-use Rattle.edit.specs.declared.Plan.{Plan}
-use Rattle.edit.specs.declared.Plan.TheVariants.{Halt, Go}
 use Rattle.edit.specs.Editing.{edit_tone}
 
 -- the ground against an edit at instruction i of the pattern at k, of p, whose header is c: 6, 12, 13, 14, or 0 for none
@@ -80,6 +80,6 @@ pub record Going (m : List ℕ) (ed : Edit) (k i : ℕ) (l : Layout) : Type 0 wh
   pub laid : Laid m l (changed ed k i tone)
 
 -- what a plan says of an edit of a message
-abbrev pub Plans : List ℕ → Wish → Plan → Type 0
-Plans m w (Halt n p) = and_then (read_tone m) (edit_tone w.edit w.pattern w.instruction) ≡ refused n p.0
-Plans m w (Go l) = Going m w.edit w.pattern w.instruction l
+abbrev pub Plans : List ℕ → Wish → Result Layout Refusal → Type 0
+Plans m w (Err r) = and_then (read_tone m) (edit_tone w.edit w.pattern w.instruction) ≡ refused (number_of r.why) r.place.0
+Plans m w (Ok l) = Going m w.edit w.pattern w.instruction l

@@ -3,32 +3,25 @@
 ghost use Rattle.std.specs.Prelude.{◌≡◌, ◌+◌, ◌≤◌, length, take, pos, ◌-ℤ◌};
 ghost use Rattle.bits.specs.Bits.{octets_to};
 ghost use Rattle.bits.specs.Outcome.{and_then};
-ghost use Rattle.bits.specs.Places.{place};
 ghost use Rattle.tone.specs.Tone.{Tone};
 ghost use Rattle.tone.specs.Writing.{tone_octets, WellFormed};
 ghost use Rattle.edit.specs.Editing.{cleared, in_buffer, with_list};
 ghost use Rattle.edit.specs.Promise.{Leaves, EditPromise};
-ghost use Rattle.edit.specs.declared.Answer.TheVariants.{Refused};
+ghost use Rattle.edit_change.specs.Answers.{ground_as};
 ghost use Rattle.edit.specs.Plan.{ground_for, Written, end_of, Laid, SomeLaid, Room, Plans};
 
-use bits::{BitPlace, OctetCount};
+use bits::{BitPlace, Ground, OctetCount, Refusal};
 use edit_build::{Piece, Spot};
 use edit_change::Edit;
-use tone_judge::{Judged, Total, Wish};
+use tone_judge::{Total, Wish};
 
-// What an edit answers: the new length, the entries of the new list, its return mark and the change in octets; or the refusal.
+// A message that was edited: its new length, the entries of the new list, its return mark and the change in octets.
 #[derive(Clone, Copy)]
-pub enum Answer {
-    Edited {
-        length: OctetCount,
-        entries: u32,
-        mark: u32,
-        change: i32,
-    },
-    Refused {
-        number: u32,
-        place: BitPlace,
-    },
+pub struct Edited {
+    pub length: OctetCount,
+    pub entries: u32,
+    pub mark: u32,
+    pub change: i32,
 }
 
 // ---- the plan
@@ -66,73 +59,48 @@ pub struct Layout {
     pub outline: Outline,
 }
 
-// Why an edit is refused, and where; or how the changed message is laid out.
-#[derive(Clone, Copy)]
-pub enum Plan {
-    Halt(u32, BitPlace),
-    Go(Layout),
-}
-
-// The ground against an edit at instruction `i` of the pattern at `k`, of so many, whose header is `cell`; 0 for none.
-fn ground(edit: Edit, k: usize, i: usize, patterns: u32, cell: u32) -> u32
-    ensures { result ≡ ground_for edit k i patterns cell }
+// The ground against an edit at instruction `i` of the pattern at `k`, of so many, whose header is `cell`.
+fn ground(edit: Edit, k: usize, i: usize, patterns: u32, cell: u32) -> Result<(), Ground>
+    ensures { result ≡ ground_as (ground_for edit k i patterns cell) }
 {
     if !edit_change::carries_new(edit) {
-        return 6;
+        return Err(Ground::Code);
     }
     if patterns as usize <= k {
-        return 12;
+        return Err(Ground::NotThere);
     }
     edit_change::ground(edit, i, (cell % 256) as usize)
 }
 
 // Judges a message with an edit in mind, and plans it. Judging has cut the part named, and counted the changed list.
-fn plan_edit(msg: &[u8], wish: Wish) -> Plan
+fn plan_edit(msg: &[u8], wish: Wish) -> Result<Layout, Refusal>
     ensures { Plans msg.now wish result }
 {
-    match tone_judge::judge_for(msg, wish) {
-        Judged::Faulty { number, at: fault } => Plan::Halt(number, fault),
-        Judged::Sound {
-            song: _,
-            at: first,
-            octets: _,
-            patterns,
-            total,
-            unicode: _,
-        } => {
-            let edit = wish.edit;
-            let cut = total.cut;
-            let cell = cut.cell;
-            let fault = ground(edit, wish.pattern, wish.instruction, patterns, cell);
-            if fault != 0 {
-                return Plan::Halt(fault, BitPlace(0));
-            }
-            let header = cut.header;
-            let at = cut.at;
-            let behind = cut.behind;
-            let end = total.end;
-            Plan::Go(Layout {
-                header,
-                cell: cell + edit_change::added(edit) - edit_change::removed(edit),
-                spot: Spot { at, behind, end },
-                piece: edit_change::carried_piece(edit),
-                outline: outlined(first, patterns, total),
-            })
-        }
-    }
+    let judged = tone_judge::judge_for(msg, wish)?;
+    let edit = wish.edit;
+    let total = judged.total;
+    let cut = total.cut;
+    ground(
+        edit,
+        wish.pattern,
+        wish.instruction,
+        judged.patterns,
+        cut.cell,
+    )?;
+    Ok(Layout {
+        header: cut.header,
+        cell: cut.cell + edit_change::added(edit) - edit_change::removed(edit),
+        spot: Spot {
+            at: cut.at,
+            behind: cut.behind,
+            end: total.end,
+        },
+        piece: edit_change::carried_piece(edit),
+        outline: outlined(judged.at, judged.patterns, total),
+    })
 }
 
 // ---- the edit
-
-// What is refused for want of room, or for a message too long, is placed at 0.
-fn halted(number: u32) -> Answer
-    ensures { result ≡ Refused number (place 0) }
-{
-    Answer::Refused {
-        number,
-        place: BitPlace(0),
-    }
-}
 
 // The change in octets: the new length minus the old.
 fn change(new: OctetCount, old: OctetCount) -> i32
@@ -164,7 +132,7 @@ fn finish(
     n: OctetCount,
     outline: Outline,
     list: &mut [u32],
-) -> Answer
+) -> Result<Edited, Refusal>
     requires used_in_bounds { (used.0 ≤ length buf.old) × (used.0 ≤ 4096) × Room n.0 (length buf.old) (length scratch.old) }
     requires written { Written (take n.0 scratch.old) outline }
     ensures { (t : Tone) → WellFormed t → tone_octets t ≡ take n.0 scratch.old → Leaves (with_list (length list.old) t) used.0 buf.old list.old buf.new list.new result }
@@ -173,21 +141,18 @@ fn finish(
     let entries = outline.entries;
     let mark = outline.mark;
     if list.len() / list_rules::ENTRY_CELLS < entries as usize {
-        return Answer::Refused {
-            number: 11,
-            place: BitPlace(0),
-        };
+        return Err(Ground::NoRoom.into());
     }
     let new = n.0;
     list_fill::fill_list(&scratch[..new], first, outline.patterns, list);
     edit_build::copy_octets(scratch, n, buf);
     clear(buf, n, used);
-    Answer::Edited {
+    Ok(Edited {
         length: n,
         entries,
         mark,
         change: change(n, used),
-    }
+    })
 }
 
 // Builds a changed message apart, in a scratch that has room for it, and puts it in place.
@@ -197,7 +162,7 @@ fn build_apart(
     layout: Layout,
     scratch: &mut [u8],
     list: &mut [u32],
-) -> Answer
+) -> Result<Edited, Refusal>
     requires used_in_bounds { (used.0 ≤ length buf.old) × (used.0 ≤ 4096) × SomeLaid (take used.0 buf.old) layout }
     requires room { Room (octets_to (end_of layout) + 1) (length buf.old) (length scratch.old) }
     ensures { (t : Tone) → Laid (take used.0 buf.old) layout t → Leaves (with_list (length list.old) t) used.0 buf.old list.old buf.new list.new result }
@@ -212,7 +177,12 @@ fn build_apart(
 }
 
 // Carries out an edit. A short message needs a short scratch: to clear a long one costs more than the edit.
-fn carry_out(buf: &mut [u8], used: OctetCount, layout: Layout, list: &mut [u32]) -> Answer
+fn carry_out(
+    buf: &mut [u8],
+    used: OctetCount,
+    layout: Layout,
+    list: &mut [u32],
+) -> Result<Edited, Refusal>
     requires { (used.0 ≤ length buf.old) × (used.0 ≤ 4096) × SomeLaid (take used.0 buf.old) layout }
     ensures { (t : Tone) → Laid (take used.0 buf.old) layout t → Leaves (and_then (in_buffer (length buf.old) t) (with_list (length list.old))) used.0 buf.old list.old buf.new list.new result }
 {
@@ -221,10 +191,10 @@ fn carry_out(buf: &mut [u8], used: OctetCount, layout: Layout, list: &mut [u32])
     let end = spot.at.0 + piece.width as usize + (spot.end.0 - spot.behind.0);
     let length = bits::octets_to(BitPlace(end)).0 + 1;
     if 4096 < length {
-        return halted(1);
+        return Err(Ground::TooLong.into());
     }
     if buf.len() < length {
-        return halted(11);
+        return Err(Ground::NoRoom.into());
     }
     if length <= 512 {
         let mut short = [0u8; 512];
@@ -242,20 +212,18 @@ pub fn edit_message(
     pattern: usize,
     instruction: usize,
     list: &mut [u32],
-) -> Answer
+) -> Result<Edited, Refusal>
     ensures { EditPromise buf.old used.0 edit pattern instruction list.old buf.new list.new result }
 {
     let old = used.0;
     if buf.len() < old {
-        return halted(1);
+        return Err(Ground::TooLong.into());
     }
     let wish = Wish {
         edit,
         pattern,
         instruction,
     };
-    match plan_edit(&buf[..old], wish) {
-        Plan::Halt(number, place) => Answer::Refused { number, place },
-        Plan::Go(layout) => carry_out(buf, used, layout, list),
-    }
+    let layout = plan_edit(&buf[..old], wish)?;
+    carry_out(buf, used, layout, list)
 }

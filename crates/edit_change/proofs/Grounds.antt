@@ -97,9 +97,9 @@ ground_granted zero e = refl
 ground_granted (suc n) e = not_refused e
 
 -- an answer that refuses has that of its ground
-pub ground_refused : (n : ℕ) {g : Ground} → Given n → Err g ≡ ground_as n → (n ≡ number_of g) × (n ≡ 0 → ⊥)
+pub ground_refused : (n : ℕ) {g : Ground} → ((n ≡ 0 → ⊥) → Given n) → Err g ≡ ground_as n → (n ≡ number_of g) × (n ≡ 0 → ⊥)
 ground_refused zero v e = not_refused (sym e)
-ground_refused (suc n) {g} v e = let x : g ≡ ground_by (suc n) = cc in (rw x (sym v), λ z. omega arith)
+ground_refused (suc n) {g} v e = let x : g ≡ ground_by (suc n) = cc in (rw x (sym (v (λ z. omega arith))), λ z. omega arith)
 
 -- whether an answer refuses says whether there is one
 pub ground_none_is : (n : ℕ) → is_err (ground_as n) ≡ false → n ≡ 0

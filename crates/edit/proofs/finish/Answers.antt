@@ -10,7 +10,7 @@ use Rattle.edit.proofs.finish.Goals as goal
 pub returns-then-list-entries : goal.returns-then-list-entries
 returns-then-list-entries c =
     let a = c.args in
-    finish_short (take a.n.0 a.scratch.now) a.buf.now a.list.now a.used.0 c.requires.written c.if-list-entries.true
+    finish_short (take a.n.0 a.scratch.now) a.buf.now a.list.now a.used.0 c.requires.written c.into.ensures c.if-list-entries.true
 
 pub slice_bounds-fill_list-end-2 : goal.slice_bounds-fill_list-end-2
 slice_bounds-fill_list-end-2 c =
