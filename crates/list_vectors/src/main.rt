@@ -17,22 +17,23 @@
 //   NAME, ROOM: refusal place entries mark: cells: digest
 ghost use Rattle.std.specs.Prelude.{◌≤◌, length};
 
+use bits::Refusal;
 use list::Listed;
 
 // ---- printing
 
 // Prints the numbers of an answer, and answers the entries.
-fn show_answer(answer: Listed) -> u32 {
+fn show_answer(answer: Result<Listed, Refusal>) -> u32 {
     match answer {
-        Listed::Made { entries, mark } => {
+        Ok(listed) => {
             io::write_all(1, b" 0 0");
-            vectors::number(entries as u64);
-            vectors::number(mark as u64);
-            entries
+            vectors::number(listed.entries as u64);
+            vectors::number(listed.mark as u64);
+            listed.entries
         }
-        Listed::Refused { number, place } => {
-            vectors::number(number as u64);
-            vectors::number(place.0 as u64);
+        Err(refusal) => {
+            vectors::number(refusal.why.number() as u64);
+            vectors::number(refusal.place.0 as u64);
             io::write_all(1, b" 0 0");
             0
         }
@@ -54,7 +55,7 @@ fn show_row(row: &[u32], entries: u32) {
 // ---- the call
 
 // Lists a message. It promises nothing, so that what calls it carries no promise along.
-fn listed(msg: &[u8], list: &mut [u32]) -> Listed {
+fn listed(msg: &[u8], list: &mut [u32]) -> Result<Listed, Refusal> {
     list::list(msg, list)
 }
 

@@ -30,71 +30,38 @@ pub fn number(n: u64) {
     io::print_decimal(1, n);
 }
 
-// Prints a change, which may be negative. No edit of one instruction changes more than two octets, so the cases are few,
-// and no signed number is converted. It answers as the call that writes does.
-pub fn signed(n: i32) -> bool {
-    match n {
-        -2 => io::write_all(1, b" -2"),
-        -1 => io::write_all(1, b" -1"),
-        0 => io::write_all(1, b" 0"),
-        1 => io::write_all(1, b" 1"),
-        2 => io::write_all(1, b" 2"),
-        _ => io::write_all(1, b" more"),
+// Prints a change, which may be negative, and a space ahead of it.
+pub fn signed(n: i32) {
+    if n < 0 {
+        io::write_all(1, b" -");
+    } else {
+        io::write_all(1, b" ");
     }
-}
-
-// An octet as a wider number, with its bound.
-fn wide(x: u8) -> u64
-    ensures { result < 256 }
-{
-    x as u64
-}
-
-// A cell as a wider number, with its bound.
-fn wider(x: u32) -> u64
-    ensures { result < 4294967296 }
-{
-    x as u64
+    io::print_decimal(1, u64::from(n.unsigned_abs()));
 }
 
 // Prints octets, each as two hexadecimal digits.
 fn octets(s: &[u8]) {
-    let mut i = 0;
-    while i < s.len() {
-        io::print_hex(1, wide(s[i]), 2);
-        i += 1;
+    for &x in s {
+        io::print_hex(1, u64::from(x), 2);
     }
 }
 
 // Prints cells.
 pub fn cells(s: &[u32]) {
-    let mut i = 0;
-    while i < s.len() {
-        number(wider(s[i]));
-        i += 1;
+    for &x in s {
+        number(u64::from(x));
     }
 }
 
 // Octets as one number, to which each octet and its place matter.
 pub fn digest(s: &[u8]) -> u64 {
-    let mut d: u64 = 1;
-    let mut i = 0;
-    while i < s.len() {
-        d = (d * 31 + wide(s[i])) % 1000003;
-        i += 1;
-    }
-    d
+    s.iter().fold(1, |d, &x| mixed(d, u64::from(x)))
 }
 
 // The same of cells.
 pub fn digest_cells(s: &[u32]) -> u64 {
-    let mut d: u64 = 1;
-    let mut i = 0;
-    while i < s.len() {
-        d = (d * 31 + wider(s[i])) % 1000003;
-        i += 1;
-    }
-    d
+    s.iter().fold(1, |d, &x| mixed(d, u64::from(x)))
 }
 
 // A digest with one number more.
@@ -104,47 +71,40 @@ pub fn mixed(d: u64, n: u64) -> u64 {
 
 // Prints a buffer of octets and a space ahead of it: all of them, or their digest where there are many.
 pub fn show_octets(s: &[u8]) {
-    io::write_all(1, b" ");
     if s.len() <= 48 {
+        io::write_all(1, b" ");
         octets(s);
-        return;
+    } else {
+        number(digest(s));
     }
-    io::print_decimal(1, digest(s));
 }
 
 // The same of cells.
 pub fn show_cells(s: &[u32]) {
     if s.len() <= 48 {
         cells(s);
-        return;
+    } else {
+        number(digest_cells(s));
     }
-    number(digest_cells(s));
 }
 
 // Prints a part of a buffer that was handed back: its octets counted, and the octets.
 pub fn show_part(s: &[u8]) {
     io::write_all(1, b":");
     number(s.len() as u64);
-    if s.len() != 0 {
+    if !s.is_empty() {
         show_octets(s);
     }
 }
 
 // ---- the text
 
-// The value of a digit, hexadecimal or decimal.
-fn digit(x: u8) -> u8
-    ensures { result < 16 }
-{
-    if x < b'a' {
-        return x % 16;
-    }
-    (x - 87) % 16
-}
-
-// A number with one decimal digit more, as far as it is below 2 ^ 64.
-fn with_digit(value: u64, x: u8) -> u64 {
-    std::num::wrapping_add_u64(value % 1844674407370955162 * 10, wide(digit(x)))
+// The number that decimal digits give; 0 where they give none.
+fn value(digits: &[u8]) -> u64 {
+    std::str::from_utf8(digits)
+        .ok()
+        .and_then(|text| text.parse().ok())
+        .unwrap_or(0)
 }
 
 // The number that starts at a place, and the place behind the space that ends it.
@@ -152,17 +112,17 @@ pub fn word(line: &[u8], at: usize) -> Parsed
     requires { at ≤ length line.now }
     ensures { (at ≤ result.next) × (result.next ≤ length line.now) }
 {
-    let mut value: u64 = 0;
-    let mut i = at;
-    while i < line.len() {
-        let x = line[i];
-        i += 1;
-        if x == b' ' {
-            return Parsed { value, next: i };
-        }
-        value = with_digit(value, x);
+    let rest = &line[at..];
+    match rest.iter().position(|&x| x == b' ') {
+        Some(n) => Parsed {
+            value: value(&rest[..n]),
+            next: at + n + 1,
+        },
+        None => Parsed {
+            value: value(rest),
+            next: line.len(),
+        },
     }
-    Parsed { value, next: i }
 }
 
 // A number of the text as a cell.
@@ -186,14 +146,10 @@ fn line_end(text: &[u8], at: usize) -> usize
     requires { at ≤ length text.now }
     ensures { (at ≤ result) × (result ≤ length text.now) }
 {
-    let mut i = at;
-    while i < text.len() {
-        if text[i] == b'\n' {
-            return i;
-        }
-        i += 1;
+    match text[at..].iter().position(|&x| x == b'\n') {
+        Some(n) => at + n,
+        None => text.len(),
     }
-    i
 }
 
 // The line that starts at a place, without its end.
@@ -212,69 +168,67 @@ pub fn next_line(text: &[u8], at: usize) -> usize
     line_end(text, at) + 1
 }
 
-// The octet that two hexadecimal digits from a place on give; 0 where there is one digit only.
-fn octet_at(line: &[u8], at: usize) -> u8
-    requires { at < length line.now }
-{
-    let low = at + 1;
-    if low == line.len() {
-        return 0;
-    }
-    digit(line[at]) * 16 + digit(line[low])
+// The octet that two hexadecimal digits give; 0 where there is one digit only.
+fn octet(digits: &[u8]) -> u8 {
+    std::str::from_utf8(digits)
+        .ok()
+        .filter(|text| text.len() == 2)
+        .and_then(|text| u8::from_str_radix(text, 16).ok())
+        .unwrap_or(0)
 }
 
-// Puts the octets of a line, from a place on, behind those in a buffer. It answers how many are then in it.
+// What a line has from a place on.
+fn rest(line: &[u8], from: usize) -> &[u8] {
+    &line[from.min(line.len())..]
+}
+
+// Puts the octets of a line, from a place on, behind those in a buffer, as far as it has room. It answers how many are then
+// in it.
 pub fn add_octets(line: &[u8], from: usize, buf: &mut [u8], used: usize) -> usize {
     let mut n = used;
-    let mut i = from;
-    while n < buf.len() {
-        if line.len() <= i {
-            return n;
-        }
-        buf[n] = octet_at(line, i);
+    for digits in rest(line, from).chunks(2) {
+        let Some(place) = buf.get_mut(n) else {
+            break;
+        };
+        *place = octet(digits);
         n += 1;
-        i += 2;
     }
     n
 }
 
-// Puts the cells of a line, from a place on, behind those in a table. It answers how many are then in it.
+// Puts the cells of a line, from a place on, behind those in a table, as far as it has room. It answers how many are then in
+// it.
 pub fn add_cells(line: &[u8], from: usize, table: &mut [u32], used: usize) -> usize {
     let mut n = used;
-    let mut i = from;
-    while n < table.len() {
-        if line.len() <= i {
-            return n;
-        }
-        let w = word(line, i);
-        table[n] = cell(w.value);
-        i = w.next;
+    for digits in rest(line, from)
+        .split(|&x| x == b' ')
+        .filter(|w| !w.is_empty())
+    {
+        let Some(place) = table.get_mut(n) else {
+            break;
+        };
+        *place = cell(value(digits));
         n += 1;
     }
     n
 }
 
-// Puts a part of another buffer behind those in a buffer. It answers how many are then in it.
+// Puts a part of another buffer behind those in a buffer, as far as it has room. It answers how many are then in it.
 pub fn add_part(part: &[u8], buf: &mut [u8], used: usize) -> usize {
     let mut n = used;
-    let mut i = 0;
-    while i < part.len() {
-        if buf.len() <= n {
-            return n;
-        }
-        buf[n] = part[i];
+    for &x in part {
+        let Some(place) = buf.get_mut(n) else {
+            break;
+        };
+        *place = x;
         n += 1;
-        i += 1;
     }
     n
 }
 
 // The first octets of a buffer; all where it has no more.
 pub fn front(s: &[u8], octets: usize) -> &[u8] {
-    if s.len() < octets {
-        return s;
-    }
-    &s[0..octets]
+    &s[..octets.min(s.len())]
 }
 
 // Prints the name of a case, which a line has from a place on.
@@ -294,10 +248,8 @@ pub fn add_times(line: &[u8], buf: &mut [u8], used: usize) -> usize
 {
     let times = word(line, 2);
     let mut n = used;
-    let mut i = 0;
-    while i < times.value {
+    for _ in 0..times.value {
         n = add_octets(line, times.next, buf, n);
-        i += 1;
     }
     n
 }
@@ -306,30 +258,14 @@ pub fn add_times(line: &[u8], buf: &mut [u8], used: usize) -> usize
 // then in it.
 fn add_again(buf: &mut [u8], used: usize, from: usize, octets: usize) -> usize {
     let mut n = used;
-    let mut src = from;
-    let mut left = octets;
-    while 0 < left {
-        if buf.len() <= n {
-            return n;
+    for src in from..from.saturating_add(octets) {
+        if n <= src || buf.len() <= n {
+            break;
         }
-        if n <= src {
-            return n;
-        }
-        let x = buf[src];
-        buf[n] = x;
+        buf[n] = buf[src];
         n += 1;
-        src += 1;
-        left -= 1;
     }
     n
-}
-
-// The smaller of two numbers.
-fn least(a: usize, b: usize) -> usize {
-    if a < b {
-        return a;
-    }
-    b
 }
 
 // Keeps the first octets in hand (`k`), puts some over them (`a`) or puts some again behind them (another letter), as a line
@@ -340,7 +276,7 @@ pub fn change_hand(line: &[u8], octets: &mut [u8], used: usize) -> usize
     let letter = line[0];
     let w = word(line, 2);
     if letter == b'k' {
-        return least(used, w.value as usize);
+        return used.min(w.value as usize);
     }
     if letter == b'a' {
         add_octets(line, w.next, octets, w.value as usize);
