@@ -167,7 +167,7 @@ fn declared_in_rattle(text: &str) -> Vec<String> {
         let words = words.strip_prefix("extern \"C\" ").unwrap_or(words);
         let (first, rest) = words.split_once(' ').unwrap_or((words, ""));
         match first {
-            "fn" | "const" | "struct" | "enum" => names.push(front_of(rest)),
+            "fn" | "const" | "struct" | "enum" | "type" => names.push(front_of(rest)),
             _ if in_type => names.push(front_of(words)),
             _ => {}
         }
