@@ -28,7 +28,7 @@ struct Sound {
 // ---- lengths
 
 // The lengths of messages that lie back to back.
-pub trait Lengths {
+trait Lengths {
     ghost lengths: { Self → List ℕ };
 
     // How many they are.
