@@ -46,11 +46,9 @@ fn fronts(c: &[u8], at: OctetCount) -> u8
     ensures { Fronts c.now at.0 (at.0 + 64) result }
 {
     let mut n: u8 = 0;
-    let mut i: usize = 0;
     let from = at.0;
-    while i < 64 {
+    for i in 0..64 {
         n += front(c[from + i], c[from + i + 1]);
-        i += 1;
     }
     n
 }
@@ -157,15 +155,12 @@ fn put_messages(c: &[u8], cells: &[u32], out: &mut [u8])
     ensures { out.new ≡ over (join (stretches_in c.now (rows_of cells.now))) out.old }
 {
     let mut new: usize = 0;
-    let mut i: usize = 0;
-    while i < cells.len() {
-        let cell = cells[i];
+    for &cell in cells {
         let start = (cell / 65536) as usize;
         let own = (cell % 65536) as usize;
         let end = start + own;
         copy::copy(&c[start..end], &mut out[new..]);
         new += own;
-        i += 1;
     }
 }
 
@@ -176,14 +171,11 @@ fn put_rows(cells: &[u32], from: OctetCount, out: &mut [u8])
 {
     let mut start: usize = 0;
     let mut at = from.0;
-    let mut i: usize = 0;
-    while i < cells.len() {
-        let cell = cells[i];
+    for &cell in cells {
         let own = (cell % 65536) as usize;
         pack::put_row(out, OctetCount(at), OctetCount(start), OctetCount(own));
         start += own;
         at += 4;
-        i += 1;
     }
 }
 
@@ -209,16 +201,13 @@ fn put_report(cells: &[u32], skipped: OctetCount, report: &mut [u32])
 {
     let mut new: u32 = 0;
     let mut at: usize = 0;
-    let mut i: usize = 0;
-    while i < cells.len() {
-        let cell = cells[i];
+    for &cell in cells {
         let own = cell % 65536;
         report[at] = cell / 65536;
         report[at + 1] = new;
         report[at + 2] = own;
         new += own;
         at += 3;
-        i += 1;
     }
     report[at] = skipped.0 as u32;
 }
