@@ -264,6 +264,15 @@ fn get_out(c: &[u8], cells: &mut [u32], out: &mut [u8], report: &mut [u32]) -> R
     hand_out(c, &cells[0..kept.messages], kept.octets, out, report)
 }
 
+// Gets the tones out of what counts, by way of so many cells.
+fn with_cells<const N: usize>(c: &[u8], out: &mut [u8], report: &mut [u32]) -> Result<Done, Refusal>
+    requires { (N ≤ 5460) × (length c.now ≤ 65535) × Enough (length c.now) N }
+    ensures { GetsOut c.now out.old report.old out.new report.new result }
+{
+    let mut cells = [0u32; N];
+    get_out(c, &mut cells, out, report)
+}
+
 // Gets the tones out of a broken pack: a new pack of the messages that are kept, and a report. To clear cells takes time, so there
 // are few where the input is short.
 pub fn salvage(pack: &[u8], out: &mut [u8], report: &mut [u32]) -> Result<Done, Refusal>
@@ -271,13 +280,10 @@ pub fn salvage(pack: &[u8], out: &mut [u8], report: &mut [u32]) -> Result<Done, 
 {
     let c = counting(pack);
     if c.len() <= 512 {
-        let mut cells = [0u32; 64];
-        return get_out(c, &mut cells, out, report);
+        return with_cells::<64>(c, out, report);
     }
     if c.len() <= 4096 {
-        let mut cells = [0u32; 512];
-        return get_out(c, &mut cells, out, report);
+        return with_cells::<512>(c, out, report);
     }
-    let mut cells = [0u32; 5460];
-    get_out(c, &mut cells, out, report)
+    with_cells::<5460>(c, out, report)
 }
