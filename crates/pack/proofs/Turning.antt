@@ -69,6 +69,16 @@ module _ (p : List ℕ) (rows n : ℕ) where
         go zero h = refl
         go (suc k) h = absurd (omega arith)
 
+  -- a turn, counted by the rows behind
+  module _ {at i : ℕ} (c : Continuing p rows n at (rows + 4 * i) (n - i)) where
+    pub counted_turn : i < n → {a b : ℕ} → (a ≡ number p (rows + 4 * i)) × (a < 65536) → a ≡ at → (b ≡ number p (rows + 4 * i + 2)) × (b < 65536)
+        → Continuing p rows n (at + b) (rows + 4 * (i + 1)) (n - (i + 1))
+    counted_turn h {a} {b} e g f =
+        let r : rows + 4 * i + 4 ≡ rows + 4 * (i + 1) = omega arith in
+        let l : n - i - 1 ≡ n - (i + 1) = omega arith in
+        subst (λ (k : ℕ). Continuing p rows n (at + b) k (n - (i + 1))) r
+        (subst (λ (k : ℕ). Continuing p rows n (at + b) (rows + 4 * i + 4) k) l (continuing_turn c (omega arith) e g f))
+
 pub ruleset continuings = (continuing_begin, continuing_turn, continuing_not, continuing_end)
 
 -- ---- messages in turn

@@ -28,7 +28,7 @@ struct Sound {
 // ---- lengths
 
 // The lengths of messages that lie back to back.
-pub trait Lengths {
+trait Lengths {
     ghost lengths: { Self → List ℕ };
 
     // How many they are.
@@ -99,15 +99,12 @@ fn continues(pack: &[u8], rows: OctetCount, n: usize) -> bool
     ensures { result ≡ continuesBy 0 (rows_at n pack.now rows.0) rows.0 }
 {
     let mut at: usize = 0;
-    let mut row = rows.0;
-    let mut left = n;
-    while 0 < left {
+    for i in 0..n {
+        let row = rows.0 + 4 * i;
         if inside::number_at(pack, OctetCount(row)) != at {
             return false;
         }
         at += inside::number_at(pack, OctetCount(row + 2));
-        row += 4;
-        left -= 1;
     }
     at == rows.0
 }
@@ -200,10 +197,8 @@ fn sum_of(lengths: &[u32]) -> OctetCount
     ensures { result.0 ≡ sum lengths.now }
 {
     let mut total: usize = 0;
-    let mut i: usize = 0;
-    while i < lengths.len() {
-        total += lengths[i] as usize;
-        i += 1;
+    for &n in lengths {
+        total += n as usize;
     }
     OctetCount(total)
 }
@@ -224,13 +219,11 @@ fn fill_rows(lengths: &[u32], from: OctetCount, out: &mut [u8])
 {
     let mut start: usize = 0;
     let mut at = from.0;
-    let mut i: usize = 0;
-    while i < lengths.len() {
-        let n = lengths[i] as usize;
+    for &length in lengths {
+        let n = length as usize;
         put_row(out, OctetCount(at), OctetCount(start), OctetCount(n));
         start += n;
         at += 4;
-        i += 1;
     }
 }
 

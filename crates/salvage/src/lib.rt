@@ -46,11 +46,9 @@ fn fronts(c: &[u8], at: OctetCount) -> u8
     ensures { Fronts c.now at.0 (at.0 + 64) result }
 {
     let mut n: u8 = 0;
-    let mut i: usize = 0;
     let from = at.0;
-    while i < 64 {
+    for i in 0..64 {
         n += front(c[from + i], c[from + i + 1]);
-        i += 1;
     }
     n
 }
@@ -157,15 +155,12 @@ fn put_messages(c: &[u8], cells: &[u32], out: &mut [u8])
     ensures { out.new ≡ over (join (stretches_in c.now (rows_of cells.now))) out.old }
 {
     let mut new: usize = 0;
-    let mut i: usize = 0;
-    while i < cells.len() {
-        let cell = cells[i];
+    for &cell in cells {
         let start = (cell / 65536) as usize;
         let own = (cell % 65536) as usize;
         let end = start + own;
         copy::copy(&c[start..end], &mut out[new..]);
         new += own;
-        i += 1;
     }
 }
 
@@ -176,14 +171,11 @@ fn put_rows(cells: &[u32], from: OctetCount, out: &mut [u8])
 {
     let mut start: usize = 0;
     let mut at = from.0;
-    let mut i: usize = 0;
-    while i < cells.len() {
-        let cell = cells[i];
+    for &cell in cells {
         let own = (cell % 65536) as usize;
         pack::put_row(out, OctetCount(at), OctetCount(start), OctetCount(own));
         start += own;
         at += 4;
-        i += 1;
     }
 }
 
@@ -209,16 +201,13 @@ fn put_report(cells: &[u32], skipped: OctetCount, report: &mut [u32])
 {
     let mut new: u32 = 0;
     let mut at: usize = 0;
-    let mut i: usize = 0;
-    while i < cells.len() {
-        let cell = cells[i];
+    for &cell in cells {
         let own = cell % 65536;
         report[at] = cell / 65536;
         report[at + 1] = new;
         report[at + 2] = own;
         new += own;
         at += 3;
-        i += 1;
     }
     report[at] = skipped.0 as u32;
 }
@@ -275,6 +264,15 @@ fn get_out(c: &[u8], cells: &mut [u32], out: &mut [u8], report: &mut [u32]) -> R
     hand_out(c, &cells[0..kept.messages], kept.octets, out, report)
 }
 
+// Gets the tones out of what counts, by way of so many cells.
+fn with_cells<const N: usize>(c: &[u8], out: &mut [u8], report: &mut [u32]) -> Result<Done, Refusal>
+    requires { (N ≤ 5460) × (length c.now ≤ 65535) × Enough (length c.now) N }
+    ensures { GetsOut c.now out.old report.old out.new report.new result }
+{
+    let mut cells = [0u32; N];
+    get_out(c, &mut cells, out, report)
+}
+
 // Gets the tones out of a broken pack: a new pack of the messages that are kept, and a report. To clear cells takes time, so there
 // are few where the input is short.
 pub fn salvage(pack: &[u8], out: &mut [u8], report: &mut [u32]) -> Result<Done, Refusal>
@@ -282,13 +280,10 @@ pub fn salvage(pack: &[u8], out: &mut [u8], report: &mut [u32]) -> Result<Done, 
 {
     let c = counting(pack);
     if c.len() <= 512 {
-        let mut cells = [0u32; 64];
-        return get_out(c, &mut cells, out, report);
+        return with_cells::<64>(c, out, report);
     }
     if c.len() <= 4096 {
-        let mut cells = [0u32; 512];
-        return get_out(c, &mut cells, out, report);
+        return with_cells::<512>(c, out, report);
     }
-    let mut cells = [0u32; 5460];
-    get_out(c, &mut cells, out, report)
+    with_cells::<5460>(c, out, report)
 }

@@ -1,10 +1,6 @@
 -- `salvage::fronts` meets its contract.
-use Prim.Native.Nat.{◌-◌}
 use Rattle.salvage.proofs.Reaching.{Telling}
 use Rattle.salvage.proofs.fronts.Given as goal
 
 abbrev pub invariant-loop-i : goal.invariant-loop-i
 invariant-loop-i l = Telling l.c l.from l.i l.n
-
-abbrev pub decreases-loop-i : goal.decreases-loop-i
-decreases-loop-i l = 64 - l.i
