@@ -52,16 +52,15 @@ fn put_entry(out: &mut [u8], at: OctetCount, entry: Entry) -> OctetCount
 }
 
 // Puts the lines for the first entries of a list behind the text.
+#[tactic(auto, using(crate::proofs::Texts::lining))]
 fn put_entries(out: &mut [u8], start: OctetCount, list: &[u32], entries: usize) -> OctetCount
     requires { (start.0 + entries * 77 ≤ length out.old) × (entries * entry_cells ≤ length list.now) }
     ensures added { Added out.old start.0 (lines entries list.now) out.new result.0 }
     ensures result_in_bounds { result.0 ≤ length out.new }
 {
     let mut at = start;
-    let mut i = 0;
-    while i < entries {
+    for i in 0..entries {
         at = put_entry(out, at, list_rules::entry_at(list, i));
-        i += 1;
     }
     at
 }
