@@ -2,11 +2,15 @@
 use Prim.Native.Nat.{ℕ, zero, suc, ◌+◌, ◌-◌, ◌*◌, ◌/◌, ◌%◌, ◌≤◌, ◌<◌}
 use native.Mathlib.Omega.{arith}
 use native.Mathlib.Numerals.{add-one}
-use mathlib.Core.Path.{◌≡◌, refl, sym, ap, ap₂, subst, ◌∙◌}
+use mathlib.Core.Path.{◌≡◌, refl, sym, ap, ap₂, ◌∙◌}
 use mathlib.Core.List.{List, [], ◌∷◌, ◌++◌, append-nil, append_assoc}
 use lib.ListN.{length, get_or, take, drop, set, length-set, length-append}
-use lib.Seq.{get_or-drop, take-add, take-suc, take-length, drop-cons, get_or-set_same, drop-set-lt, take-set-le, take-suc-set, append_snoc, drop-drop}
-use borrow.Author.Tests.{eq-eqb, ne_eqb}
+use lib.Seq.{get_or-drop, take-suc-set, drop-drop}
+use borrow.Author.Tests.{ltb-true, ltb-false, eq-eqb, ne_eqb}
+use lib.Dec.{ltb}
+use Rattle.std.specs.Prelude.{decimal}
+use Rattle.std.proofs.lemmas.Fmt.{decimal_digit, decimal_step}
+use Rattle.bits.proofs.Choice.{pick_elim}
 use Rattle.list_rules.specs.declared.Entry.{Entry}
 use Rattle.list_rules.specs.Sounding.{entry_cells, unpacked, entry_at}
 use Rattle.list_text.specs.Text.{Added, digits, places, number, line, lines, mark_text, opening, refusal}
@@ -33,83 +37,59 @@ Put out at text most out' end = Added out at text out' end × (end ≤ at + most
 put_two : {a b c : List ℕ} {at p r : ℕ} {s t : List ℕ} (i k : ℕ) → Put a at s i b p → Put b p t k c r → Put a at (s ++ t) (i + k) c r
 put_two i k f g = (added_two f.0 g.0, omega (arith, f.1, g.1))
 
--- ---- the loop of `put_digits`
-
--- the last k - i of the digits stand in their places, and `rest` has the others
-pub record Spelling (out₀ : List ℕ) (at k n : ℕ) (out : List ℕ) (i rest : ℕ) : Type 0 where
-  pub inside : i ≤ k
-  pub long : length out ≡ length out₀
-  pub ahead : take at out ≡ take at out₀
-  pub holds : digits i rest ++ take (k - i) (drop (at + i) out) ≡ digits k n
-
-pub spell_begin : (out : List ℕ) (at k n : ℕ) → Spelling out at k n out k n
-spell_begin out at k n =
-    let z : k - k ≡ 0 = omega arith in
-    record { inside = omega arith; long = refl; ahead = refl; holds = rw z (append-nil (digits k n)) }
-
-spell_more : (out₀ : List ℕ) (at k n : ℕ) {out : List ℕ} (m : ℕ) {rest : ℕ} → Spelling out₀ at k n out (suc m) rest → at + k ≤ length out₀
-    → Spelling out₀ at k n (set out (at + m) (48 + rest % 10)) m (rest / 10)
-unfolding digits
-spell_more out₀ at k n {out} m {rest} t h =
-    let v : ℕ = 48 + rest % 10 in
-    let l : at + m < length out = omega (arith, t.inside, t.long) in
-    let l' : at + m < length (set out (at + m) v) = rw (length-set out (at + m) v) l in
-    let u : at + suc m ≡ suc (at + m) = omega arith in
-    let d : drop (at + m) (set out (at + m) v) ≡ v ∷ drop (at + suc m) out =
-    rw (u) (
-    drop-cons (set out (at + m) v) (at + m) 0 l'
-    ∙ ap₂ (λ (x : ℕ) (y : List ℕ). x ∷ y) (get_or-set_same out (at + m) v 0 l) (drop-set-lt (suc (at + m)) out (at + m) v (omega arith))) in
-    let e : k - m ≡ suc (k - suc m) = omega (arith, t.inside) in
-    record {
-      inside = omega (arith, t.inside);
-      long = length-set out (at + m) v ∙ t.long;
-      ahead = take-set-le at out (at + m) v (omega arith) ∙ t.ahead;
-      holds = rw (d, e) (sym (append_snoc (digits m (rest / 10)) v (take (k - suc m) (drop (at + suc m) out))) ∙ t.holds);
-    }
-
-pub spell_turn : (out₀ : List ℕ) (at k n : ℕ) {out : List ℕ} {i rest v : ℕ} → Spelling out₀ at k n out i rest → 0 < i → at + k ≤ length out₀
-    → v ≡ 48 + rest % 10 → Spelling out₀ at k n (set out (at + (i - 1)) v) (i - 1) (rest / 10)
-spell_turn out₀ at k n {i = zero} t p h w = absurd (omega (arith, p))
-spell_turn out₀ at k n {i = suc m} t p h w =
-    let e : suc m - 1 ≡ m = omega arith in
-    rw (e, w) (spell_more out₀ at k n m t h)
-
-pub spell_room : {out₀ : List ℕ} {at k n : ℕ} {out : List ℕ} {i rest : ℕ} → Spelling out₀ at k n out i rest → 0 < i → at + k ≤ length out₀
-    → at + (i - 1) < length out
-spell_room t p h = omega (arith, t.inside, t.long)
-
-pub digits_long : (k n : ℕ) → length (digits k n) ≡ k
-unfolding digits
-digits_long zero n = refl
-digits_long (suc k) n = length-append (digits k (n / 10)) ((48 + n % 10) ∷ []) ∙ (rw (digits_long k (n / 10)) (add-one k))
-
-spell_last : (out₀ : List ℕ) (at k n : ℕ) {out : List ℕ} {rest : ℕ} → Spelling out₀ at k n out 0 rest → Added out₀ at (digits k n) out (at + k)
-unfolding digits
-spell_last out₀ at k n {out} {rest} t =
-    let a : at + 0 ≡ at = omega arith in
-    let z : k - 0 ≡ k = omega arith in
-    let e : take (k - 0) (drop (at + 0) out) ≡ digits k n = t.holds in
-    let f : take k (drop at out) ≡ digits k n = subst (λ (j : ℕ). take k (drop j out) ≡ digits k n) a (subst (λ (i : ℕ). take i (drop (at + 0) out) ≡ digits k n) z e) in
-    record {
-      ends = ap (λ (j : ℕ). at + j) (sym (digits_long k n));
-      long = t.long;
-      holds = take-add at k out ∙ ap₂ (λ (a b : List ℕ). a ++ b) t.ahead f;
-    }
-
-pub spell_end : (out₀ : List ℕ) (at k n : ℕ) {out : List ℕ} {i rest : ℕ} → Spelling out₀ at k n out i rest → i ≤ 0 → Added out₀ at (digits k n) out (at + k)
-spell_end out₀ at k n {i = zero} t p = spell_last out₀ at k n t
-spell_end out₀ at k n {i = suc m} t p = absurd (omega (arith, p))
-
-pub ruleset spelling = (spell_begin, spell_turn, spell_room, spell_end)
-
 -- ---- a number, and what stands behind it
 
-pub number_put : (out₀ : List ℕ) (at n behind : ℕ) {out : List ℕ} {k : ℕ} → k ≡ places n → Added out₀ at (digits k n) out (at + k) → at + 11 ≤ length out₀ → k ≤ 10
-    → Added out₀ at (number n behind) (set out (at + k) behind) (at + k + 1)
+-- the least number of so many digits, and one more
+tens : ℕ → ℕ
+tens zero = 1
+tens (suc k) = 10 * tens k
+
+-- a number's digits, counted, are those that std prints
+spelled : (k n : ℕ) → 10 * tens k ≤ n → n < 10 * tens (suc k) → n < 4294967296 → digits (suc (suc k)) n ≡ decimal n
+unfolding digits tens
+spelled zero n l h b =
+    let z : n / 10 < 10 = omega (arith, h) in
+    let m : n / 10 % 10 ≡ n / 10 = omega (arith, z) in
+    rw (decimal_step n (omega (arith, l)) (omega (arith, b)), decimal_digit (n / 10) z, m) refl
+spelled (suc k) n l h b =
+    let g : 10 * tens k ≤ n / 10 = omega (arith, l) in
+    let f : n / 10 < 10 * tens (suc k) = omega (arith, h) in
+    let a : 10 ≤ n = omega (arith, l, tens_some k) in
+    rw (decimal_step n a (omega (arith, b)), spelled k (n / 10) g f (omega (arith, b))) refl
+  where
+    tens_some : (k : ℕ) → 1 ≤ tens k
+    tens_some zero = omega arith
+    tens_some (suc k) = omega (arith, tens_some k)
+
+spelled_one : (n : ℕ) → n < 10 → digits 1 n ≡ decimal n
+unfolding digits
+spelled_one n h =
+    let m : n % 10 ≡ n = omega (arith, h) in
+    rw (decimal_digit n h, m) refl
+
+-- a number below 2 ^ 32 in decimal is what std prints
+pub printed : (n : ℕ) → n < 4294967296 → digits (places n) n ≡ decimal n
+unfolding places tens
+printed n b =
+    pick_elim P (ltb n 10) (λ t. spelled_one n (ltb-true n 10 t)) (λ f₁.
+    pick_elim P (ltb n 100) (λ t. spelled 0 n (ltb-false n 10 f₁) (ltb-true n 100 t) b) (λ f₂.
+    pick_elim P (ltb n 1000) (λ t. spelled 1 n (ltb-false n 100 f₂) (ltb-true n 1000 t) b) (λ f₃.
+    pick_elim P (ltb n 10000) (λ t. spelled 2 n (ltb-false n 1000 f₃) (ltb-true n 10000 t) b) (λ f₄.
+    pick_elim P (ltb n 100000) (λ t. spelled 3 n (ltb-false n 10000 f₄) (ltb-true n 100000 t) b) (λ f₅.
+    pick_elim P (ltb n 1000000) (λ t. spelled 4 n (ltb-false n 100000 f₅) (ltb-true n 1000000 t) b) (λ f₆.
+    pick_elim P (ltb n 10000000) (λ t. spelled 5 n (ltb-false n 1000000 f₆) (ltb-true n 10000000 t) b) (λ f₇.
+    pick_elim P (ltb n 100000000) (λ t. spelled 6 n (ltb-false n 10000000 f₇) (ltb-true n 100000000 t) b) (λ f₈.
+    pick_elim P (ltb n 1000000000) (λ t. spelled 7 n (ltb-false n 100000000 f₈) (ltb-true n 1000000000 t) b) (λ f₉.
+    spelled 8 n (ltb-false n 1000000000 f₉) (omega (arith, b)) b)))))))))
+  where
+    P : ℕ → Type 0
+    P k = digits k n ≡ decimal n
+
+pub number_put : (out₀ : List ℕ) (at n behind : ℕ) {src out : List ℕ} {end : ℕ} → n < 4294967296 → src ≡ decimal n → Added out₀ at src out end → end < length out
+    → Added out₀ at (number n behind) (set out end behind) (end + 1)
 unfolding number
-number_put out₀ at n behind {out} {k} e t h l =
-    let i : at + k < length out = omega (arith, t.long) in
-    rw (sym e) (added_two t (added_one out (at + k) behind i))
+number_put out₀ at n behind {src} {out} {end} b e t h =
+    rw (printed n b, sym e) (added_two t (added_one out end behind h))
 
 -- seven numbers are a line
 pub line_put : (a : List ℕ) (at : ℕ) (entry : Entry) {b c d e f g h : List ℕ} {p q r s t u z : ℕ}
@@ -195,49 +175,6 @@ pub line_room : {out₀ : List ℕ} {start : ℕ} {list : List ℕ} {n : ℕ} {o
 line_room t h l = omega (arith, t.reach, t.long, l.0)
 
 pub ruleset lining = (line_begin, line_turn, line_end, line_room)
-
--- ---- the loop of `put_text`
-
--- so many octets are put
-pub record Putting (out₀ : List ℕ) (at : ℕ) (src out : List ℕ) (i : ℕ) : Type 0 where
-  pub inside : i ≤ length src
-  pub long : length out ≡ length out₀
-  pub holds : take (at + i) out ≡ take at out₀ ++ take i src
-
-pub text_begin : (out : List ℕ) (at : ℕ) (src : List ℕ) → Putting out at src out 0
-text_begin out at src =
-    let a : at + 0 ≡ at = omega arith in
-    record { inside = omega arith; long = refl; holds = rw a (sym (append-nil (take at out))) }
-
-pub text_turn : (out₀ : List ℕ) (at : ℕ) (src : List ℕ) {out : List ℕ} {i : ℕ} → Putting out₀ at src out i → i < length src → at + length src ≤ length out₀
-    → Putting out₀ at src (set out (at + i) (get_or src i 0)) (i + 1)
-text_turn out₀ at src {out} {i} t h l =
-    let v : ℕ = get_or src i 0 in
-    let k : at + i < length out = omega (arith, t.long) in
-    let a : at + (i + 1) ≡ suc (at + i) = omega arith in
-    record {
-      inside = omega (arith, h);
-      long = length-set out (at + i) v ∙ t.long;
-      holds =
-          ap (λ (j : ℕ). take j (set out (at + i) v)) a
-          ∙ (take-suc-set out (at + i) v k
-          ∙ (ap (λ (x : List ℕ). x ++ (v ∷ [])) t.holds
-          ∙ (append_assoc (take at out₀) (take i src) (v ∷ [])
-          ∙ ap (λ (x : List ℕ). take at out₀ ++ x) (sym (take-suc src i 0 h) ∙ ap (λ (j : ℕ). take j src) (sym (add-one i))))));
-    }
-
-pub text_room : {out₀ : List ℕ} {at : ℕ} {src out : List ℕ} {i : ℕ} → Putting out₀ at src out i → i < length src → at + length src ≤ length out₀ → at + i < length out
-text_room t h l = omega (arith, t.long)
-
-pub text_end : (out₀ : List ℕ) (at : ℕ) (src : List ℕ) {out : List ℕ} {i : ℕ} → Putting out₀ at src out i → length src ≤ i → Added out₀ at src out (at + i)
-text_end out₀ at src {out} {i} t h =
-    let e : i ≡ length src = omega (arith, t.inside, h) in
-    record { ends = ap (λ (j : ℕ). at + j) e; long = t.long; holds = t.holds ∙ ap (λ (x : List ℕ). take at out₀ ++ x) (ap (λ (j : ℕ). take j src) e ∙ take-length src) }
-
-pub text_all : (at : ℕ) {out₀ src out : List ℕ} {i : ℕ} → Putting out₀ at src out i → length src ≤ i → at + i ≡ at + length src
-text_all at t h = omega (arith, t.inside, h)
-
-pub ruleset putting = (text_begin, text_turn, text_room, text_end, text_all)
 
 -- ---- whole lines
 

@@ -1,71 +1,25 @@
 #![tactic(auto)]
 
 // The text of a playing list, as the program prints it: an answer, and the list that came with it, put into a buffer.
-ghost use Rattle.std.specs.Prelude.{◌≡◌, ◌+◌, ◌*◌, ◌%◌, ◌≤◌, length};
+ghost use Rattle.std.specs.Prelude.{◌≡◌, ◌+◌, ◌*◌, ◌≤◌, length};
 ghost use Rattle.bits.specs.Refusals.{number_of};
 ghost use Rattle.list_rules.specs.Sounding.{entry_cells};
-ghost use Rattle.list_text.specs.Text.{Added, digits, places as places_of, number, line, lines, mark_text, opening, refusal, answer_of};
+ghost use Rattle.list_text.specs.Text.{Added, number, line, lines, mark_text, opening, refusal, answer_of};
 
 use bits::{OctetCount, Refusal};
 use list_rules::Entry;
 
-// ---- numbers
+// ---- octets and numbers
 
-// The digits that a number takes in decimal.
-fn places(n: u32) -> usize
-    ensures value { result ≡ places_of n }
-    ensures upper_bound { result ≤ 10 }
+// Puts octets behind the text.
+fn put_text(out: &mut [u8], at: OctetCount, src: &[u8]) -> OctetCount
+    requires { at.0 + length src.now ≤ length out.old }
+    ensures added { Added out.old at.0 src.now out.new result.0 }
+    ensures result_value { result.0 ≡ at.0 + length src.now }
 {
-    if n < 10 {
-        return 1;
-    }
-    if n < 100 {
-        return 2;
-    }
-    if n < 1000 {
-        return 3;
-    }
-    if n < 10000 {
-        return 4;
-    }
-    if n < 100000 {
-        return 5;
-    }
-    if n < 1000000 {
-        return 6;
-    }
-    if n < 10000000 {
-        return 7;
-    }
-    if n < 100000000 {
-        return 8;
-    }
-    if n < 1000000000 {
-        return 9;
-    }
-    10
-}
-
-// The last digit of a number, as a character.
-fn last_digit(n: u32) -> u8
-    ensures { result ≡ 48 + n % 10 }
-{
-    48 + (n % 10) as u8
-}
-
-// Puts the last k digits of a number behind the text.
-fn put_digits(out: &mut [u8], at: OctetCount, k: usize, n: u32)
-    requires { at.0 + k ≤ length out.old }
-    ensures { Added out.old at.0 (digits k n) out.new (at.0 + k) }
-{
-    let first = at.0;
-    let mut i = k;
-    let mut rest = n;
-    while i > 0 {
-        i -= 1;
-        out[first + i] = last_digit(rest);
-        rest /= 10;
-    }
+    let end = at.0 + src.len();
+    out[at.0..end].copy_from_slice(src);
+    OctetCount(end)
 }
 
 // Puts a number in decimal and a character behind the text, and answers where the text now ends.
@@ -74,11 +28,10 @@ fn put_number(out: &mut [u8], at: OctetCount, n: u32, behind: u8) -> OctetCount
     ensures added { Added out.old at.0 (number n behind) out.new result.0 }
     ensures result_bound { result.0 ≤ at.0 + 11 }
 {
-    let k = places(n);
-    put_digits(out, at, k, n);
-    let end = at.0 + k;
-    out[end] = behind;
-    OctetCount(end + 1)
+    let mut digits = itoa::Buffer::new();
+    let end = put_text(out, at, digits.format(n).as_bytes());
+    out[end.0] = behind;
+    OctetCount(end.0 + 1)
 }
 
 // ---- lines
@@ -98,32 +51,16 @@ fn put_entry(out: &mut [u8], at: OctetCount, entry: Entry) -> OctetCount
     put_number(out, at, entry.position, b'\n')
 }
 
-// Puts octets behind the text.
-fn put_text(out: &mut [u8], at: OctetCount, src: &[u8]) -> OctetCount
-    requires { at.0 + length src.now ≤ length out.old }
-    ensures added { Added out.old at.0 src.now out.new result.0 }
-    ensures result_value { result.0 ≡ at.0 + length src.now }
-{
-    let first = at.0;
-    let mut i = 0;
-    while i < src.len() {
-        out[first + i] = src[i];
-        i += 1;
-    }
-    OctetCount(first + i)
-}
-
 // Puts the lines for the first entries of a list behind the text.
+#[tactic(auto, using(crate::proofs::Texts::lining))]
 fn put_entries(out: &mut [u8], start: OctetCount, list: &[u32], entries: usize) -> OctetCount
     requires { (start.0 + entries * 77 ≤ length out.old) × (entries * entry_cells ≤ length list.now) }
     ensures added { Added out.old start.0 (lines entries list.now) out.new result.0 }
     ensures result_in_bounds { result.0 ≤ length out.new }
 {
     let mut at = start;
-    let mut i = 0;
-    while i < entries {
+    for i in 0..entries {
         at = put_entry(out, at, list_rules::entry_at(list, i));
-        i += 1;
     }
     at
 }

