@@ -15,56 +15,107 @@
 // all 96 cells, so that a change beyond the list shows.
 //
 //   NAME, ROOM: refusal place entries mark: cells: digest
+ghost use Rattle.std.specs.Prelude.{◌≤◌, length};
+
 use bits::Refusal;
 use list::Listed;
-use std::alloc::Global;
-use std::io;
-use vectors::Spaced;
 
-// Prints the numbers of an answer, its entries in a row of cells, and the digest of the whole row.
-fn show(rt: &impl Print, answer: Result<Listed, Refusal>, row: &[u32]) -> io::Result<()> {
-    let digest = vectors::digest_cells(row);
+// ---- printing
+
+// Prints the numbers of an answer, and answers the entries.
+fn show_answer(answer: Result<Listed, Refusal>) -> u32 {
     match answer {
         Ok(listed) => {
-            let end = list_rules::ENTRY_CELLS * listed.entries as usize;
-            let made = Spaced(&row[..end.min(row.len())]);
-            println!(rt; " 0 0 {} {}:{made}: {digest}", listed.entries, listed.mark)
+            io::write_all(1, b" 0 0");
+            vectors::number(listed.entries as u64);
+            vectors::number(listed.mark as u64);
+            listed.entries
         }
         Err(refusal) => {
-            println!(rt;
-                " {} {} 0 0:: {digest}",
-                refusal.why.number(),
-                refusal.place.0
-            )
+            vectors::number(refusal.why.number() as u64);
+            vectors::number(refusal.place.0 as u64);
+            io::write_all(1, b" 0 0");
+            0
         }
     }
 }
 
-// Lists a message, as a line says, with so many cells lent of a row.
-fn list_case(rt: &impl Print, msg: &[u8], line: &str) -> io::Result<()> {
-    let (room, name) = line.split_once(' ').unwrap_or((line, ""));
-    print!(rt; "{name}, {room}:")?;
+// Prints so many entries of a row, as far as there are, and the digest of the whole row.
+fn show_row(row: &[u32], entries: u32) {
+    io::write_all(1, b":");
+    let end = list_rules::ENTRY_CELLS * entries as usize;
+    if end <= row.len() {
+        vectors::cells(&row[0..end]);
+    }
+    io::write_all(1, b":");
+    vectors::number(vectors::digest_cells(row));
+    io::write_all(1, b"\n");
+}
+
+// ---- the call
+
+// Lists a message. It promises nothing, so that what calls it carries no promise along.
+fn listed(msg: &[u8], list: &mut [u32]) -> Result<Listed, Refusal> {
+    list::list(msg, list)
+}
+
+// Lists a message with so many cells lent of a row. Prints the answer and the row.
+fn lend(msg: &[u8], row: &mut [u32], room: usize) {
+    if row.len() < room {
+        return;
+    }
+    let entries = show_answer(listed(msg, &mut row[0..room]));
+    show_row(row, entries);
+}
+
+// ---- the text
+
+// Lists the octets in hand as a line says.
+fn list_case(line: &[u8], octets: &[u8], used: usize)
+    requires { 2 ≤ length line.now }
+{
+    if octets.len() < used {
+        return;
+    }
+    let room = vectors::word(line, 2);
+    let name = room.next;
+    io::write_all(1, &line[name..]);
+    io::write_all(1, b",");
+    vectors::number(room.value);
+    io::write_all(1, b":");
     let mut row = [7u32; 96];
-    let room = room.parse::<usize>().unwrap_or(0).min(row.len());
-    let answer = list::list(msg, &mut row[..room]);
-    show(rt, answer, &row)
+    lend(&octets[0..used], &mut row, room.value as usize);
+}
+
+// Does what a line says, and answers how many octets are then in hand.
+fn act(line: &[u8], used: usize, octets: &mut [u8; 1024]) -> usize {
+    if line.len() < 2 {
+        return used;
+    }
+    let letter = line[0];
+    if letter == b'o' {
+        return vectors::add_octets(line, 2, octets, used);
+    }
+    if letter == b'l' {
+        list_case(line, octets, used);
+        return 0;
+    }
+    used
 }
 
 // Does what each line of a text says.
-fn run(rt: &impl Print, alloc: Global, text: &str) -> io::Result<()> {
-    let mut msg = Vec::new(alloc);
-    for line in text.lines() {
-        if let Some(digits) = line.strip_prefix("o ") {
-            msg.extend_from_slice(vectors::octets_of(alloc, digits)?.as_slice())?;
-        } else if let Some(case) = line.strip_prefix("l ") {
-            list_case(rt, msg.as_slice(), case)?;
-            msg.clear();
-        }
+fn run(text: &[u8]) {
+    let mut octets = [0u8; 1024];
+    let mut used = 0;
+    let mut at = 0;
+    while at < text.len() {
+        used = act(vectors::line(text, at), used, &mut octets);
+        at = vectors::next_line(text, at);
     }
-    Ok(())
 }
 
-fn main(rt: HostRuntime) -> io::Result<()> {
-    let text = io::read_to_string(rt.alloc(), rt.stdin())?;
-    run(&rt, rt.alloc(), text.as_str())
+fn main() {
+    let mut text = [0u8; 32768];
+    let n = vectors::read_text(&mut text);
+    run(&text[..n]);
 }

@@ -5,9 +5,6 @@
 ghost use Rattle.std.specs.Prelude.{◌<◌, ◌≤◌, length};
 ghost use Rattle.io.specs.Counts.{IsPrefixLen};
 
-use std::alloc::{AllocError, Global};
-use std::fmt;
-
 // A number of the text, and where the next word starts.
 #[derive(Clone, Copy)]
 pub struct Parsed {
@@ -23,40 +20,6 @@ pub struct Changes {
     pub octets: usize,
     pub by: u8,
     pub name: usize,
-}
-
-// Cells as they are printed: in decimal, a space ahead of each.
-#[derive(Clone, Copy)]
-pub struct Spaced<'a>(pub &'a [u32]);
-
-impl fmt::Display for Spaced<'_> {
-    fn fmt<W: fmt::Write>(&self, f: &mut fmt::Formatter<W>) -> fmt::Result {
-        for x in self.0 {
-            write!(f, " {x}")?;
-        }
-        Ok(())
-    }
-}
-
-// A part of a buffer as it is printed: its octets counted, and the octets in hexadecimal, or their digest where there are
-// many.
-#[derive(Clone, Copy)]
-pub struct Part<'a>(pub &'a [u8]);
-
-impl fmt::Display for Part<'_> {
-    fn fmt<W: fmt::Write>(&self, f: &mut fmt::Formatter<W>) -> fmt::Result {
-        write!(f, ": {}", self.0.len())?;
-        if self.0.len() > 48 {
-            return write!(f, " {}", digest(self.0));
-        }
-        if !self.0.is_empty() {
-            write!(f, " ")?;
-        }
-        for x in self.0 {
-            write!(f, "{x:02x}")?;
-        }
-        Ok(())
-    }
 }
 
 // ---- printing
@@ -136,17 +99,19 @@ pub fn show_part(s: &[u8]) {
 
 // ---- the text
 
-// The octets that hexadecimal digits give.
-pub fn octets_of(alloc: Global, digits: &str) -> Result<Vec<u8>, AllocError> {
-    digits.as_bytes().chunks(2).map(octet).collect(alloc)
+// The value of a digit, hexadecimal or decimal.
+fn digit(x: u8) -> u8
+    ensures { result < 16 }
+{
+    if x < b'a' {
+        return x % 16;
+    }
+    (x - 87) % 16
 }
 
-// The number that decimal digits give; 0 where they give none.
-fn value(digits: &[u8]) -> u64 {
-    std::str::from_utf8(digits)
-        .ok()
-        .and_then(|text| text.parse().ok())
-        .unwrap_or(0)
+// A number with one decimal digit more, as far as it is below 2 ^ 64.
+fn with_digit(value: u64, x: u8) -> u64 {
+    std::num::wrapping_add_u64(value % 1844674407370955162 * 10, u64::from(digit(x)))
 }
 
 // The number that starts at a place, and the place behind the space that ends it.
@@ -154,17 +119,17 @@ pub fn word(line: &[u8], at: usize) -> Parsed
     requires { at ≤ length line.now }
     ensures { (at ≤ result.next) × (result.next ≤ length line.now) }
 {
-    let rest = &line[at..];
-    match rest.iter().position(|&x| x == b' ') {
-        Some(n) => Parsed {
-            value: value(&rest[..n]),
-            next: at + n + 1,
-        },
-        None => Parsed {
-            value: value(rest),
-            next: line.len(),
-        },
+    let mut value: u64 = 0;
+    let mut i = at;
+    while i < line.len() {
+        let x = line[i];
+        i += 1;
+        if x == b' ' {
+            return Parsed { value, next: i };
+        }
+        value = with_digit(value, x);
     }
+    Parsed { value, next: i }
 }
 
 // A number of the text as a cell.
@@ -210,46 +175,43 @@ pub fn next_line(text: &[u8], at: usize) -> usize
     line_end(text, at) + 1
 }
 
-// The octet that two hexadecimal digits give; 0 where there is one digit only.
-fn octet(digits: &[u8]) -> u8 {
-    std::str::from_utf8(digits)
-        .ok()
-        .filter(|text| text.len() == 2)
-        .and_then(|text| u8::from_str_radix(text, 16).ok())
-        .unwrap_or(0)
+// The octet that two hexadecimal digits from a place on give; 0 where there is one digit only.
+fn octet_at(line: &[u8], at: usize) -> u8
+    requires { at < length line.now }
+{
+    let low = at + 1;
+    if low == line.len() {
+        return 0;
+    }
+    digit(line[at]) * 16 + digit(line[low])
 }
 
-// What a line has from a place on.
-fn rest(line: &[u8], from: usize) -> &[u8] {
-    &line[from.min(line.len())..]
-}
-
-// Puts the octets of a line, from a place on, behind those in a buffer, as far as it has room. It answers how many are then
-// in it.
+// Puts the octets of a line, from a place on, behind those in a buffer. It answers how many are then in it.
 pub fn add_octets(line: &[u8], from: usize, buf: &mut [u8], used: usize) -> usize {
     let mut n = used;
-    for digits in rest(line, from).chunks(2) {
-        let Some(place) = buf.get_mut(n) else {
-            break;
-        };
-        *place = octet(digits);
+    let mut i = from;
+    while n < buf.len() {
+        if line.len() <= i {
+            return n;
+        }
+        buf[n] = octet_at(line, i);
         n += 1;
+        i += 2;
     }
     n
 }
 
-// Puts the cells of a line, from a place on, behind those in a table, as far as it has room. It answers how many are then in
-// it.
+// Puts the cells of a line, from a place on, behind those in a table. It answers how many are then in it.
 pub fn add_cells(line: &[u8], from: usize, table: &mut [u32], used: usize) -> usize {
     let mut n = used;
-    for digits in rest(line, from)
-        .split(|&x| x == b' ')
-        .filter(|w| !w.is_empty())
-    {
-        let Some(place) = table.get_mut(n) else {
-            break;
-        };
-        *place = cell(value(digits));
+    let mut i = from;
+    while n < table.len() {
+        if line.len() <= i {
+            return n;
+        }
+        let w = word(line, i);
+        table[n] = cell(w.value);
+        i = w.next;
         n += 1;
     }
     n
