@@ -31,3 +31,5 @@ count 5c 'clauses that marks are the table of marks' '(requires|ensures).*Marks 
 count 5d 'clauses that a walk is ready' '(requires|ensures).*Ready '
 count 6a 'buffers with a length beside them' '(used: (usize|OctetCount)|len: usize|length: usize),?$'
 count 7a 'switches on a kind or an edit' '(Kind|Edit|Field|Supplier)::[A-Z][A-Za-z]*(\([a-z_]+\))? (=>|\|)'
+printf '%-3s %5s  %s\n' 8a "$(git ls-tree -r --name-only "$commit" crates | grep -c '/proofs/.*Answers\.antt$')" 'functions with answers of their own'
+printf '%-3s %5s  %s\n' 8b "$(git grep -cE '^\S+ c = search \([a-z_, ]+\)$' "$commit" -- 'crates/*/proofs/*' | awk -F: '$NF > 2' | wc -l)" 'of them with one search three times and more'
