@@ -38,6 +38,7 @@ const MARKS: [u8; 512] = *b"1111111111111111111111111111111111111111111111111111
     1111111111111111111111111111111111111111111111111111111111111111";
 
 // The marks in a row, for a caller who tells many: an array is laid out anew at each use.
+#[derive(Drop)]
 pub struct Marks {
     row: [u8; 512],
     ghost table: { Table row },
