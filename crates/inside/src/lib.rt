@@ -7,9 +7,9 @@ ghost use Rattle.bits.specs.Bits.{place_after};
 ghost use Rattle.tone.specs.Reading.{read_tone};
 ghost use Rattle.inside.specs.Inside.{number, pair, moved_by};
 ghost use Rattle.inside.specs.Answers.{inside_of};
-ghost use Rattle.tone_sound.specs.Turning.{Marks};
 
 use bits::{BitPlace, OctetCount, Refusal};
+use tone_sound::Marks;
 
 // ---- numbers of two octets, high octet first
 
@@ -55,18 +55,16 @@ pub fn judge_inside(
     whole: &[u8],
     start: OctetCount,
     end: OctetCount,
-    marks: &[u8; 512],
+    marks: &Marks,
 ) -> Result<(), Refusal>
-    requires marks { Marks marks.now }
-    requires start_le_end { (start.0 ≤ end.0) × (end.0 ≤ length whole.now) × (length whole.now ≤ 65535) }
+    requires { (start.0 ≤ end.0) × (end.0 ≤ length whole.now) × (length whole.now ≤ 65535) }
     ensures { result ≡ inside_of (moved_by start.0 (read_tone (take (end.0 - start.0) (drop start.0 whole.now)))) }
 {
     let from = start.0;
     let to = end.0;
     if to - from <= 4096 {
-        let own = tone_sound::tone_at(whole, start, marks);
-        if own.0 == to - from {
-            if from < to {
+        if let Some(own) = tone_sound::tone_at(whole, start, marks) {
+            if own.0 == to - from {
                 return Ok(());
             }
         }

@@ -9,6 +9,7 @@ ghost use Rattle.pack.specs.Answers.{turn_of, rows_judged, judged_of};
 ghost use Rattle.pack.specs.Promises.{ReadPromise, FindPromise, MessagePromise, WritePromise};
 
 use bits::{Ground, OctetCount, Refusal};
+use tone_sound::Marks;
 use written::Writing;
 
 // A message that was found: the stretch of the pack that it is.
@@ -83,7 +84,7 @@ fn judge_in_turn<L: Lengths>(octets: &[u8], lengths: &L) -> Result<(), Refusal>
     requires { (sum (L.lengths lengths.now) ≤ length octets.now) × (length octets.now ≤ 65535) }
     ensures { result ≡ turn_of (read_in_turn 0 (cut (L.lengths lengths.now) octets.now)) }
 {
-    let marks = tone_sound::marks();
+    let marks = Marks::new();
     let mut at: usize = 0;
     for i in 0..lengths.count() {
         let end = at + lengths.nth(i);

@@ -10,9 +10,12 @@ use lib.Dec.{leb, eqb}
 use mir.Val.{Fits, bool_byte}
 use mir.Syntax.{w8}
 use borrow.Author.Tests.{le-leb, lt-leb, leb-true, leb-false, eq-eqb}
+use Rattle.std.specs.Prelude.{Option, None}
 use Rattle.bits.specs.Choice.{pick}
+use Rattle.bits.specs.declared.OctetCount.{OctetCount}
 use Rattle.tone.specs.Reading.{tone_at}
 use Rattle.tone.proofs.Standing.{at_inside, front_tone, front_none, stands_begins}
+use Rattle.tone_sound.specs.Answers.{octets_or_none}
 use Rattle.salvage.specs.Salvage.{message_at}
 use Rattle.salvage.specs.Answers.{front_of, NoFront, Fronts, Passed}
 use Rattle.salvage.proofs.Pieces.{message_inside, message_least, message_stands}
@@ -29,17 +32,17 @@ message_none c at l = rw (lt-leb (tone_at c at) 4096 l) refl
 
 module _ (c : List ℕ) (at : ℕ) (h : at ≤ length c) where
   -- where no more octets are left than a message has, all are looked at
-  pub reach_all : {r : ℕ} → length c - at ≤ 4096 → r ≡ tone_at c at → r ≡ message_at c at
-  reach_all l e = e ∙ sym (message_is c at (omega (arith, at_inside c at h)))
+  pub reach_all : {r : Option OctetCount} → length c - at ≤ 4096 → r ≡ octets_or_none (tone_at c at) → r ≡ octets_or_none (message_at c at)
+  reach_all l e = e ∙ ap octets_or_none (sym (message_is c at (omega (arith, at_inside c at h))))
 
   -- else as many as a message has
-  pub reach_front : {r : ℕ} → 4096 < length c - at → r ≡ tone_at (take (at + 4096 - 0) (drop 0 c)) at → r ≡ message_at c at
-  reach_front {r} l e = go (leb (tone_at c at) 4096) refl
+  pub reach_front : {r : Option OctetCount} → 4096 < length c - at → r ≡ octets_or_none (tone_at (take (at + 4096 - 0) (drop 0 c)) at) → r ≡ octets_or_none (message_at c at)
+  reach_front {r} l e = e ∙ ap octets_or_none (go (leb (tone_at c at) 4096) refl)
     where
-      front : r ≡ tone_at (take (at + 4096) c) at
-      front = let z : at + 4096 - 0 ≡ at + 4096 = omega arith in e ∙ ap (λ (k : ℕ). tone_at (take k c) at) z
+      front : tone_at (take (at + 4096 - 0) (drop 0 c)) at ≡ tone_at (take (at + 4096) c) at
+      front = let z : at + 4096 - 0 ≡ at + 4096 = omega arith in ap (λ (k : ℕ). tone_at (take k c) at) z
 
-      go : (t : Bool) → leb (tone_at c at) 4096 ≡ t → r ≡ message_at c at
+      go : (t : Bool) → leb (tone_at c at) 4096 ≡ t → tone_at (take (at + 4096 - 0) (drop 0 c)) at ≡ message_at c at
       go true q = let b = leb-true (tone_at c at) 4096 q in front ∙ front_tone c at (at + 4096) (omega arith) (omega arith) (omega (arith, b)) ∙ sym (message_is c at b)
       go false q = let b = leb-false (tone_at c at) 4096 q in front ∙ front_none c at (at + 4096) (omega arith) (omega arith) (omega (arith, b)) ∙ sym (message_none c at b)
 
@@ -69,13 +72,20 @@ module _ (c : List ℕ) (at : ℕ) (h : at ≤ length c) where
           let z : front_of (get_or c at 0) (get_or c (at + 1) 0) ≡ 1 = rw (eq-eqb (get_or c at 0 / 2) 1 x, eq-eqb (get_or c (at + 1) 0) 74 b.2) refl in
           absurd (omega (arith, f, z))
 
-  -- as the code tells it
+  -- the same, as `front` answers it
   pub told_none : {r : ℕ} → 2 ≤ length c - at → ((i : ℕ) → Fits w8 (get_or c i 0)) → (r ≡ front_of (get_or c at 0) (get_or c (at + 1) 0)) × (r ≤ 1) → r ≡ 0 → 0 ≡ message_at c at
   told_none l octets e z = no_front l octets (sym e.0 ∙ z)
 
+  -- so none is answered
+  pub none_few : length c - at < 2 → None ≡ octets_or_none (message_at c at)
+  none_few l = ap octets_or_none (too_few l)
+
+  pub none_front : {r : ℕ} → 2 ≤ length c - at → ((i : ℕ) → Fits w8 (get_or c i 0)) → (r ≡ front_of (get_or c at 0) (get_or c (at + 1) 0)) × (r ≤ 1) → r ≡ 0 → None ≡ octets_or_none (message_at c at)
+  none_front l octets e z = ap octets_or_none (told_none l octets e z)
+
 pub ruleset reaching = (reach_all, reach_front)
 
-pub ruleset starts = (too_few, told_none)
+pub ruleset starts = (none_few, none_front)
 
 -- ---- octets that are passed
 

@@ -6,12 +6,13 @@ ghost use Rattle.std.proofs.lemmas.List.Edits.{sets};
 ghost use Rattle.bits.specs.Lent.{over};
 ghost use Rattle.inside.specs.Inside.{join, sum};
 ghost use Rattle.pack.specs.Pack.{rows_from, lengths_in};
-ghost use Rattle.tone_sound.specs.Turning.{Marks};
+ghost use Rattle.tone_sound.specs.Answers.{octets_or_none};
 ghost use Rattle.salvage.specs.Salvage.{counting as countingOf, message_at, stretches_in, new_pack, new_report};
 ghost use Rattle.salvage.specs.Answers.{front_of, Fronts, Passed, rows_of, cells_size, Stretches, Enough, WalkedOver, HandsOut, GetsOut};
 ghost use Rattle.salvage.specs.Promises.{SalvagePromise};
 
 use bits::{Ground, OctetCount, Refusal};
+use tone_sound::Marks;
 
 // Tones that were got out: messages kept, octets of the new pack, octets skipped.
 #[derive(Clone, Copy)]
@@ -86,10 +87,9 @@ fn next_front(c: &[u8], from: OctetCount) -> OctetCount
 // ---- what is kept
 
 // The message that starts behind so many octets, looked for no further than a message may reach.
-fn in_reach(c: &[u8], at: OctetCount, marks: &[u8; 512]) -> OctetCount
-    requires marks { Marks marks.now }
-    requires at_in_bounds { (at.0 ≤ length c.now) × (length c.now ≤ 65535) }
-    ensures { result.0 ≡ message_at c.now at.0 }
+fn in_reach(c: &[u8], at: OctetCount, marks: &Marks) -> Option<OctetCount>
+    requires { (at.0 ≤ length c.now) × (length c.now ≤ 65535) }
+    ensures { result ≡ octets_or_none (message_at c.now at.0) }
 {
     let i = at.0;
     if c.len() - i <= 4096 {
@@ -101,17 +101,16 @@ fn in_reach(c: &[u8], at: OctetCount, marks: &[u8; 512]) -> OctetCount
 
 // How many octets the message has that starts behind so many; none where no message starts there. Most octets are told by the
 // first two.
-fn message_at(c: &[u8], at: OctetCount, marks: &[u8; 512]) -> OctetCount
-    requires marks { Marks marks.now }
-    requires at_in_bounds { (at.0 ≤ length c.now) × (length c.now ≤ 65535) }
-    ensures { result.0 ≡ message_at c.now at.0 }
+fn message_at(c: &[u8], at: OctetCount, marks: &Marks) -> Option<OctetCount>
+    requires { (at.0 ≤ length c.now) × (length c.now ≤ 65535) }
+    ensures { result ≡ octets_or_none (message_at c.now at.0) }
 {
     let i = at.0;
     if c.len() - i < 2 {
-        return OctetCount(0);
+        return None;
     }
     if front(c[i], c[i + 1]) == 0 {
-        return OctetCount(0);
+        return None;
     }
     in_reach(c, at, marks)
 }
@@ -122,22 +121,23 @@ fn walk(c: &[u8], cells: &mut [u32]) -> Result<Kept, Refusal>
     requires { (length c.now ≤ 65535) × Enough (length c.now) (length cells.old) }
     ensures { WalkedOver c.now cells.new result }
 {
-    let marks = tone_sound::marks();
+    let marks = Marks::new();
     let mut at: usize = 0;
     let mut n: usize = 0;
     let mut octets: usize = 0;
     while at < c.len() {
-        let own = message_at(c, OctetCount(at), &marks).0;
-        if own == 0 {
-            at = next_front(c, OctetCount(at + 1)).0;
-        } else {
-            if 65535 < octets + own + 4 * n + 8 {
-                return Err(Ground::TooLong.into());
+        match message_at(c, OctetCount(at), &marks) {
+            None => at = next_front(c, OctetCount(at + 1)).0,
+            Some(message) => {
+                let own = message.0;
+                if 65535 < octets + own + 4 * n + 8 {
+                    return Err(Ground::TooLong.into());
+                }
+                cells[n] = (at * 65536 + own) as u32;
+                n += 1;
+                octets += own;
+                at += own;
             }
-            cells[n] = (at * 65536 + own) as u32;
-            n += 1;
-            octets += own;
-            at += own;
         }
     }
     Ok(Kept {

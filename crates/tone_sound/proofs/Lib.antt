@@ -4,6 +4,7 @@ pub mod Running
 pub mod Dues
 pub mod Walking
 pub mod Bodies
+pub mod Counts
 pub mod Rows
 pub mod Fronting
 pub mod Standing

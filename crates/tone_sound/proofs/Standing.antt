@@ -23,9 +23,10 @@ use Rattle.tone_elements.specs.Answers.{Within, all_known}
 use Rattle.tone_elements.proofs.Steps.{seen_there, onward_got, onward_made}
 use Rattle.tone_elements.proofs.Openings.{ending_told}
 use Rattle.tone_sound.specs.declared.Start.{Start}
-use Rattle.tone_sound.specs.Answers.{Finds, PatternsPast, PatternsStand, FrontAt, Starts, SongPast, ToneFrom, octets_behind}
+use Rattle.tone_sound.specs.Answers.{Finds, PatternsPast, PatternsStand, FrontAt, Starts, SongPast, ToneFrom, octets_behind, octets_or_none}
 use Rattle.tone_sound.proofs.Dues.{element_read, element_seen}
 use Rattle.tone_sound.proofs.Bodies.{some_none, nowhere, not_there}
+use Rattle.tone_sound.proofs.Counts.{some_octets}
 use Rattle.tone_sound.proofs.Rows.{first_of}
 
 -- ---- the end
@@ -212,11 +213,11 @@ module _ (m : List ℕ) (start : ℕ) where
 
   module _ {r : Option BitPlace} (s : SongFound r) where
     -- where front and patterns are not found, no tone starts there
-    pub tone_none : r ≡ None → 0 ≡ tone_at m start
+    pub tone_none : r ≡ None → None ≡ octets_or_none (tone_at m start)
     unfolding tone_at
     tone_none h = go (whole_tone (bits_of m) (place_after start)) refl
       where
-        go : (x : Got Tone) → whole_tone (bits_of m) (place_after start) ≡ x → 0 ≡ octets_read start x
+        go : (x : Got Tone) → whole_tone (bits_of m) (place_after start) ≡ x → None ≡ octets_or_none (octets_read start x)
         go (got t z) e = absurd (not_there s h (record { tone = t; end = z; reads = e }))
         go (bad k p z) e = refl
 
@@ -236,38 +237,42 @@ module _ (m : List ℕ) (start : ℕ) where
 
       module _ {e : Option OctetCount} (h : e ≡ octets_behind (ending (bits_of m) q.0)) where
         -- none where it does not end
-        pub tone_cut : e ≡ None → 0 ≡ tone_at m start
+        pub tone_cut : e ≡ None → None ≡ octets_or_none (tone_at m start)
         unfolding tone_at
-        tone_cut l = go (ending (bits_of m) q.0) (sym h ∙ l) ∙ sym (ap (octets_read start) all_read)
+        tone_cut l = go (ending (bits_of m) q.0) (sym h ∙ l) ∙ sym (ap (λ (x : Got Tone). octets_or_none (octets_read start x)) all_read)
           where
-            go : (x : Got ℕ) → octets_behind x ≡ None → 0 ≡ octets_read start (onward (onward x (λ _ z. got past.patterns z) bad) (λ ps z. got (tone_of past.front ps) z) bad)
+            go : (x : Got ℕ) → octets_behind x ≡ None → None ≡ octets_or_none (octets_read start (onward (onward x (λ _ z. got past.patterns z) bad) (λ ps z. got (tone_of past.front ps) z) bad))
             go (got v z) n = some_none (sym n)
             go (bad k p z) n = refl
 
         module _ {o : OctetCount} (l : e ≡ Some o) where
           -- it has as many octets as lie ahead of its end and behind its start
-          pub tone_there : o.0 - start ≡ tone_at m start
+          octets_there : o.0 - start ≡ tone_at m start
           unfolding tone_at
-          tone_there = go (ending (bits_of m) q.0) (sym h ∙ l) ∙ sym (ap (octets_read start) all_read)
+          octets_there = go (ending (bits_of m) q.0) (sym h ∙ l) ∙ sym (ap (octets_read start) all_read)
             where
               go : (x : Got ℕ) → octets_behind x ≡ Some o → o.0 - start ≡ octets_read start (onward (onward x (λ _ z. got past.patterns z) bad) (λ ps z. got (tone_of past.front ps) z) bad)
               go (got v z) n = let y : octet_count (octets_before z) ≡ o = cc in rw (← y) refl
               go (bad k p z) n = some_none n
 
           -- its end lies behind its start
-          pub tone_ends : start ≤ length m → start ≤ o.0
+          pub tone_ends : start ≤ length m → start < o.0
           tone_ends i =
               let l' = bits_of m in
               let f = front_exact.sound l' (place_after start) (rw (length_bits_of m) (omega arith)) past.opens in
               let d = (patterns_exact past.front.count none_known).sound l' past.behind f.inside past.reads in
               go (ending l' q.0) refl (sym h ∙ l) (omega (arith, f.end, d.end))
             where
-              go : (x : Got ℕ) → ending (bits_of m) q.0 ≡ x → octets_behind x ≡ Some o → 8 * start ≤ q.0 → start ≤ o.0
+              go : (x : Got ℕ) → ending (bits_of m) q.0 ≡ x → octets_behind x ≡ Some o → 8 * start ≤ q.0 → start < o.0
               go (got v z) a n b =
                   let y : octet_count (octets_before z) ≡ o = cc in
                   let c = element_read 8 (eqb 0) 9 (bits_of m) (q.0 + filler_to q.0) (end_read m q.0 a).ends in
                   rw (← y) (omega (arith, c.2, b))
               go (bad k p z) a n b = some_none n
+
+          -- so there are some
+          pub tone_there : start ≤ length m → Some (octet_count (o.0 - start)) ≡ octets_or_none (tone_at m start)
+          tone_there i = let z = tone_ends i in some_octets (o.0 - start) (omega (arith, z)) ∙ ap octets_or_none octets_there
 
 pub ruleset ended = (end_cut, end_other, end_there)
 

@@ -1,5 +1,5 @@
 -- What the code answers of a tone that it tells.
-use Rattle.std.specs.Prelude.{ℕ, ◌+◌, ◌-◌, ◌%◌, ◌≤◌, ◌≡◌, Bool, List, length, drop, Option, Some, None}
+use Rattle.std.specs.Prelude.{ℕ, zero, suc, ◌+◌, ◌-◌, ◌%◌, ◌≤◌, ◌≡◌, Bool, List, length, drop, Option, Some, None}
 use Rattle.bits.specs.Bits.{bits_of, place_after, octets_before}
 use Rattle.bits.specs.Places.{octet_count}
 use Rattle.bits.specs.declared.OctetCount.{OctetCount}
@@ -103,3 +103,8 @@ pub record ToneFrom (m : List ℕ) (start : ℕ) : Type 0 where
 abbrev pub octets_behind : {A : Type 0} → Got A → Option OctetCount
 octets_behind (got a p) = Some (octet_count (octets_before p))
 octets_behind (bad n p e) = None
+
+-- a number of octets, which is none where it is 0
+abbrev pub octets_or_none : ℕ → Option OctetCount
+octets_or_none zero = None
+octets_or_none (suc n) = Some (octet_count (suc n))

@@ -10,8 +10,8 @@ ghost use Rattle.bits.specs.Window.{Sight};
 ghost use Rattle.tone.specs.Tone.{recallable};
 ghost use Rattle.tone.specs.Reading.{typed as typedDue, front as frontDue, ending, tone_at};
 ghost use Rattle.tone_elements.specs.Answers.{Within};
-ghost use Rattle.tone_sound.specs.Turning.{turn, onward, wide_in, mark_in, clear, Mark, Marks};
-ghost use Rattle.tone_sound.specs.Answers.{Finds, ToldOf, Past, Stand, Gone, CommandOn, CommandSeen, PatternsPast, PatternsStand, Starts, SongPast, ToneFrom, octets_behind};
+ghost use Rattle.tone_sound.specs.Turning.{turn, onward, wide_in, mark_in, clear, Mark, Marks as Table};
+ghost use Rattle.tone_sound.specs.Answers.{Finds, ToldOf, Past, Stand, Gone, CommandOn, CommandSeen, PatternsPast, PatternsStand, Starts, SongPast, ToneFrom, octets_behind, octets_or_none};
 
 use bits::{BitPlace, OctetCount, TwoSights};
 
@@ -37,11 +37,20 @@ const MARKS: [u8; 512] = *b"1111111111111111111111111111111111111111111111111111
     1111111111111111111111111111111111111111111111111111111111111111\
     1111111111111111111111111111111111111111111111111111111111111111";
 
-// The marks, for a caller who tells many: an array is laid out anew at each use.
-pub fn marks() -> [u8; 512]
-    ensures { Marks result }
-{
-    MARKS
+// The marks in a row, for a caller who tells many: an array is laid out anew at each use.
+#[derive(Drop)]
+pub struct Marks {
+    row: [u8; 512],
+    ghost table: { Table row },
+}
+
+impl Marks {
+    // Lays them out.
+    pub fn new() -> Self
+        ensures { Table result.row }
+    {
+        Marks { row: MARKS }
+    }
 }
 
 // The bits turned to the left: those that leave on top come in below.
@@ -61,9 +70,8 @@ fn wide(y: u64) -> u64
 
 // Tells one instruction more. Of the packed widths only the lowest octet is its own, and of a sum of few the lowest octet is the sum
 // of theirs.
-fn next(t: Told, marks: &[u8; 512]) -> Told
-    requires marks { Marks marks.now }
-    requires widths_bound { (t.widths ≤ 3 * 2 ^ 62) × Mark t.marks }
+fn next(t: Told, marks: &Marks) -> Told
+    requires { (t.widths ≤ 3 * 2 ^ 62) × Mark t.marks }
     ensures bits_value { (result.bits ≡ onward t.bits) × (result.widths ≡ t.widths + wide_in t.bits) × (result.marks ≡ bit_or t.marks (mark_in t.bits)) }
     ensures widths_bound_2 { (result.widths ≤ t.widths + 2 ^ 62) × Mark result.marks }
 {
@@ -73,7 +81,7 @@ fn next(t: Told, marks: &[u8; 512]) -> Told
     Told {
         bits: turned(y, (w % 64) as u32),
         widths: t.widths + w,
-        marks: t.marks | marks[z],
+        marks: t.marks | marks.row[z],
     }
 }
 
@@ -89,18 +97,16 @@ fn begin(x: u64, met: u8) -> Told
 }
 
 // Tells the four instructions on top of a sight.
-fn four(x: u64, met: u8, marks: &[u8; 512]) -> Told
-    requires marks { Marks marks.now }
-    requires mark { Mark met }
+fn four(x: u64, met: u8, marks: &Marks) -> Told
+    requires { Mark met }
     ensures { ToldOf 4 x met result }
 {
     next(next(next(next(begin(x, met), marks), marks), marks), marks)
 }
 
 // Tells the first `n` of them.
-fn few(x: u64, n: u32, met: u8, marks: &[u8; 512]) -> Told
-    requires marks { Marks marks.now }
-    requires n_bound { (n ≤ 4) × Mark met }
+fn few(x: u64, n: u32, met: u8, marks: &Marks) -> Told
+    requires { (n ≤ 4) × Mark met }
     ensures { ToldOf n x met result }
 {
     let mut told = begin(x, met);
@@ -114,8 +120,7 @@ fn few(x: u64, n: u32, met: u8, marks: &[u8; 512]) -> Told
 
 // Goes over the `n` instructions at a place, if they stand there with the end octet's bits behind them: with those the bits that were
 // looked at are there.
-fn some(whole: &[u8], at: BitPlace, n: u32, marks: &[u8; 512]) -> Option<BitPlace>
-    requires marks { Marks marks.now }
+fn some(whole: &[u8], at: BitPlace, n: u32, marks: &Marks) -> Option<BitPlace>
     requires within { Within whole.now at.0 }
     requires n_bound { n ≤ 4 }
     ensures { Finds result (λ p. Past whole.now at.0 n p.0) (Stand whole.now at.0 n) }
@@ -152,8 +157,7 @@ fn unmarked(met: u8, at: BitPlace, left: u32) -> Option<Way>
 // telling waits for no load: what is loaded is needed four instructions later. Marks are put together, and not looked at before the end:
 // no turn asks for one. Until then four that are told wrongly may go on by 255 bits, and 121 must be there behind them: 48 octets have
 // both.
-fn at_hand(whole: &[u8], at: BitPlace, n: u32, marks: &[u8; 512]) -> Option<Way>
-    requires marks { Marks marks.now }
+fn at_hand(whole: &[u8], at: BitPlace, n: u32, marks: &Marks) -> Option<Way>
     requires within { Within whole.now at.0 }
     requires n_bound { n ≤ 255 }
     ensures { Finds result (λ w. Gone whole.now at.0 n w.at.0 w.left) (Stand whole.now at.0 n) }
@@ -188,8 +192,7 @@ fn at_hand(whole: &[u8], at: BitPlace, n: u32, marks: &[u8; 512]) -> Option<Way>
 }
 
 // Goes over the rest of them, up to four at a time.
-fn by_fours(whole: &[u8], at: BitPlace, n: u32, marks: &[u8; 512]) -> Option<BitPlace>
-    requires marks { Marks marks.now }
+fn by_fours(whole: &[u8], at: BitPlace, n: u32, marks: &Marks) -> Option<BitPlace>
     requires within { Within whole.now at.0 }
     requires n_bound { n ≤ 255 }
     ensures { Finds result (λ p. Past whole.now at.0 n p.0) (Stand whole.now at.0 n) }
@@ -205,8 +208,7 @@ fn by_fours(whole: &[u8], at: BitPlace, n: u32, marks: &[u8; 512]) -> Option<Bit
 }
 
 // Goes over all of them.
-fn body(whole: &[u8], at: BitPlace, n: u32, marks: &[u8; 512]) -> Option<BitPlace>
-    requires marks { Marks marks.now }
+fn body(whole: &[u8], at: BitPlace, n: u32, marks: &Marks) -> Option<BitPlace>
     requires within { Within whole.now at.0 }
     requires n_bound { n ≤ 255 }
     ensures { Finds result (λ p. Past whole.now at.0 n p.0) (Stand whole.now at.0 n) }
@@ -315,9 +317,8 @@ fn may_stand(known: [bool; 4], cell: u32) -> bool
 }
 
 // Goes over the `n` patterns at a place.
-fn patterns(whole: &[u8], at: BitPlace, n: u32, marks: &[u8; 512]) -> Option<BitPlace>
-    requires marks { Marks marks.now }
-    requires within { Within whole.now at.0 }
+fn patterns(whole: &[u8], at: BitPlace, n: u32, marks: &Marks) -> Option<BitPlace>
+    requires { Within whole.now at.0 }
     ensures { Finds result (λ p. PatternsPast whole.now at.0 n p.0) (PatternsStand whole.now at.0 n) }
 {
     let mut known = [false; 4];
@@ -336,9 +337,8 @@ fn patterns(whole: &[u8], at: BitPlace, n: u32, marks: &[u8; 512]) -> Option<Bit
 // ---- the end, and the tone
 
 // Goes over the front and the patterns of a tone that starts behind so many octets.
-fn song(whole: &[u8], start: OctetCount, marks: &[u8; 512]) -> Option<BitPlace>
-    requires marks { Marks marks.now }
-    requires start_in_bounds { (start.0 ≤ length whole.now) × (length whole.now < 2 ^ 60) }
+fn song(whole: &[u8], start: OctetCount, marks: &Marks) -> Option<BitPlace>
+    requires { (start.0 ≤ length whole.now) × (length whole.now < 2 ^ 60) }
     ensures { Finds result (λ p. SongPast whole.now start.0 p.0) (ToneFrom whole.now start.0) }
 {
     let opened = front(whole, bits::place_after(start))?;
@@ -362,16 +362,11 @@ fn end_behind(whole: &[u8], at: BitPlace) -> Option<OctetCount>
 }
 
 // How many octets the tone has that starts behind so many, through its own end octet; none where no tone starts there.
-pub fn tone_at(whole: &[u8], start: OctetCount, marks: &[u8; 512]) -> OctetCount
-    requires marks { Marks marks.now }
-    requires start_in_bounds { (start.0 ≤ length whole.now) × (length whole.now < 2 ^ 60) }
-    ensures { result.0 ≡ tone_at whole.now start.0 }
+pub fn tone_at(whole: &[u8], start: OctetCount, marks: &Marks) -> Option<OctetCount>
+    requires { (start.0 ≤ length whole.now) × (length whole.now < 2 ^ 60) }
+    ensures { result ≡ octets_or_none (tone_at whole.now start.0) }
 {
-    let Some(place) = song(whole, start, marks) else {
-        return OctetCount(0);
-    };
-    let Some(end) = end_behind(whole, place) else {
-        return OctetCount(0);
-    };
-    OctetCount(end.0 - start.0)
+    let place = song(whole, start, marks)?;
+    let end = end_behind(whole, place)?;
+    Some(OctetCount(end.0 - start.0))
 }

@@ -8,11 +8,7 @@ pub overflow_add-end : goal.overflow_add-end
 overflow_add-end g c = search (along_lengths, rules)
 
 pub judge_inside-requires : goal.judge_inside-requires
-judge_inside-requires g c =
-    record {
-      marks = search rules;
-      start_le_end = search (along_lengths, rules);
-    }
+judge_inside-requires g c = search (along_lengths, rules)
 
 pub returns-in_err-judge_inside : goal.returns-in_err-judge_inside
 returns-in_err-judge_inside g c = let p = err_from_is_err_and c.from_residual.result c.from_residual.ensures.1 in rw (p.1, p.2) (search (along_lengths, c.in_err-judge_inside.was, rules))

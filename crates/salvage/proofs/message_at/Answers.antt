@@ -25,11 +25,7 @@ pub returns-then-front-eq0 : goal.returns-then-front-eq0
 returns-then-front-eq0 c = search (starts, c.type_inv.c, rules)
 
 pub in_reach-requires : goal.in_reach-requires
-in_reach-requires c =
-    record {
-      marks = search (starts, rules);
-      at_in_bounds = search (starts, rules);
-    }
+in_reach-requires c = search (starts, rules)
 
 pub returns : goal.returns
 returns c = search (starts, rules)

@@ -14,7 +14,7 @@ pub returns-then-not-may_stand : goal.returns-then-not-may_stand
 returns-then-not-may_stand c = counted_barred _ _ _ c.loop.invariant c.loop-test.true c.header.ensures c.ok.ensures.value c.in_ok-header.was c.may_stand.ensures (search rules)
 
 pub body-requires-clause-within : goal.body-requires-clause-within
-body-requires-clause-within c = header_within c.requires.within.counted c.loop.invariant.inside c.header.ensures c.ok.ensures.value c.in_ok-header.was
+body-requires-clause-within c = header_within c.requires.counted c.loop.invariant.inside c.header.ensures c.ok.ensures.value c.in_ok-header.was
 
 pub returns-in_err-place : goal.returns-in_err-place
 returns-in_err-place c = search (counted_lost _ _ _ c.loop.invariant c.loop-test.true c.header.ensures c.ok.ensures.value c.in_ok-header.was c.body.ensures c.in_err-place.was, rules)

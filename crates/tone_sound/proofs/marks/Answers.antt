@@ -1,9 +1,0 @@
--- `tone_sound::marks` meets its contract: the row is tested as a whole.
-use mathlib.Core.Path.{refl}
-use Rattle.tone_sound.specs.Turning.{mark_of}
-use Rattle.tone_sound.proofs.Marking.{marks_are}
-use Rattle.tone_sound.proofs.marks.Goals as goal
-
-pub returns : goal.returns
-unfolding mark_of
-returns c = marks_are refl
