@@ -223,7 +223,7 @@ pub struct Sink {
 impl Sink {
     // Behind so many octets, with nothing in hand.
     pub fn at(octets: OctetCount) -> Sink
-        ensures { (result.octets ≡ octets) × (result.n ≡ 0) × (result.acc ≡ 0) }
+        ensures { (result.octets.0 ≡ octets.0) × (result.n ≡ 0) × (result.acc ≡ 0) }
     {
         Sink {
             octets,
