@@ -11,7 +11,7 @@ use lib.Seq.{length-take-le, take-suc, take-add, drop-drop, drop-cons, get_or-dr
 use lib.Pow.{field as pow-field, pow_pos, high, shr_le, shr_lt, shl_exact, shr-shr, mod-mod-pow}
 use lib.Dec.{lit≤}
 use mir.Val.{Fits}
-use mir.Syntax.{w64}
+use mir.Syntax.{w8, w64}
 use Rattle.bits.specs.Bits.{num, bits_n, bits_of, field, octets_before, octets_to, filler_to}
 use Rattle.bits.specs.Window.{four, eight, Look, Sight, Sights}
 use Rattle.bits.proofs.Numbers.{moved_down, join_lt, joined_lt, moved_pair, moved_top, length_bits, field_drop, field_front, field_take, field_num, num_append, num_bits, num_lt}
@@ -66,9 +66,9 @@ pub num_four : (x y z u : ℕ) → x < 256 → y < 256 → z < 256 → u < 256 �
 num_four x y z u hx hy hz hu = simp (num_append, length-append, length_bits, num_bits, hx, hy, hz, hu) (omega arith)
 
 -- what `word` computes
-pub word_is : {a b c d x y z u : ℕ} → (x ≡ a) × (x < 256) → (y ≡ b) × (y < 256) → (z ≡ c) × (z < 256) → (u ≡ d) × (u < 256)
+pub word_is : {a b c d x y z u : ℕ} → Fits w8 a → Fits w8 b → Fits w8 c → Fits w8 d → x ≡ a → y ≡ b → z ≡ c → u ≡ d
     → x * 16777216 + y * 65536 + z * 256 + u ≡ num (bits_of (a ∷ b ∷ c ∷ d ∷ []))
-word_is {x = x} {y} {z} {u} hx hy hz hu = rw (← hx.0, ← hy.0, ← hz.0, ← hu.0) (sym (num_four x y z u hx.1 hy.1 hz.1 hu.1))
+word_is {a} {b} {c} {d} fa fb fc fd ea eb ec ed = rw (ea, eb, ec, ed) (sym (num_four a b c d fa.fits fb.fits fc.fits fd.fits))
 
 -- what `near_end` computes
 pub window_is : (m : List ℕ) (i : ℕ) {x y z u : ℕ} → (x ≡ get_or m i 0) × (x < 256) → (y ≡ get_or m (i + 1) 0) × (y < 256) → (z ≡ get_or m (i + 2) 0) × (z < 256)

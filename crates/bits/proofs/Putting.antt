@@ -82,8 +82,11 @@ module _ (n acc w v : ℕ) (i : InHand n acc) (h : w ≤ 24) (hv : v < 2 ^ w) wh
       ∙ sym (append_assoc (bits_of (take at buf)) (bits_n n acc) (bits_n w v))
 
   -- they stay in hand
+  pub held : n + w < 32 → InHand (n + w) (joined acc w v)
+  held s = record { short = s; small = joined_lt }
+
   pub put_held : n + w < 32 → (buf : List ℕ) (at : ℕ) → Put (written buf at n acc) (bits_n w v) (8 * at + n + w) buf buf at (n + w) (joined acc w v)
-  put_held s buf at = record { bits = in_hand buf at; place = omega arith; hand = record { short = s; small = joined_lt }; rest = refl }
+  put_held s buf at = record { bits = in_hand buf at; place = omega arith; hand = held s; rest = refl }
 
   -- or a word is handed over, and k bits stay
   module _ (s : 32 ≤ n + w) where
@@ -115,7 +118,7 @@ module _ (n acc w v : ℕ) (i : InHand n acc) (h : w ≤ 24) (hv : v < 2 ^ w) wh
           rest = drop_further (at + 4) (octets_to (8 * at + n + w)) buf' buf (omega arith) q.rest;
         })
 
-pub ruleset puts = (joined_fits, put_held, word_fits, mask_some, put_handed)
+pub ruleset puts = (joined_fits, held, put_held, word_fits, mask_some, put_handed)
 
 -- ---- ends of a row of bits
 

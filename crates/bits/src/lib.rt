@@ -40,13 +40,6 @@ pub fn octets_to(p: BitPlace) -> OctetCount
     octets_before(BitPlace(p.0 + 7))
 }
 
-// An octet as a wider number, with its bound.
-fn wide(x: u8) -> u32
-    ensures { (result ≡ x) × (result < 256) }
-{
-    x as u32
-}
-
 // The octet behind so many, 0 past the end.
 fn octet(s: &[u8], at: OctetCount) -> u32
     ensures { (result ≡ get_or s.now at.0 0) × (result < 256) }
@@ -59,7 +52,7 @@ fn octet(s: &[u8], at: OctetCount) -> u32
 fn word(a: u8, b: u8, c: u8, d: u8) -> u32
     ensures { result ≡ num (bits_of (a ∷ b ∷ c ∷ d ∷ [])) }
 {
-    wide(a) * 16777216 + wide(b) * 65536 + wide(c) * 256 + wide(d)
+    u32::from(a) * 16777216 + u32::from(b) * 65536 + u32::from(c) * 256 + u32::from(d)
 }
 
 // The four octets behind so many as one number, 0 past the end.
@@ -144,7 +137,7 @@ pub fn full_sight(s: &[u8], at: BitPlace) -> u64
     if o == 0 {
         return eight;
     }
-    (eight << o) + (wide(s[i.0 + 8]) >> (8 - o)) as u64
+    (eight << o) + (u32::from(s[i.0 + 8]) >> (8 - o)) as u64
 }
 
 // The 121 bits at a place, in two numbers: the first 64, and the others on top of the second.
@@ -183,7 +176,7 @@ pub fn octet_at(s: &[u8], at: BitPlace) -> u8
     ensures { result ≡ field (bits_of s.now) at.0 8 }
 {
     let i = octets_before(at).0;
-    let two = wide(s[i]) * 256 + wide(s[i + 1]);
+    let two = u32::from(s[i]) * 256 + u32::from(s[i + 1]);
     ((two >> (8 - at.0 % 8)) % 256) as u8
 }
 
@@ -194,7 +187,7 @@ pub fn through_octet(s: &[u8], at: BitPlace) -> u64
 {
     let i = octets_before(at).0;
     let j = octets_to(at).0;
-    let two = wide(s[i]) * 256 + wide(s[j]);
+    let two = u32::from(s[i]) * 256 + u32::from(s[j]);
     (two as u64) << (48 + at.0 % 8)
 }
 
@@ -204,14 +197,6 @@ pub fn part(x: u32, o: u32, w: u32) -> u32
     ensures { (result ≡ x / 2 ^ (24 - (o + w)) % 2 ^ w) × (result < 2 ^ w) }
 {
     (x >> (24 - (o + w))) & ((1u32 << w) - 1)
-}
-
-// Where a row of bits that is being written has come to: whole octets, and `n` bits in hand that spell `acc`.
-#[derive(Clone, Copy)]
-pub struct Sink {
-    pub octets: OctetCount,
-    pub n: u32,
-    pub acc: u64,
 }
 
 // Stores the four octets of a word behind so many. It is one store.
@@ -226,41 +211,61 @@ fn store(buf: &mut [u8], at: OctetCount, word: u32)
     buf[i + 3] = (word % 256) as u8;
 }
 
-// Writes the `w` bits that spell `v`. They stay in hand until there are 32.
-pub fn put(buf: &mut [u8], s: Sink, w: u32, v: u32) -> Sink
-    requires in_hand { InHand s.n s.acc }
-    requires w_bound { (w ≤ 24) × (v < 2 ^ w) × (place_after s.octets.0 + s.n + w ≤ place_after (length buf.old)) }
-    ensures { Put (written buf.old s.octets.0 s.n s.acc) (bits_n w v) (place_after s.octets.0 + s.n + w) buf.old buf.new result.octets.0 result.n result.acc }
-{
-    let octets = s.octets;
-    let n = s.n + w;
-    let acc = (s.acc << w) + v as u64;
-    if n < 32 {
-        return Sink { octets, n, acc };
-    }
-    let left = n - 32;
-    store(buf, octets, (acc >> left) as u32);
-    Sink {
-        octets: OctetCount(octets.0 + 4),
-        n: left,
-        acc: acc & ((1u64 << left) - 1),
-    }
+// Where a row of bits that is being written has come to: whole octets, and `n` bits in hand, fewer than 32, that spell `acc`.
+#[derive(Clone, Copy)]
+pub struct Sink {
+    pub octets: OctetCount,
+    pub n: u32,
+    pub acc: u64,
+    pub ghost in_hand: { InHand n acc },
 }
 
-// Writes zeros to the octet's end, and an octet 0. It answers how many octets there are.
-pub fn seal(buf: &mut [u8], s: Sink) -> OctetCount
-    requires in_hand { InHand s.n s.acc }
-    requires n_in_bounds { octets_to (place_after s.octets.0 + s.n) + 1 ≤ length buf.old }
-    ensures { Sealed (written buf.old s.octets.0 s.n s.acc) (place_after s.octets.0 + s.n) buf.old buf.new result.0 }
-{
-    let zeros = (8 - s.n % 8) % 8 + 8;
-    let bits = s.acc << zeros;
-    let mut at = s.octets.0;
-    let mut left = s.n + zeros;
-    while 8 <= left {
-        left -= 8;
-        buf[at] = ((bits >> left) % 256) as u8;
-        at += 1;
+impl Sink {
+    // Behind so many octets, with nothing in hand.
+    pub fn at(octets: OctetCount) -> Sink
+        ensures { (result.octets.0 ≡ octets.0) × (result.n ≡ 0) × (result.acc ≡ 0) }
+    {
+        Sink {
+            octets,
+            n: 0,
+            acc: 0,
+        }
     }
-    OctetCount(at)
+
+    // Writes the `w` bits that spell `v`. They stay in hand until there are 32.
+    pub fn put(self, buf: &mut [u8], w: u32, v: u32) -> Sink
+        requires { (w ≤ 24) × (v < 2 ^ w) × (place_after self.octets.0 + self.n + w ≤ place_after (length buf.old)) }
+        ensures { Put (written buf.old self.octets.0 self.n self.acc) (bits_n w v) (place_after self.octets.0 + self.n + w) buf.old buf.new result.octets.0 result.n result.acc }
+    {
+        let octets = self.octets;
+        let n = self.n + w;
+        let acc = (self.acc << w) + v as u64;
+        if n < 32 {
+            return Sink { octets, n, acc };
+        }
+        let left = n - 32;
+        store(buf, octets, (acc >> left) as u32);
+        Sink {
+            octets: OctetCount(octets.0 + 4),
+            n: left,
+            acc: acc & ((1u64 << left) - 1),
+        }
+    }
+
+    // Writes zeros to the octet's end, and an octet 0. It answers how many octets there are.
+    pub fn seal(self, buf: &mut [u8]) -> OctetCount
+        requires { octets_to (place_after self.octets.0 + self.n) + 1 ≤ length buf.old }
+        ensures { Sealed (written buf.old self.octets.0 self.n self.acc) (place_after self.octets.0 + self.n) buf.old buf.new result.0 }
+    {
+        let zeros = (8 - self.n % 8) % 8 + 8;
+        let bits = self.acc << zeros;
+        let mut at = self.octets.0;
+        let mut left = self.n + zeros;
+        while 8 <= left {
+            left -= 8;
+            buf[at] = ((bits >> left) % 256) as u8;
+            at += 1;
+        }
+        OctetCount(at)
+    }
 }

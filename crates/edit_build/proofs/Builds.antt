@@ -1,7 +1,7 @@
 -- Building a message anew from bits of the old one.
 use Prim.Native.Nat.{ℕ, ◌+◌, ◌-◌, ◌*◌, ◌^◌, ◌≤◌, ◌<◌}
 use native.Mathlib.Omega.{arith}
-use mathlib.Core.Path.{◌≡◌, refl, sym, ap, ap₂, ◌∙◌}
+use mathlib.Core.Path.{◌≡◌, sym, ap, ap₂, ◌∙◌}
 use mathlib.Core.Bool.{Bool}
 use mathlib.Core.List.{List, ◌++◌, append-nil}
 use lib.ListN.{length, get_or, take, drop, length-append, length-drop, take-append-drop}
@@ -29,13 +29,14 @@ unfolding written bits_n
 whole_written m out w h =
     append-nil (bits_of (take w (over (take w m) out))) ∙ ap bits_of (take_at (take w m) (drop (length (take w m)) out) w (length-take-le w m h)) ∙ sym (take_bits_of w m h)
 
-pub front_is : (m out : List ℕ) (n : ℕ) {w p : ℕ} {out₁ out₂ : List ℕ} {o k acc : ℕ} → (n ≤ 8 * length m) × (length m < 2 ^ 60) × (n ≤ 8 * length out) → w ≡ octets_before n → p ≡ place_after w
-    → out₁ ≡ over (take w m) out → Put (written out₁ w 0 0) (take (n - p) (drop p (bits_of m))) (place_after w + 0 + (n - p)) out₁ out₂ o k acc → Begun (take n (bits_of m)) out₂ o k acc
-front_is m out n {w} {p} {out₁} {out₂} {o} {k} {acc} h ew ep eo q =
+pub front_is : (m out : List ℕ) (n : ℕ) {w p o₁ k₁ acc₁ : ℕ} {out₁ out₂ : List ℕ} {o k acc : ℕ} → (n ≤ 8 * length m) × (length m < 2 ^ 60) × (n ≤ 8 * length out) → w ≡ octets_before n → p ≡ place_after w
+    → (o₁ ≡ w) × (k₁ ≡ 0) × (acc₁ ≡ 0) → out₁ ≡ over (take w m) out → Put (written out₁ o₁ k₁ acc₁) (take (n - p) (drop p (bits_of m))) (place_after o₁ + k₁ + (n - p)) out₁ out₂ o k acc
+    → Begun (take n (bits_of m)) out₂ o k acc
+front_is m out n {w} {p} {o₁} {k₁} {acc₁} {out₁} {out₂} {o} {k} {acc} h ew ep es eo q =
     let s : p + (n - p) ≡ n = omega arith in
+    let b : written out₁ o₁ k₁ acc₁ ≡ take p (bits_of m) = rw (es.0, es.1, es.2, eo, ep) (whole_written m out w (omega arith)) in
     record {
-      spelt = q.bits ∙ ap₂ (λ (x y : List Bool). x ++ y) (ap (λ (x : List ℕ). written x w 0 0) eo ∙ whole_written m out w (omega arith) ∙ ap (λ (x : ℕ). take x (bits_of m)) (sym ep)) refl
-          ∙ sym (take-add p (n - p) (bits_of m)) ∙ ap (λ (x : ℕ). take x (bits_of m)) s;
+      spelt = q.bits ∙ ap (λ (x : List Bool). x ++ take (n - p) (drop p (bits_of m))) b ∙ sym (take-add p (n - p) (bits_of m)) ∙ ap (λ (x : ℕ). take x (bits_of m)) s;
       place = omega (arith, q.place, length-take-le n (bits_of m) (rw (length_bits_of m) h.0));
       hand = q.hand;
     }

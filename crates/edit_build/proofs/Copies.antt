@@ -31,16 +31,15 @@ pub record BitCopy (m : List ℕ) (at n : ℕ) (old : List Bool) (z : ℕ) (kept
   pub fewer : left ≤ n
   pub inside : at + n ≤ 8 * length m
   pub counted : length m < 2 ^ 60
-  pub hand : InHand k acc
   pub room : z + n ≤ 8 * length kept
   pub reached : place_after o + k + left ≡ z + n
   pub bits : written buf o k acc ++ take left (drop p (bits_of m)) ≡ old ++ take n (drop at (bits_of m))
   pub rest : drop (octets_to (z + n)) buf ≡ drop (octets_to (z + n)) kept
   pub long : length buf ≡ length kept
 
-pub bits_begin : (m : List ℕ) (at n : ℕ) (buf : List ℕ) (o k acc : ℕ) → InHand k acc → (at + n ≤ 8 * length m) × (length m < 2 ^ 60) × (place_after o + k + n ≤ 8 * length buf)
+pub bits_begin : (m : List ℕ) (at n : ℕ) (buf : List ℕ) (o k acc : ℕ) → (at + n ≤ 8 * length m) × (length m < 2 ^ 60) × (place_after o + k + n ≤ 8 * length buf)
     → BitCopy m at n (written buf o k acc) (place_after o + k) buf at n buf o k acc
-bits_begin m at n buf o k acc i h = record { place = refl; fewer = omega arith; inside = h.0; counted = h.1; hand = i; room = h.2; reached = refl; bits = refl; rest = refl; long = refl }
+bits_begin m at n buf o k acc h = record { place = refl; fewer = omega arith; inside = h.0; counted = h.1; room = h.2; reached = refl; bits = refl; rest = refl; long = refl }
 
 module _ {m : List ℕ} {at n : ℕ} {old : List Bool} {z : ℕ} {kept : List ℕ} {p left : ℕ} {buf : List ℕ} {o k acc : ℕ} (c : BitCopy m at n old z kept p left buf o k acc) where
   -- the next w bits were put
@@ -55,7 +54,6 @@ module _ {m : List ℕ} {at n : ℕ} {old : List Bool} {z : ℕ} {kept : List �
         fewer = omega (arith, c.fewer);
         inside = c.inside;
         counted = c.counted;
-        hand = q.hand;
         room = c.room;
         reached = omega (arith, q.place, c.reached);
         bits = ap (λ (y : List Bool). y ++ take (left - w) (drop (p + w) (bits_of m))) q.bits ∙ append_assoc (written buf o k acc) (bits_n w v) (take (left - w) (drop (p + w) (bits_of m)))
@@ -83,16 +81,16 @@ module _ {m : List ℕ} {at n : ℕ} {old : List Bool} {z : ℕ} {kept : List �
   bits_place h = let k = c.counted in record { fits = omega (arith, c.place, c.inside) }
 
   -- the end
-  last : {buf' : List ℕ} {o' k' acc' : ℕ} → BitCopy m at n old z kept (p + left) (left - left) buf' o' k' acc' → Put old (take n (drop at (bits_of m))) (z + n) kept buf' o' k' acc'
-  last {buf'} {o'} {k'} {acc'} d =
+  last : {buf' : List ℕ} {o' k' acc' : ℕ} → InHand k' acc' → BitCopy m at n old z kept (p + left) (left - left) buf' o' k' acc' → Put old (take n (drop at (bits_of m))) (z + n) kept buf' o' k' acc'
+  last {buf'} {o'} {k'} {acc'} i d =
       let e : left - left ≡ 0 = omega arith in
       let b : written buf' o' k' acc' ++ take (left - left) (drop (p + left) (bits_of m)) ≡ written buf' o' k' acc' = rw e (append-nil (written buf' o' k' acc')) in
-      record { bits = sym b ∙ d.bits; place = omega (arith, d.reached); hand = d.hand; rest = d.rest }
+      record { bits = sym b ∙ d.bits; place = omega (arith, d.reached); hand = i; rest = d.rest }
 
-  pub bits_none : left ≡ 0 → Put old (take n (drop at (bits_of m))) (z + n) kept buf o k acc
-  bits_none e =
+  pub bits_none : InHand k acc → left ≡ 0 → Put old (take n (drop at (bits_of m))) (z + n) kept buf o k acc
+  bits_none i e =
       let b : written buf o k acc ++ take left (drop p (bits_of m)) ≡ written buf o k acc = rw e (append-nil (written buf o k acc)) in
-      record { bits = sym b ∙ c.bits; place = omega (arith, c.reached); hand = c.hand; rest = c.rest }
+      record { bits = sym b ∙ c.bits; place = omega (arith, c.reached); hand = i; rest = c.rest }
 
   module _ (h : left < 24) where
     pub bits_last_look : p ≤ 8 * length m
@@ -103,6 +101,6 @@ module _ {m : List ℕ} {at n : ℕ} {old : List Bool} {z : ℕ} {kept : List �
 
     pub bits_last : {x v : ℕ} {buf' : List ℕ} {o' k' acc' : ℕ} → Look (drop p (bits_of m)) x → (v ≡ x / 2 ^ (24 - (0 + left)) % 2 ^ left) × (v < 2 ^ left) → length buf' ≡ length buf
         → Put (written buf o k acc) (bits_n left v) (place_after o + k + left) buf buf' o' k' acc' → Put old (take n (drop at (bits_of m))) (z + n) kept buf' o' k' acc'
-    bits_last lk ev e q = last (more left (omega arith) (omega arith) lk ev.0 e q)
+    bits_last lk ev e q = last q.hand (more left (omega arith) (omega arith) lk ev.0 e q)
 
 pub ruleset bits = (bits_begin, bits_look, bits_room, bits_step, bits_place, bits_none, bits_last_look, bits_last_room, bits_last)

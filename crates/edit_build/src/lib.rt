@@ -3,7 +3,7 @@
 ghost use Rattle.std.specs.Prelude.{◌≡◌, ◌+◌, ◌-◌, ◌^◌, ◌≤◌, ◌<◌, length, take, drop};
 ghost use Rattle.bits.specs.Bits.{bits_of, place_after, octets_to};
 ghost use Rattle.bits.specs.Lent.{over};
-ghost use Rattle.bits.specs.Sink.{written, InHand, Put};
+ghost use Rattle.bits.specs.Sink.{written, Put};
 ghost use Rattle.edit_build.specs.Anew.{Begun, Built, headed, reached, pieced, joined};
 
 use bits::{BitPlace, OctetCount, Sink};
@@ -21,15 +21,14 @@ pub fn copy_octets(from: &[u8], octets: OctetCount, to: &mut [u8])
 
 // Puts the `n` bits that stand at a place.
 fn copy_bits(msg: &[u8], at: BitPlace, n: usize, out: &mut [u8], sink: Sink) -> Sink
-    requires in_hand { InHand sink.n sink.acc }
-    requires n_bound { (at.0 + n ≤ place_after (length msg.now)) × (length msg.now < 2 ^ 60) × (place_after sink.octets.0 + sink.n + n ≤ place_after (length out.old)) }
+    requires { (at.0 + n ≤ place_after (length msg.now)) × (length msg.now < 2 ^ 60) × (place_after sink.octets.0 + sink.n + n ≤ place_after (length out.old)) }
     ensures { Put (written out.old sink.octets.0 sink.n sink.acc) (take n (drop at.0 (bits_of msg.now))) (place_after sink.octets.0 + sink.n + n) out.old out.new result.octets.0 result.n result.acc }
 {
     let mut s = sink;
     let mut place = at;
     let mut left = n;
     while 24 <= left {
-        s = bits::put(out, s, 24, bits::look(msg, place));
+        s = s.put(out, 24, bits::look(msg, place));
         place = BitPlace(place.0 + 24);
         left -= 24;
     }
@@ -37,7 +36,7 @@ fn copy_bits(msg: &[u8], at: BitPlace, n: usize, out: &mut [u8], sink: Sink) -> 
         return s;
     }
     let x = bits::look(msg, place);
-    bits::put(out, s, left as u32, bits::part(x, 0, left as u32))
+    s.put(out, left as u32, bits::part(x, 0, left as u32))
 }
 
 // Copies the bits of a message up to a place to the start of a buffer.
@@ -48,12 +47,7 @@ fn copy_front(msg: &[u8], end: BitPlace, out: &mut [u8]) -> Sink
     let whole = bits::octets_before(end);
     copy_octets(msg, whole, out);
     let at = bits::place_after(whole);
-    let s = Sink {
-        octets: whole,
-        n: 0,
-        acc: 0,
-    };
-    copy_bits(msg, at, end.0 - at.0, out, s)
+    copy_bits(msg, at, end.0 - at.0, out, Sink::at(whole))
 }
 
 // ---- building a message anew
@@ -64,7 +58,7 @@ fn put_header(msg: &[u8], head: BitPlace, cell: u32, out: &mut [u8]) -> Sink
     ensures { Begun (headed (bits_of msg.now) head.0 cell) out.new result.octets.0 result.n result.acc }
 {
     let s = copy_front(msg, head, out);
-    bits::put(out, s, 17, cell)
+    s.put(out, 17, cell)
 }
 
 // Then the bits up to a place.
@@ -98,7 +92,7 @@ fn put_piece(
     ensures { Begun (pieced (bits_of msg.now) head.0 cell at.0 piece.width piece.value) out.new result.octets.0 result.n result.acc }
 {
     let s = put_ahead(msg, head, cell, at, out);
-    bits::put(out, s, piece.width, piece.value)
+    s.put(out, piece.width, piece.value)
 }
 
 // Where an instruction stands, where what is left behind it does, and where the patterns end.
@@ -128,5 +122,5 @@ pub fn build(
     let s = put_piece(msg, header, cell, at, piece, out);
     let n = spot.end.0 - behind.0;
     let t = copy_bits(msg, behind, n, out, s);
-    bits::seal(out, t)
+    t.seal(out)
 }

@@ -13,20 +13,13 @@ use tone_sound::Marks;
 
 // ---- numbers of two octets, high octet first
 
-// An octet as a wider number, with its bound.
-fn wide(x: u8) -> usize
-    ensures { (result ≡ x) × (result < 256) }
-{
-    x as usize
-}
-
 // The number whose two octets stand behind so many.
 pub fn number_at(m: &[u8], at: OctetCount) -> usize
     requires { at.0 + 2 ≤ length m.now }
     ensures { (result ≡ number m.now at.0) × (result < 65536) }
 {
     let i = at.0;
-    wide(m[i]) * 256 + wide(m[i + 1])
+    usize::from(m[i]) * 256 + usize::from(m[i + 1])
 }
 
 // Puts the two octets of a number behind so many.

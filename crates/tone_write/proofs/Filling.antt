@@ -49,6 +49,10 @@ module _ (t : Tone) {old mid new : List ℕ} {at n acc r : ℕ} (p : Put [] (son
 
 -- ---- what `put_front` shows
 
+-- a sink at the start holds nothing
+pub front_none : (out : List ℕ) {at n acc : ℕ} → (at ≡ 0) × (n ≡ 0) × (acc ≡ 0) → written out at n acc ≡ []
+front_none out e = rw (e.0, e.1, e.2) (nothing out)
+
 module _ (song : ℕ) (u : Bool) (title : List ℕ) (count : ℕ) where
   abbrev opening : List Bool
   opening = command_bits u ++ bits_n 3 song
@@ -63,11 +67,11 @@ module _ (song : ℕ) (u : Bool) (title : List ℕ) (count : ℕ) where
   pub front_length_lem : length (front_bits (front_with song u title count)) ≡ front_length song u (length title)
   front_length_lem = omega (arith, size, command_length_lem u song, title_length_lem song u title)
 
-module _ (song : ℕ) (u : Bool) (title : List ℕ) (count : ℕ) (out : List ℕ) (room : length (front_bits (front_with song u title count)) ≤ place_after (length out)) where
-  pub front_room : 0 + length (command_bits u ++ bits_n 3 song) ≤ place_after (length out)
+module _ (song : ℕ) (u : Bool) (title : List ℕ) (count : ℕ) (out : List ℕ) (room : length (front_bits (front_with song u title count)) ≤ place_after (length out)) {at₀ n₀ : ℕ} (ea : at₀ ≡ 0) (en : n₀ ≡ 0) where
+  pub front_room : 8 * at₀ + n₀ + length (command_bits u ++ bits_n 3 song) ≤ place_after (length out)
   front_room = omega (arith, size song u title count)
 
-  module _ {b₁ : List ℕ} {at₁ n₁ acc₁ : ℕ} (p₁ : Put (written out 0 0 0) (command_bits u ++ bits_n 3 song) (0 + length (command_bits u ++ bits_n 3 song)) out b₁ at₁ n₁ acc₁) (l₁ : length b₁ ≡ length out) where
+  module _ {old : List Bool} {b₁ : List ℕ} {at₁ n₁ acc₁ : ℕ} (p₁ : Put old (command_bits u ++ bits_n 3 song) (8 * at₀ + n₀ + length (command_bits u ++ bits_n 3 song)) out b₁ at₁ n₁ acc₁) (l₁ : length b₁ ≡ length out) where
     pub front_title_room : 8 * at₁ + n₁ + length (title_bits song u title) ≤ place_after (length b₁)
     front_title_room = omega (arith, size song u title count, p₁.place)
 
@@ -75,14 +79,14 @@ module _ (song : ℕ) (u : Bool) (title : List ℕ) (count : ℕ) (out : List �
       pub front_count_room : length b₂ ≡ length b₁ → 8 * at₂ + n₂ + 8 ≤ place_after (length b₂)
       front_count_room l₂ = omega (arith, size song u title count, p₁.place, p₂.place)
 
-      pub front_put : {b₃ : List ℕ} {at₃ n₃ acc₃ : ℕ} → Put (written b₂ at₂ n₂ acc₂) (bits_n 8 count) (8 * at₂ + n₂ + 8) b₂ b₃ at₃ n₃ acc₃
+      pub front_put : old ≡ [] → {b₃ : List ℕ} {at₃ n₃ acc₃ : ℕ} → Put (written b₂ at₂ n₂ acc₂) (bits_n 8 count) (8 * at₂ + n₂ + 8) b₂ b₃ at₃ n₃ acc₃
           → Put [] (front_bits (front_with song u title count)) (length (front_bits (front_with song u title count))) out b₃ at₃ n₃ acc₃
-      front_put p₃ =
+      front_put e p₃ =
           let q = put_then (put_then p₁ p₂ (omega (arith, p₁.place))) p₃ (omega (arith, p₂.place)) in
           let z : 8 * at₂ + n₂ + 8 ≡ length (front_bits (front_with song u title count)) = omega (arith, size song u title count, p₁.place, p₂.place) in
-          rw (nothing out) at (put_as (parts song u title count) z q)
+          rw e at (put_as (parts song u title count) z q)
 
-pub ruleset fronts = (front_room, front_title_room, front_count_room, front_put)
+pub ruleset fronts = (front_none, front_room, front_title_room, front_count_room, front_put)
 
 -- ---- what `fill` shows
 

@@ -15,7 +15,7 @@ use mir.Val.{Fits}
 use mir.Syntax.{w32}
 use Rattle.bits.specs.Choice.{pick}
 use Rattle.bits.specs.Bits.{bits_n, bits_of, place_after}
-use Rattle.bits.specs.Sink.{written, InHand, Put}
+use Rattle.bits.specs.Sink.{written, Put}
 use Rattle.bits.specs.declared.Sink.{Sink}
 use Rattle.bits.proofs.Numbers.{length_bits, bits_append, join_lt}
 use Rattle.bits.proofs.Octets.{bits_of_append, length_bits_of}
@@ -92,17 +92,14 @@ pub record Run (bits : List ℕ → List Bool) (xs : List ℕ) (from : Sink) (ol
   pub put : Appended from (bits (take i xs)) old new s
 
 module _ (bits : List ℕ → List Bool) (xs : List ℕ) (from : Sink) (old : List ℕ) where
-  pub run_begins : bits [] ≡ [] → InHand from.n from.acc → Run bits xs from old old from 0
-  run_begins e h = record {
+  pub run_begins : bits [] ≡ [] → Run bits xs from old old from 0
+  run_begins e = record {
     least = omega arith;
     long = refl;
-    put = put_as (sym e) (sym (ap (λ (x : List Bool). reached from + length x) e ∙ add-zero (reached from))) (put_none old from.octets.0 from.n from.acc h);
+    put = put_as (sym e) (sym (ap (λ (x : List Bool). reached from + length x) e ∙ add-zero (reached from))) (put_none old from.octets.0 from.n from.acc from.in_hand);
   }
 
 module _ {bits : List ℕ → List Bool} {xs : List ℕ} {from : Sink} {old new : List ℕ} {s : Sink} {i : ℕ} (r : Run bits xs from old new s i) where
-  pub run_hand : InHand s.n s.acc
-  run_hand = r.put.hand
-
   pub run_long : length new ≡ length old
   run_long = r.long
 
@@ -145,7 +142,7 @@ module _ {xs : List ℕ} {from : Sink} {old new : List ℕ} {s : Sink} {i : ℕ}
 pub table_ends : {xs : List ℕ} {from : Sink} {old new : List ℕ} {s : Sink} {i : ℕ} → Run table_bits xs from old new s i → length xs ≤ i → Appended from (table_bits xs) old new s
 table_ends r h = run_ends r h
 
-pub ruleset tables = (run_begins, run_hand, run_long, entries_at, table_room_lem, table_on, table_ends)
+pub ruleset tables = (run_begins, run_long, entries_at, table_room_lem, table_on, table_ends)
 
 -- octets
 module _ {xs : List ℕ} {from : Sink} {old new : List ℕ} {s : Sink} {i : ℕ} (r : Run bits_of xs from old new s i) (h : i < length xs) where
@@ -160,7 +157,7 @@ module _ {xs : List ℕ} {from : Sink} {old new : List ℕ} {s : Sink} {i : ℕ}
 pub octets_ends : {xs : List ℕ} {from : Sink} {old new : List ℕ} {s : Sink} {i : ℕ} → Run bits_of xs from old new s i → length xs ≤ i → Appended from (bits_of xs) old new s
 octets_ends r h = run_ends r h
 
-pub ruleset rows = (run_begins, run_hand, run_long, octets_room, octets_on, octets_ends)
+pub ruleset rows = (run_begins, run_long, octets_room, octets_on, octets_ends)
 
 -- ---- the command and the song type
 
@@ -220,10 +217,10 @@ module _ (song : ℕ) (u : Bool) (title : List ℕ) where
       go true = length-append (bits_n 4 (characters u title)) (bits_of title) ∙ ap₂ (λ (x y : ℕ). x + y) (length_bits 4 (characters u title)) (length_bits_of title)
       go false = refl
 
-  pub title_none : (song ≡ 1 → ⊥) → (buf : List ℕ) (s : Sink) → InHand s.n s.acc → Appended s (title_bits song u title) buf buf s
+  pub title_none : (song ≡ 1 → ⊥) → (buf : List ℕ) (s : Sink) → Appended s (title_bits song u title) buf buf s
   unfolding title_bits
-  title_none e buf s h =
-      rw (ne_eqb song 1 e) (put_as refl (sym (add-zero (reached s))) (put_none buf s.octets.0 s.n s.acc h))
+  title_none e buf s =
+      rw (ne_eqb song 1 e) (put_as refl (sym (add-zero (reached s))) (put_none buf s.octets.0 s.n s.acc s.in_hand))
 
   module _ (short : characters u title ≤ 15) where
     pub title_fits : length title < 2 ^ 32

@@ -5,7 +5,6 @@ ghost use Rattle.bits.specs.Choice.{pick};
 ghost use Rattle.bits.specs.Bits.{bits_n, bits_of, place_after};
 ghost use Rattle.bits.specs.Lent.{over};
 ghost use Rattle.bits.specs.Outcome.{accepted};
-ghost use Rattle.bits.specs.Sink.{InHand};
 ghost use Rattle.tone.specs.Table.{InTable};
 ghost use Rattle.tone.specs.Tone.{per_character, characters, allowed_title};
 ghost use Rattle.tone.specs.Writing.{command_bits, title_bits, front_bits, entry_bits, table_bits, tone_length, tone_octets};
@@ -22,22 +21,20 @@ use written::Writing;
 
 // Writes an entry, behind what `from` holds.
 fn put_entry(out: &mut [u8], from: Sink, e: u32) -> Sink
-    requires in_hand { InHand from.n from.acc }
     requires in_table { InTable e }
     requires e_bound { reached from + length (entry_bits e) ≤ place_after (length out.old) }
     ensures { Appended from (entry_bits e) out.old out.new result }
 {
     let kind = e / 65536;
     if kind == 1 {
-        return bits::put(out, from, 12, 512 + e % 65536);
+        return from.put(out, 12, 512 + e % 65536);
     }
     let w = tone_elements::width(kind);
-    bits::put(out, from, 3 + w, (kind << w) + e % 65536)
+    from.put(out, 3 + w, (kind << w) + e % 65536)
 }
 
 // Writes the entries of a table.
 fn put_table(out: &mut [u8], from: Sink, table: &[u32]) -> Sink
-    requires in_hand { InHand from.n from.acc }
     requires entries { Entries table.now }
     requires table_bound { reached from + length (table_bits table.now) ≤ place_after (length out.old) }
     ensures { Appended from (table_bits table.now) out.old out.new result }
@@ -51,13 +48,12 @@ fn put_table(out: &mut [u8], from: Sink, table: &[u32]) -> Sink
 
 // Writes octets.
 fn put_octets(out: &mut [u8], from: Sink, octets: &[u8]) -> Sink
-    requires in_hand { InHand from.n from.acc }
-    requires octets_bound { reached from + length (bits_of octets.now) ≤ place_after (length out.old) }
+    requires { reached from + length (bits_of octets.now) ≤ place_after (length out.old) }
     ensures { Appended from (bits_of octets.now) out.old out.new result }
 {
     let mut s = from;
     for &octet in octets {
-        s = bits::put(out, s, 8, octet as u32);
+        s = s.put(out, 8, octet as u32);
     }
     s
 }
@@ -79,18 +75,16 @@ fn lead_bits(unicode: bool) -> u32
 
 // Writes the command and the song type.
 fn put_command(out: &mut [u8], from: Sink, unicode: bool, song: u32) -> Sink
-    requires in_hand { InHand from.n from.acc }
     requires song_bound { song < 8 }
     requires song_bound_2 { reached from + length (command_bits unicode ++ bits_n 3 song) ≤ place_after (length out.old) }
     ensures { Appended from (command_bits unicode ++ bits_n 3 song) out.old out.new result }
 {
-    let s = bits::put(out, from, lead_bits(unicode), lead(unicode));
-    bits::put(out, s, 10, 0b0011101000 + song)
+    let s = from.put(out, lead_bits(unicode), lead(unicode));
+    s.put(out, 10, 0b0011101000 + song)
 }
 
 // Writes the title of a basic song; a temporary one has none.
 fn put_title(out: &mut [u8], from: Sink, song: u32, unicode: bool, title: &[u8]) -> Sink
-    requires in_hand { InHand from.n from.acc }
     requires title_bound { characters unicode title.now ≤ 15 }
     requires title_bound_2 { reached from + length (title_bits song unicode title.now) ≤ place_after (length out.old) }
     ensures { Appended from (title_bits song unicode title.now) out.old out.new result }
@@ -99,7 +93,7 @@ fn put_title(out: &mut [u8], from: Sink, song: u32, unicode: bool, title: &[u8])
         return from;
     }
     let n = tone_elements::characters_in(OctetCount(title.len()), unicode);
-    let s = bits::put(out, from, 4, n);
+    let s = from.put(out, 4, n);
     put_octets(out, s, title)
 }
 
@@ -109,14 +103,9 @@ fn put_front(out: &mut [u8], song: u32, unicode: bool, title: &[u8], count: u32)
     requires count_len_bound { length (front_bits (front_with song unicode title.now count)) ≤ place_after (length out.old) }
     ensures { Begun (front_bits (front_with song unicode title.now count)) out.old out.new result }
 {
-    let none = Sink {
-        octets: OctetCount(0),
-        n: 0,
-        acc: 0,
-    };
-    let s = put_command(out, none, unicode, song);
+    let s = put_command(out, Sink::at(OctetCount(0)), unicode, song);
     let t = put_title(out, s, song, unicode, title);
-    bits::put(out, t, 8, count)
+    t.put(out, 8, count)
 }
 
 // Writes a tone that has room.
@@ -136,7 +125,7 @@ fn fill(
 {
     let s = put_front(out, song, unicode, title, count);
     let t = put_table(out, s, table);
-    bits::seal(out, t)
+    t.seal(out)
 }
 
 // ---- the call

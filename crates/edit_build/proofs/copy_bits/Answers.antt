@@ -1,7 +1,6 @@
 -- `edit_build::copy_bits` meets its contract.
 use borrow.Author.Rules.{rules}
-use Rattle.edit_build.proofs.Copies.{bits}
-use Rattle.edit_build.proofs.Copies.{bits_step}
+use Rattle.edit_build.proofs.Copies.{bits, bits_step}
 use Rattle.edit_build.proofs.copy_bits.Goals as goal
 
 pub loop-left-init : goal.loop-left-init
@@ -42,11 +41,7 @@ pub part-requires : goal.part-requires
 part-requires c = search (bits, rules)
 
 pub put-requires : goal.put-requires
-put-requires c =
-    record {
-      in_hand = search (bits, rules);
-      w_bound = search (bits, rules);
-    }
+put-requires c = search (bits, rules)
 
 pub shape_of-out : goal.shape_of-out
 shape_of-out c = search (bits, rules)

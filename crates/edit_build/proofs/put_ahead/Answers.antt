@@ -9,10 +9,7 @@ copy_bits-requires c =
     let b = c.put_header-s.ensures in
     let p = c.requires in
     let a = c.args in
-    record {
-      in_hand = b.hand;
-      n_bound = (omega arith, p.2, omega (arith, b.place, length_headed a.msg.now a.head.0 a.cell 0 (omega arith), c.put_header-s.auto.out));
-    }
+    (omega arith, p.2, omega (arith, b.place, length_headed a.msg.now a.head.0 a.cell 0 (omega arith), c.put_header-s.auto.out))
 
 pub returns : goal.returns
 returns c =

@@ -8,10 +8,7 @@ put-requires c =
     let b = c.copy_front-s.ensures in
     let p = c.requires in
     let a = c.args in
-    record {
-      in_hand = b.hand;
-      w_bound = (omega arith, p.2, omega (arith, b.place, length_front a.msg.now a.head.0 a.cell 0 p.0, c.copy_front-s.auto.out));
-    }
+    (omega arith, p.2, omega (arith, b.place, length_front a.msg.now a.head.0 a.cell 0 p.0, c.copy_front-s.auto.out))
 
 pub returns : goal.returns
 returns c =

@@ -8,10 +8,7 @@ put-requires c =
     let b = c.put_ahead-s.ensures in
     let p = c.requires in
     let a = c.args in
-    record {
-      in_hand = b.hand;
-      w_bound = (omega arith, p.width_bound.1, omega (arith, b.place, length_reached a.msg.now a.head.0 a.cell a.at.0 p.head_bound.0 p.head_bound.1, c.put_ahead-s.auto.out));
-    }
+    (omega arith, p.width_bound.1, omega (arith, b.place, length_reached a.msg.now a.head.0 a.cell a.at.0 p.head_bound.0 p.head_bound.1, c.put_ahead-s.auto.out))
 
 pub returns : goal.returns
 returns c =

@@ -4,18 +4,10 @@ use Rattle.tone_write.proofs.Pieces.{commands}
 use Rattle.tone_write.proofs.put_command.Goals as goal
 
 pub put-s-requires : goal.put-s-requires
-put-s-requires c =
-    record {
-      in_hand = search (commands, rules);
-      w_bound = search (commands, rules);
-    }
+put-s-requires c = search (commands, rules)
 
 pub put-requires : goal.put-requires
-put-requires c =
-    record {
-      in_hand = search rules;
-      w_bound = (search rules, search rules, search commands);
-    }
+put-requires c = (search rules, search rules, search commands)
 
 pub returns : goal.returns
 returns c = search (commands, rules)

@@ -4,11 +4,7 @@ use Rattle.tone_write.proofs.Pieces.{entries, notes}
 use Rattle.tone_write.proofs.put_entry.Goals as goal
 
 pub put-requires : goal.put-requires
-put-requires c =
-    record {
-      in_hand = search (notes, rules);
-      w_bound = search (notes, rules);
-    }
+put-requires c = search (notes, rules)
 
 pub returns-then-kind-eq1 : goal.returns-then-kind-eq1
 returns-then-kind-eq1 c = search (notes, rules)
@@ -17,11 +13,7 @@ pub overflow_add-kind : goal.overflow_add-kind
 overflow_add-kind c = search (entries, rules)
 
 pub put-requires-2 : goal.put-requires-2
-put-requires-2 c =
-    record {
-      in_hand = search rules;
-      w_bound = (search rules, search (entries, rules), search (entries, rules));
-    }
+put-requires-2 c = (search rules, search (entries, rules), search (entries, rules))
 
 pub returns : goal.returns
 returns c = search (entries, rules)

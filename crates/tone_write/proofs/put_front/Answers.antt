@@ -6,7 +6,6 @@ use Rattle.tone_write.proofs.put_front.Goals as goal
 pub put_command-s-requires : goal.put_command-s-requires
 put_command-s-requires c =
     record {
-      in_hand = search (fronts, rules);
       song_bound = search (fronts, rules);
       song_bound_2 = search (fronts, rules);
     }
@@ -14,17 +13,12 @@ put_command-s-requires c =
 pub put_title-t-requires : goal.put_title-t-requires
 put_title-t-requires c =
     record {
-      in_hand = search (fronts, rules);
       title_bound = search (fronts, rules);
       title_bound_2 = search (fronts, rules);
     }
 
 pub put-requires : goal.put-requires
-put-requires c =
-    record {
-      in_hand = search rules;
-      w_bound = (search rules, search rules, search fronts);
-    }
+put-requires c = (search rules, search rules, search fronts)
 
 pub returns : goal.returns
 returns c = search (fronts, rules)

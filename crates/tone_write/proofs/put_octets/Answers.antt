@@ -3,8 +3,8 @@ use borrow.Author.Rules.{rules}
 use Rattle.tone_write.proofs.Pieces.{rows}
 use Rattle.tone_write.proofs.put_octets.Goals as goal
 
-pub put-s-requires-clause-w_bound : goal.put-s-requires-clause-w_bound
-put-s-requires-clause-w_bound c = search (rows, rules)
+pub put-s-requires : goal.put-s-requires
+put-s-requires c = search (rows, rules)
 
 pub loop-octet-preserved : goal.loop-octet-preserved
 loop-octet-preserved c = search (rows, rules)

@@ -10,18 +10,10 @@ pub characters_in-n-requires : goal.characters_in-n-requires
 characters_in-n-requires c = search (titles, rules)
 
 pub put-s-requires : goal.put-s-requires
-put-s-requires c =
-    record {
-      in_hand = search (titles, rules);
-      w_bound = search (titles, rules);
-    }
+put-s-requires c = search (titles, rules)
 
 pub put_octets-requires : goal.put_octets-requires
-put_octets-requires c =
-    record {
-      in_hand = search (titles, rules);
-      octets_bound = search (titles, rules);
-    }
+put_octets-requires c = search (titles, rules)
 
 pub returns : goal.returns
 returns c = search (titles, rules)
