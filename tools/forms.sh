@@ -26,7 +26,7 @@ count 3b 'of them in the library' '^ +while ' "${lib[@]}"
 count 4a 'answers whose numbers are set out by hand' '^ +(refusal: (0|number|refusal\.why\.number\(\)),|Err\(refusal\) => [A-Z])' "${lib[@]}"
 count 4b 'conversions by an impl' '^impl.* (From|TryFrom)<'
 count 5a 'clauses that a place is within a message' '(requires|ensures).*Within '
-count 5b 'clauses that bits are in hand' 'InHand '
+count 5b 'clauses that bits are in hand' '(requires|ensures).*[{ ]InHand '
 count 5c 'clauses that marks are the table of marks' '(requires|ensures).*Marks marks'
 count 5d 'clauses that a walk is ready' '(requires|ensures).*Ready '
 count 6a 'buffers with a length beside them' '(used: (usize|OctetCount)|len: usize|length: usize),?$'
