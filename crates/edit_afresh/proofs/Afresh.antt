@@ -3,7 +3,8 @@ use Prim.Native.Nat.{ℕ, ◌≤◌}
 use mathlib.Core.Path.{◌≡◌, refl, sym, ap, ◌∙◌}
 use mathlib.Core.List.{List}
 use lib.ListN.{length, take}
-use Rattle.std.specs.Prelude.{Ok}
+use Rattle.std.specs.Prelude.{Result, Ok}
+use Rattle.bits.specs.declared.refusal.Refusal.{Refusal}
 use Rattle.bits.specs.Bits.{Octets}
 use Rattle.bits.specs.Lent.{over}
 use Rattle.bits.specs.Outcome.{accepted}
@@ -17,7 +18,7 @@ use Rattle.tone_write.specs.Promise.{WritePromise}
 use Rattle.tone_write.proofs.Demand2.{write_gives}
 use Rattle.edit_change.specs.declared.Edit.{Edit}
 use Rattle.edit_change.specs.Change.{changed}
-use Rattle.edit.specs.declared.Answer.{Answer}
+use Rattle.edit.specs.declared.Edited.{Edited}
 use Rattle.edit.specs.Promise.{Numbers, EditPromise}
 use Rattle.edit.proofs.Calls.{Accepting, new_length, edit_numbers_lem, edit_bytes, edit_result_reads, Call, InARow, buffer_left, length_left, changed_by, row_reads, row_bytes}
 
@@ -35,7 +36,7 @@ same_octets m t q e out out' w room p =
     (g.answer ∙ ap (λ (x : ℕ). Ok (octet_count x)) n, g.its_octets ∙ ap (λ (x : List ℕ). over x out) (sym e))
 
 -- an accepted edit of a message that reads as t: writing the changed tone afresh gives the octets in the buffer, and their number
-pub edit_bytes_afresh : (buf : List ℕ) (used : ℕ) (ed : Edit) (k i : ℕ) (list buf' list' : List ℕ) (r : Answer) → EditPromise buf used ed k i list buf' list' r
+pub edit_bytes_afresh : (buf : List ℕ) (used : ℕ) (ed : Edit) (k i : ℕ) (list buf' list' : List ℕ) (r : Result Edited Refusal) → EditPromise buf used ed k i list buf' list' r
     → Accepting r → (t : Tone) → read_tone (take used buf) ≡ accepted t
     → (out out' : List ℕ) (w : Writing) → new_length r ≤ length out → Writes (changed ed k i t) out out' w
     → (w ≡ Ok (octet_count (new_length r))) × (out' ≡ over (take (new_length r) buf') out)
