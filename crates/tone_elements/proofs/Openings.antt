@@ -16,10 +16,11 @@ use Rattle.bits.specs.Window.{Look, Sight}
 use Rattle.bits.proofs.Octets.{length_bits_of}
 use Rattle.bits.proofs.Numbers.{field_drop}
 use Rattle.bits.proofs.Looking.{seen, length_left_lem, sight_zero}
-use Rattle.bits.specs.Places.{octet_count}
+use Rattle.bits.specs.Places.{place, octet_count}
 use Rattle.tone.specs.Writing.{programming, unicode_part, sound}
 use Rattle.tone.specs.Reading.{Got, got, bad, onward, Reader, element, any_of, part, filler_bit, filled, whether_unicode, sound_part, parts, command, text, title, counted, titled, typed, front, ending}
 use Rattle.tone.proofs.Exact.{element_inside, element_small, element_good, judged_cut, judged_good, judged_bad}
+use Rattle.tone.proofs.Numbered.{numbered_any}
 use Rattle.tone.proofs.Fronts.{command_exact, text_exact}
 use Rattle.std.specs.Prelude.{Result, Ok, Err}
 use Rattle.bits.specs.Refusals.{number_of, on}
@@ -27,9 +28,10 @@ use Rattle.bits.specs.declared.refusal.Ground.{Ground}
 use Rattle.bits.specs.declared.refusal.Ground.TheVariants.{Command, EndOctet, Filler, NoPattern, SongType}
 use Rattle.bits.specs.declared.refusal.Refusal.{Refusal}
 use Rattle.tone_elements.specs.declared.Seen.{Seen}
+use Rattle.tone_elements.specs.declared.Fault.{Fault}
 use Rattle.tone_elements.specs.declared.Opening.{Opening}
-use Rattle.tone_elements.specs.Answers.{Within, seen_of, characters_of, opening, opening_of}
-use Rattle.tone_elements.proofs.Steps.{Step, BadThere, read, seen_made, seen_there, seen_bad, passed_on, told_as}
+use Rattle.tone_elements.specs.Answers.{Within, seen_of, seen_or_fault, characters_of, opening, opening_of}
+use Rattle.tone_elements.proofs.Steps.{Step, BadThere, read, seen_made, seen_there, seen_bad, refused_there, passed_on, told_as}
 use Rattle.tone_elements.proofs.Walks.{stays}
 
 -- ---- places stay within the message
@@ -72,6 +74,22 @@ module _ (w code : ℕ) (why : Ground) (m : List ℕ) (at : ℕ) {s : Step} (q :
     due_other f h = rw (f, bad_there w (number_of why) (eqb code) m at q g (ne_eqb code v.value (λ k. h (sym k))), grounded why)
 
 pub ruleset dues = (due_cut, due_good, due_other)
+
+-- the same, where the caller gives the number
+module _ (w code number : ℕ) (m : List ℕ) (at : ℕ) {s : Step} (q : s ≡ seen_of (any_of w (bits_of m) at)) where
+  pub fault_cut : {r : Refusal} {f : Fault} → s ≡ Err r → f ≡ record { number = number_of r.why; place = r.place } → Err f ≡ seen_or_fault (element w (eqb code) number (bits_of m) at)
+  fault_cut g h =
+      let b = refused_there (λ v. v) (any_of w (bits_of m) at) (numbered_any w (bits_of m) at) (sym g ∙ q) in
+      rw (h, judged_cut w (eqb code) number (bits_of m) at b.1)
+
+  module _ {v : Seen ℕ} (g : s ≡ Ok v) where
+    pub fault_good : v.value ≡ code → Ok v ≡ seen_or_fault (element w (eqb code) number (bits_of m) at)
+    fault_good h = rw (good_there w number (eqb code) m at q g (eq-eqb code v.value (sym h)))
+
+    pub fault_other : {f : Fault} → f ≡ record { number = number; place = place at } → (v.value ≡ code → ⊥) → Err f ≡ seen_or_fault (element w (eqb code) number (bits_of m) at)
+    fault_other f h = rw (f, bad_there w number (eqb code) m at q g (ne_eqb code v.value (λ k. h (sym k))))
+
+pub ruleset faults = (fault_cut, fault_good, fault_other)
 
 -- ---- a part and its filler
 

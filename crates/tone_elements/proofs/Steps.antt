@@ -2,16 +2,20 @@
 use Prim.Native.Nat.{ℕ}
 use native.Mathlib.Omega.{arith}
 use mathlib.Core.Path.{◌≡◌, refl, sym, ap, ◌∙◌}
+use mathlib.Core.Bool.{Bool}
 use mathlib.Core.List.{List}
 use lib.ListN.{length}
 use Rattle.std.specs.Prelude.{Result, Ok, Err}
 use Rattle.bits.specs.Places.{place, octet_count}
-use Rattle.bits.specs.Refusals.{refusal}
+use Rattle.bits.specs.Refusals.{number_of, refusal}
 use Rattle.bits.specs.declared.OctetCount.{OctetCount}
 use Rattle.bits.specs.declared.refusal.Refusal.{Refusal}
 use Rattle.tone_elements.specs.declared.Seen.{Seen}
+use Rattle.tone_elements.specs.declared.Opening.{Opening}
+use Rattle.tone.specs.Tone.{Front}
 use Rattle.tone.specs.Reading.{Got, got, bad, onward}
-use Rattle.tone_elements.specs.Answers.{seen_as, seen_of, characters_of}
+use Rattle.tone.proofs.Numbered.{GivenByGot}
+use Rattle.tone_elements.specs.Answers.{seen_as, seen_of, characters_of, opening, opening_of}
 
 -- what the code answers of an element
 abbrev pub Step : Type 0
@@ -43,6 +47,11 @@ pub record BadThere {A : Type 0} (x : Got A) (r : Refusal) : Type 0 where
 pub seen_bad : {A B : Type 0} (f : A → B) (x : Got A) {r : Refusal} → Err r ≡ seen_as f x → BadThere x r
 seen_bad f (got a p) e = let z : ◌≡◌ {A = ℕ} 0 1 = cc in absurd (omega arith)
 seen_bad f (bad n p e') {r} e = record { number = n; at = p; end = e'; there = refl; told = cc }
+
+-- and by its number, where the reading has one of document 01's
+pub refused_there : {A B : Type 0} (f : A → B) (x : Got A) → GivenByGot x → {r : Refusal} → Err r ≡ seen_as f x → (e : ℕ) × (x ≡ bad (number_of r.why) r.place.0 e)
+refused_there f (got a p) g e = let z : ◌≡◌ {A = ℕ} 0 1 = cc in absurd (omega arith)
+refused_there f (bad n p e') g {r} e = let z : r ≡ refusal n p = cc in (e', rw (z, g) refl)
 
 -- and what the code answers then
 pub told_as : {B : Type 0} {r : Refusal} (n p : ℕ) → r ≡ refusal n p → ◌≡◌ {A = Result (Seen B) Refusal} (Err r) (Err (refusal n p))
@@ -88,3 +97,30 @@ characters_as x s e = sym (ap as_octets e) ∙ same x
     same : (x : Got (List ℕ)) → as_octets (seen_as length x) ≡ characters_of x
     same (got t p) = refl
     same (bad n p e) = refl
+
+-- ---- the front of a message
+
+-- a front that was opened
+pub record FrontThere (x : Got Front) (s : ℕ) (u : Bool) (o c at : ℕ) : Type 0 where
+  pub front : Front
+  pub there : x ≡ got front at
+  pub song : s ≡ front.song
+  pub unicode : u ≡ front.unicode
+  pub octets : o ≡ length front.title
+  pub count : c ≡ front.count
+
+pub open_good : (x : Got Front) {v : Seen Opening} → Ok v ≡ opening_of x → FrontThere x v.value.song v.value.unicode v.value.octets.0 v.value.count v.next.0
+open_good x {v} e =
+    let b = seen_made opening x e in
+    let z : v.value ≡ opening b.0 = b.2 in
+    record {
+      front = b.0;
+      there = b.1;
+      song = ap (λ (o : Opening). o.song) z;
+      unicode = ap (λ (o : Opening). o.unicode) z;
+      octets = ap (λ (o : Opening). o.octets.0) z;
+      count = ap (λ (o : Opening). o.count) z;
+    }
+
+pub open_bad : (x : Got Front) → GivenByGot x → {r : Refusal} → Err r ≡ opening_of x → (e : ℕ) × (x ≡ bad (number_of r.why) r.place.0 e)
+open_bad x g e = refused_there opening x g e

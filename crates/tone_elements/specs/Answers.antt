@@ -7,6 +7,7 @@ use Rattle.bits.specs.Refusals.{refusal}
 use Rattle.bits.specs.declared.refusal.Refusal.{Refusal}
 use Rattle.bits.specs.declared.OctetCount.{OctetCount}
 use Rattle.tone_elements.specs.declared.Seen.{Seen}
+use Rattle.tone_elements.specs.declared.Fault.{Fault}
 use Rattle.tone_elements.specs.declared.Opening.{Opening}
 use Rattle.tone.specs.Table.{kind, InTable}
 use Rattle.tone.specs.Tone.{Front, character_bits, allowed_character}
@@ -30,6 +31,11 @@ seen_as f (bad n p e) = Err (refusal n p)
 -- what was read as it is, or the refusal
 abbrev pub seen_of : {A : Type 0} → Got A → Result (Seen A) Refusal
 seen_of g = seen_as (λ v. v) g
+
+-- what was read as it is, or the refusal by its number as it is
+abbrev pub seen_or_fault : Got ℕ → Result (Seen ℕ) Fault
+seen_or_fault (got v p) = Ok (record { value = v; next = place p })
+seen_or_fault (bad n p e) = Err (record { number = n; place = place p })
 
 -- 1 for a note or pause, 0 for any other instruction
 abbrev pub note_in : ℕ → ℕ

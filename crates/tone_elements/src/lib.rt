@@ -9,7 +9,7 @@ ghost use Rattle.tone.specs.Table.{width as width_of, allowed as allowedOf};
 ghost use Rattle.tone.specs.Tone.{per_character, character_bits, allowed_character};
 ghost use Rattle.tone.specs.Reading.{element, any_of, filled, sound_part, parts as partsDue, command, text as textDue, title as titleDue, titled as titledDue, front};
 ghost use Rattle.tone.specs.Reading.{header_due, instruction_due, body_due, ending as endingDue};
-ghost use Rattle.tone_elements.specs.Answers.{Within, all_known, seen_as, seen_of, note_in, notes as notes_of, characters_of, opening_of, SomeEntry, EntryAt, Passed};
+ghost use Rattle.tone_elements.specs.Answers.{Within, all_known, seen_as, seen_of, seen_or_fault, note_in, notes as notes_of, characters_of, opening_of, SomeEntry, EntryAt, Passed};
 ghost use Rattle.tone_elements.specs.Answers.{Sure, Complete, BothAllowed, AllowedAt};
 
 use bits::{BitPlace, Ground, OctetCount, Refusal};
@@ -28,6 +28,24 @@ pub struct Opening {
     pub octets: OctetCount,
     pub count: u32,
     pub unicode: bool,
+}
+
+// A refusal by any number, and its place.
+#[derive(Clone, Copy, PartialEq, Eq)]
+pub struct Fault {
+    pub number: u32,
+    pub place: BitPlace,
+}
+
+impl From<Refusal> for Fault {
+    ghost from_gives = { λ refusal r. r ≡ record { number = number_of refusal.why; place = refusal.place } };
+
+    fn from(refusal: Refusal) -> Fault {
+        Fault {
+            number: refusal.why.number(),
+            place: refusal.place,
+        }
+    }
 }
 
 // An entry that stands at a place, and the place behind it.
@@ -61,8 +79,23 @@ pub fn any(msg: &[u8], at: BitPlace, w: u32) -> Result<Seen<u32>, Refusal>
     })
 }
 
-// An element of `w` bits in which one code is due, and any other is refused on a ground.
-fn due(msg: &[u8], at: BitPlace, w: u32, code: u32, why: Ground) -> Result<Seen<u32>, Refusal>
+// An element of `w` bits in which one code is due, and any other is refused by the number that the caller gives, whether or not
+// one of the rules has it.
+#[tactic(auto, using(crate::proofs::Openings::faults))]
+pub fn due(msg: &[u8], at: BitPlace, w: u32, code: u32, number: u32) -> Result<Seen<u32>, Fault>
+    requires within { Within msg.now at.0 }
+    requires le_w { (1 ≤ w) × (w ≤ 24) }
+    ensures { result ≡ seen_or_fault (element w (eqb code) number (bits_of msg.now) at.0) }
+{
+    let seen = any(msg, at, w)?;
+    if seen.value == code {
+        return Ok(seen);
+    }
+    Err(Fault { number, place: at })
+}
+
+// The same, refused on a ground of the rules.
+fn required(msg: &[u8], at: BitPlace, w: u32, code: u32, why: Ground) -> Result<Seen<u32>, Refusal>
     requires within { Within msg.now at.0 }
     requires le_w { (1 ≤ w) × (w ≤ 24) }
     ensures { result ≡ seen_of (element w (eqb code) (number_of why) (bits_of msg.now) at.0) }
@@ -238,8 +271,8 @@ fn filled_part(msg: &[u8], at: BitPlace, code: u32) -> Result<Seen<u32>, Refusal
     requires { Within msg.now at.0 }
     ensures { result ≡ seen_of (filled code (bits_of msg.now) at.0) }
 {
-    let part = due(msg, at, 7, code, Ground::Command)?;
-    due(msg, part.next, 1, 0, Ground::Filler)
+    let part = required(msg, at, 7, code, Ground::Command)?;
+    required(msg, part.next, 1, 0, Ground::Filler)
 }
 
 // The sound part, with no filler behind it.
@@ -247,7 +280,7 @@ fn sound_part(msg: &[u8], at: BitPlace, unicode: bool) -> Result<Seen<bool>, Ref
     requires { Within msg.now at.0 }
     ensures { result ≡ seen_of (sound_part unicode (bits_of msg.now) at.0) }
 {
-    let part = due(msg, at, 7, 29, Ground::Command)?;
+    let part = required(msg, at, 7, 29, Ground::Command)?;
     Ok(Seen {
         value: unicode,
         next: part.next,
@@ -541,10 +574,10 @@ fn ended(msg: &[u8], at: BitPlace) -> Result<Seen<u32>, Refusal>
     let reached = bits::place_after(bits::octets_to(at));
     let filler = (reached.0 - at.0) as u32;
     if filler == 0 {
-        return due(msg, at, 8, 0, Ground::EndOctet);
+        return required(msg, at, 8, 0, Ground::EndOctet);
     }
-    let run = due(msg, at, filler, 0, Ground::Filler)?;
-    due(msg, run.next, 8, 0, Ground::EndOctet)
+    let run = required(msg, at, filler, 0, Ground::Filler)?;
+    required(msg, run.next, 8, 0, Ground::EndOctet)
 }
 
 // The same. Where both are there and 0, it is told by two octets.

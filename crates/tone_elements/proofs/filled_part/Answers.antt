@@ -6,8 +6,8 @@ use Rattle.tone_elements.proofs.filled_part.Goals as goal
 pub returns-in_err-part : goal.returns-in_err-part
 returns-in_err-part c = search (commands, rules)
 
-pub due-requires-2-clause-within : goal.due-requires-2-clause-within
-due-requires-2-clause-within c = search (commands, rules)
+pub required-requires-2-clause-within : goal.required-requires-2-clause-within
+required-requires-2-clause-within c = search (commands, rules)
 
 pub returns : goal.returns
-returns c = filled_next c.args.msg.now c.args.at.0 c.args.code c.due.ensures c.in_ok-part.was c.due-2.ensures
+returns c = filled_next c.args.msg.now c.args.at.0 c.args.code c.required.ensures c.in_ok-part.was c.required-2.ensures

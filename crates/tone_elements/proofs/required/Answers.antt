@@ -1,7 +1,7 @@
--- `tone_elements::due` meets its contract.
+-- `tone_elements::required` meets its contract.
 use borrow.Author.Rules.{rules}
 use Rattle.tone_elements.proofs.Openings.{dues}
-use Rattle.tone_elements.proofs.due.Goals as goal
+use Rattle.tone_elements.proofs.required.Goals as goal
 
 pub returns-in_err-seen : goal.returns-in_err-seen
 returns-in_err-seen c = search (dues, rules)
