@@ -38,10 +38,10 @@ const MARKS: [u8; 512] = *b"1111111111111111111111111111111111111111111111111111
     1111111111111111111111111111111111111111111111111111111111111111";
 
 // The marks in a row, for a caller who tells many: an array is laid out anew at each use.
-#[derive(Drop)]
+#[derive(Clone, Copy)]
 pub struct Marks {
-    row: [u8; 512],
-    ghost table: { Table row },
+    pub row: [u8; 512],
+    pub ghost table: { Table row },
 }
 
 impl Marks {
