@@ -30,14 +30,17 @@ pub fn number(n: u64) {
     io::print_decimal(1, n);
 }
 
-// Prints a change, which may be negative, and a space ahead of it.
-pub fn signed(n: i32) {
-    if n < 0 {
-        io::write_all(1, b" -");
-    } else {
-        io::write_all(1, b" ");
+// Prints a change, which may be negative. No edit of one instruction changes more than two octets, so the cases are few,
+// and no signed number is converted. It answers as the call that writes does.
+pub fn signed(n: i32) -> bool {
+    match n {
+        -2 => io::write_all(1, b" -2"),
+        -1 => io::write_all(1, b" -1"),
+        0 => io::write_all(1, b" 0"),
+        1 => io::write_all(1, b" 1"),
+        2 => io::write_all(1, b" 2"),
+        _ => io::write_all(1, b" more"),
     }
-    io::print_decimal(1, u64::from(n.unsigned_abs()));
 }
 
 // Prints octets, each as two hexadecimal digits.
