@@ -2,10 +2,10 @@
 use Prim.Native.Nat.{ℕ, zero, suc, ◌+◌, ◌-◌, ◌*◌, ◌/◌, ◌%◌, ◌≤◌, ◌<◌}
 use native.Mathlib.Omega.{arith}
 use native.Mathlib.Numerals.{add-one}
-use mathlib.Core.Path.{◌≡◌, refl, sym, ap, ap₂, ◌∙◌}
+use mathlib.Core.Path.{◌≡◌, refl, sym, subst, ap, ap₂, ◌∙◌}
 use mathlib.Core.List.{List, [], ◌∷◌, ◌++◌, append-nil, append_assoc}
 use lib.ListN.{length, get_or, take, drop, set, length-set, length-append}
-use lib.Seq.{get_or-drop, take-suc-set, drop-drop}
+use lib.Seq.{get_or-drop, take-add, drop-cons, get_or-set_same, drop-set-lt, take-set-le, take-suc-set, append_snoc, drop-drop}
 use borrow.Author.Tests.{ltb-true, ltb-false, eq-eqb, ne_eqb}
 use lib.Dec.{ltb}
 use Rattle.std.specs.Prelude.{decimal}
@@ -36,6 +36,75 @@ Put out at text most out' end = Added out at text out' end × (end ≤ at + most
 -- one such text behind another
 put_two : {a b c : List ℕ} {at p r : ℕ} {s t : List ℕ} (i k : ℕ) → Put a at s i b p → Put b p t k c r → Put a at (s ++ t) (i + k) c r
 put_two i k f g = (added_two f.0 g.0, omega (arith, f.1, g.1))
+
+-- ---- the loop of `put_digits`
+
+-- the last k - i of the digits stand in their places, and `rest` has the others
+pub record Spelling (out₀ : List ℕ) (at k n : ℕ) (out : List ℕ) (i rest : ℕ) : Type 0 where
+  pub inside : i ≤ k
+  pub long : length out ≡ length out₀
+  pub ahead : take at out ≡ take at out₀
+  pub holds : digits i rest ++ take (k - i) (drop (at + i) out) ≡ digits k n
+
+pub spell_begin : (out : List ℕ) (at k n : ℕ) → Spelling out at k n out k n
+spell_begin out at k n =
+    let z : k - k ≡ 0 = omega arith in
+    record { inside = omega arith; long = refl; ahead = refl; holds = rw z (append-nil (digits k n)) }
+
+spell_more : (out₀ : List ℕ) (at k n : ℕ) {out : List ℕ} (m : ℕ) {rest : ℕ} → Spelling out₀ at k n out (suc m) rest → at + k ≤ length out₀
+    → Spelling out₀ at k n (set out (at + m) (48 + rest % 10)) m (rest / 10)
+unfolding digits
+spell_more out₀ at k n {out} m {rest} t h =
+    let v : ℕ = 48 + rest % 10 in
+    let l : at + m < length out = omega (arith, t.inside, t.long) in
+    let l' : at + m < length (set out (at + m) v) = rw (length-set out (at + m) v) l in
+    let u : at + suc m ≡ suc (at + m) = omega arith in
+    let d : drop (at + m) (set out (at + m) v) ≡ v ∷ drop (at + suc m) out =
+    rw (u) (
+    drop-cons (set out (at + m) v) (at + m) 0 l'
+    ∙ ap₂ (λ (x : ℕ) (y : List ℕ). x ∷ y) (get_or-set_same out (at + m) v 0 l) (drop-set-lt (suc (at + m)) out (at + m) v (omega arith))) in
+    let e : k - m ≡ suc (k - suc m) = omega (arith, t.inside) in
+    record {
+      inside = omega (arith, t.inside);
+      long = length-set out (at + m) v ∙ t.long;
+      ahead = take-set-le at out (at + m) v (omega arith) ∙ t.ahead;
+      holds = rw (d, e) (sym (append_snoc (digits m (rest / 10)) v (take (k - suc m) (drop (at + suc m) out))) ∙ t.holds);
+    }
+
+pub spell_turn : (out₀ : List ℕ) (at k n : ℕ) {out : List ℕ} {i rest v : ℕ} → Spelling out₀ at k n out i rest → 0 < i → at + k ≤ length out₀
+    → v ≡ 48 + rest % 10 → Spelling out₀ at k n (set out (at + (i - 1)) v) (i - 1) (rest / 10)
+spell_turn out₀ at k n {i = zero} t p h w = absurd (omega (arith, p))
+spell_turn out₀ at k n {i = suc m} t p h w =
+    let e : suc m - 1 ≡ m = omega arith in
+    rw (e, w) (spell_more out₀ at k n m t h)
+
+pub spell_room : {out₀ : List ℕ} {at k n : ℕ} {out : List ℕ} {i rest : ℕ} → Spelling out₀ at k n out i rest → 0 < i → at + k ≤ length out₀
+    → at + (i - 1) < length out
+spell_room t p h = omega (arith, t.inside, t.long)
+
+pub digits_long : (k n : ℕ) → length (digits k n) ≡ k
+unfolding digits
+digits_long zero n = refl
+digits_long (suc k) n = length-append (digits k (n / 10)) ((48 + n % 10) ∷ []) ∙ (rw (digits_long k (n / 10)) (add-one k))
+
+spell_last : (out₀ : List ℕ) (at k n : ℕ) {out : List ℕ} {rest : ℕ} → Spelling out₀ at k n out 0 rest → Added out₀ at (digits k n) out (at + k)
+unfolding digits
+spell_last out₀ at k n {out} {rest} t =
+    let a : at + 0 ≡ at = omega arith in
+    let z : k - 0 ≡ k = omega arith in
+    let e : take (k - 0) (drop (at + 0) out) ≡ digits k n = t.holds in
+    let f : take k (drop at out) ≡ digits k n = subst (λ (j : ℕ). take k (drop j out) ≡ digits k n) a (subst (λ (i : ℕ). take i (drop (at + 0) out) ≡ digits k n) z e) in
+    record {
+      ends = ap (λ (j : ℕ). at + j) (sym (digits_long k n));
+      long = t.long;
+      holds = take-add at k out ∙ ap₂ (λ (a b : List ℕ). a ++ b) t.ahead f;
+    }
+
+pub spell_end : (out₀ : List ℕ) (at k n : ℕ) {out : List ℕ} {i rest : ℕ} → Spelling out₀ at k n out i rest → i ≤ 0 → Added out₀ at (digits k n) out (at + k)
+spell_end out₀ at k n {i = zero} t p = spell_last out₀ at k n t
+spell_end out₀ at k n {i = suc m} t p = absurd (omega (arith, p))
+
+pub ruleset spelling = (spell_begin, spell_turn, spell_room, spell_end)
 
 -- ---- a number, and what stands behind it
 
@@ -85,11 +154,12 @@ printed n b =
     P : ℕ → Type 0
     P k = digits k n ≡ decimal n
 
-pub number_put : (out₀ : List ℕ) (at n behind : ℕ) {src out : List ℕ} {end : ℕ} → n < 4294967296 → src ≡ decimal n → Added out₀ at src out end → end < length out
-    → Added out₀ at (number n behind) (set out end behind) (end + 1)
+pub number_put : (out₀ : List ℕ) (at n behind : ℕ) {out : List ℕ} {k : ℕ} → k ≡ places n → Added out₀ at (digits k n) out (at + k) → at + 11 ≤ length out₀ → k ≤ 10
+    → Added out₀ at (number n behind) (set out (at + k) behind) (at + k + 1)
 unfolding number
-number_put out₀ at n behind {src} {out} {end} b e t h =
-    rw (printed n b, sym e) (added_two t (added_one out end behind h))
+number_put out₀ at n behind {out} {k} e t h l =
+    let i : at + k < length out = omega (arith, t.long) in
+    rw (sym e) (added_two t (added_one out (at + k) behind i))
 
 -- seven numbers are a line
 pub line_put : (a : List ℕ) (at : ℕ) (entry : Entry) {b c d e f g h : List ℕ} {p q r s t u z : ℕ}
