@@ -15,6 +15,7 @@ use Rattle.samples.proofs.Drift.{drift}
 use Rattle.samples.proofs.Edits.{edits}
 use Rattle.samples.proofs.Origins.{origins}
 use Rattle.samples.proofs.Bounds.{bounds}
+use Rattle.samples.proofs.Due.{dues}
 use Rattle.samples.proofs.Text.{texts}
 
 pub pinned : Pinned
@@ -31,6 +32,7 @@ pinned = record {
   edits = edits;
   origins = origins;
   bounds = bounds;
+  dues = dues;
   bitmaps = bitmap_samples;
   kinds = kind_samples;
   packs = pack_samples;

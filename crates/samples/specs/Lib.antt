@@ -9,5 +9,6 @@ pub mod Drift
 pub mod Edits
 pub mod Origins
 pub mod Bounds
+pub mod Due
 pub mod Pinned
 pub mod Text

@@ -14,6 +14,7 @@ use Rattle.samples.specs.Drift.{Drift}
 use Rattle.samples.specs.Edits.{Edits}
 use Rattle.samples.specs.Origins.{Origins}
 use Rattle.samples.specs.Bounds.{Bounds}
+use Rattle.samples.specs.Due.{Dues}
 use Rattle.samples.specs.Text.{Texts}
 
 -- all of them
@@ -30,6 +31,7 @@ pub record Pinned : Type 0 where
   pub edits : Edits
   pub origins : Origins
   pub bounds : Bounds
+  pub dues : Dues
   pub bitmaps : BitmapSamples
   pub kinds : KindSamples
   pub packs : PackSamples
